@@ -1,0 +1,2 @@
+-- The CRC of H.222.0.
+pub mod Crc

@@ -1,0 +1,1 @@
+// The CRC of H.222.0 over bytes.
