@@ -1,0 +1,36 @@
+-- Laws of `anyBelow`: what a loop that tests every index needs. Assumes nothing.
+use Prim.Native.Nat.{ℕ, zero, suc, _+_, _≤_, _<_}
+use mathlib.Core.Path.{_≡_, refl, sym, ap, _∙_}
+use mathlib.Core.Bool.{Bool, true, false, _||_, or-true, true-or, true≢false}
+use native.Mathlib.Numerals.{add-one}
+use native.Mathlib.Decide.{ℕ-discrete}
+use native.Mathlib.Omega.{arith}
+use Rattle.slices.specs.Slices.{anyBelow}
+
+module _ (test : ℕ → Bool) where
+  pub any-none : anyBelow 0 test ≡ false
+  unfolding anyBelow
+  any-none = refl
+
+  -- one number more that fails the test
+  pub any-more : (n : ℕ) → anyBelow n test ≡ false → test n ≡ false → anyBelow (n + 1) test ≡ false
+  unfolding anyBelow
+  any-more n a t = rw (add-one, a, t)
+
+  -- a number that passes it
+  pub any-found : (n i : ℕ) → i < n → test i ≡ true → anyBelow n test ≡ true
+  unfolding anyBelow
+  any-found zero i h t = absurd (omega arith)
+  any-found (suc n) i h t = last (λ l. any-found n i l t) (ℕ-discrete i n)
+    where
+      last : (i < n → anyBelow n test ≡ true) → Dec (i ≡ n) → anyBelow n test || test n ≡ true
+      last below (yes e) = ap (λ (b : Bool). anyBelow n test || b) (ap test (sym e) ∙ t) ∙ or-true (anyBelow n test)
+      last below (no d) = ap (λ (b : Bool). b || test n) (below (omega arith)) ∙ true-or (test n)
+
+  -- where none passes, each fails
+  pub any-each : (n : ℕ) → anyBelow n test ≡ false → (i : ℕ) → i < n → test i ≡ false
+  any-each n a i h = fails (test i) refl
+    where
+      fails : (b : Bool) → test i ≡ b → b ≡ false
+      fails false e = refl
+      fails true e = absurd (true≢false (sym (any-found n i h e) ∙ a))

@@ -1,0 +1,35 @@
+-- A list whose front is being overwritten, one element a turn: what a loop that fills a slice needs. Assumes nothing.
+use Prim.Native.Nat.{ℕ, zero, suc, _+_, _-_, _≤_, _<_}
+use mathlib.Core.Path.{_≡_, refl, sym, ap, _∙_, subst}
+use mathlib.Core.List.{List, [], _∷_, _++_, append-assoc, append-nil}
+use native.Mathlib.Omega.{arith}
+use native.Mathlib.Numerals.{add-one}
+use lib.ListN.{length, drop, set, getD, length-append, length-drop, drop-of-length-le}
+use lib.Seq.{drop-cons, set-at, append-snoc}
+
+-- d is d₀ with the i elements of `done` over its front
+pub record Front (d₀ done d : List ℕ) (i : ℕ) : Type 0 where
+  pub is : d ≡ done ++ drop i d₀
+  pub long : length done ≡ i
+
+pub front-none : (d : List ℕ) → Front d [] d 0
+front-none d = record { is = refl; long = refl }
+
+pub front-more : (d₀ done d : List ℕ) (i v : ℕ) → Front d₀ done d i → i < length d₀ → Front d₀ (done ++ (v ∷ [])) (set d i v) (i + 1)
+front-more d₀ done d i v f h =
+    record {
+      is =
+          ap (λ (l : List ℕ). set l i v) (f .is ∙ ap (λ (l : List ℕ). done ++ l) (drop-cons d₀ i 0 h))
+          ∙ set-at done (getD d₀ i 0) (drop (suc i) d₀) v i (f .long) ∙ sym (append-snoc done v (drop (suc i) d₀))
+          ∙ ap (λ (k : ℕ). done ++ (v ∷ []) ++ drop k d₀) (sym (add-one i));
+      long = length-append done (v ∷ []) ∙ ap (λ (k : ℕ). k + 1) (f .long);
+    }
+
+pub front-length : (d₀ done d : List ℕ) (i : ℕ) → Front d₀ done d i → i ≤ length d₀ → length d ≡ length d₀
+front-length d₀ done d i f h =
+    let e : length d ≡ length done + (length d₀ - i) = ap length (f .is) ∙ length-append done (drop i d₀) ∙ ap (λ (k : ℕ). length done + k) (length-drop i d₀) in
+    let l : length done ≡ i = f .long in
+    omega arith
+
+pub front-all : (d₀ done d : List ℕ) (i : ℕ) → Front d₀ done d i → length d₀ ≤ i → d ≡ done
+front-all d₀ done d i f h = f .is ∙ ap (λ (l : List ℕ). done ++ l) (drop-of-length-le d₀ h) ∙ append-nil done

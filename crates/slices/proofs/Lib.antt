@@ -1,0 +1,2 @@
+pub mod Any
+pub mod Front

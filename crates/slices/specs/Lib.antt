@@ -1,0 +1,2 @@
+-- What is done to slices of bytes: copied, filled, tested.
+pub mod Slices

@@ -1,0 +1,19 @@
+-- Slices of bytes: copied, filled, tested.
+use Prim.Native.Nat.{ℕ, zero, suc}
+use mathlib.Core.Bool.{Bool, false, _||_}
+use mathlib.Core.List.{List, _++_}
+use lib.Dec.{leb}
+use lib.ListN.{length, getD, take, drop}
+
+-- the list `into` with the elements of `from` over its front, as many as there is room for
+unfoldable pub copied : List ℕ → List ℕ → List ℕ
+copied into from = take (length into) from ++ drop (length from) into
+
+-- whether the test holds of some number below n
+unfoldable pub anyBelow : ℕ → (ℕ → Bool) → Bool
+anyBelow zero test = false
+anyBelow (suc n) test = anyBelow n test || test n
+
+-- whether some element is `limit` or more
+unfoldable pub someAtLeast : ℕ → List ℕ → Bool
+someAtLeast limit xs = anyBelow (length xs) (λ i. leb limit (getD xs i 0))

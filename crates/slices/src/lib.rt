@@ -1,0 +1,44 @@
+// Slices of bytes: copied, filled, tested.
+ghost use mathlib.Core.Path.{_≡_};
+ghost use lib.ListN.{length, replicate};
+ghost use Rattle.slices.specs.Slices.{copied, someAtLeast};
+
+// Copies src over the front of dst, as many elements as there is room for.
+pub fn copy(dst: &mut [u8], src: &[u8])
+    ensures { λ _. ⌜ now (dst .exit) ≡ copied (now (dst .entry)) (now (src .entry)) ⌝ }
+{
+    let mut n = src.len();
+    if dst.len() < n {
+        n = dst.len();
+    }
+    let mut i = 0;
+    while i < n {
+        dst[i] = src[i];
+        i += 1;
+    }
+}
+
+// Sets each element of dst to v.
+pub fn fill(dst: &mut [u8], v: u8)
+    ensures { λ _. ⌜ now (dst .exit) ≡ replicate (length (now (dst .entry))) v ⌝ }
+{
+    let mut i = 0;
+    while i < dst.len() {
+        dst[i] = v;
+        i += 1;
+    }
+}
+
+// Whether some element of xs is `limit` or more.
+pub fn some_at_least(xs: &[u8], limit: u8) -> bool
+    ensures { λ r. ⌜ r ≡ someAtLeast limit (now (xs .entry)) ⌝ }
+{
+    let mut i = 0;
+    while i < xs.len() {
+        if limit <= xs[i] {
+            return true;
+        }
+        i += 1;
+    }
+    false
+}
