@@ -1,12 +1,12 @@
 -- Laws of packed fields, over the width. Assumes nothing.
 use Prim.Native.Nat.{ℕ, zero, suc, _+_, _-_, _*_, _/_, _%_, _^_, _≤_, _<_, min}
 use mathlib.Core.Path.{_≡_, refl, sym, ap, ap₂, _∙_, subst}
-use mathlib.Core.List.{List, [], _∷_, _++_, append-assoc}
+use mathlib.Core.List.{List, [], _∷_, _++_, append-assoc, append-nil}
 use native.Mathlib.Omega.{arith}
 use native.Mathlib.Nat.{add-comm, add-assoc, add-zero, zero-add, add-suc, suc-mul, zero-mul, mul-comm, mod-lt, mod-eq-of-lt, pow-suc, pow-succ', suc-add, mod-one, le-refl}
 use native.Mathlib.Numerals.{add-one, one-add}
 use lib.ListN.{getD, length, take, drop, length-append, length-drop}
-use lib.Seq.{take-at, drop-at, take-add, length-take-le}
+use lib.Seq.{take-at, drop-at, take-add, length-take-le, drop-drop}
 use lib.Dec.{lit<}
 use lib.Arith.{digits-lt}
 use lib.Pow.{high, low, mod-mod-pow, pow-pos, pow-add, shr-shr, mod-pow-add, field}
@@ -156,3 +156,21 @@ run-cut w (suc n) bs b h =
     (run-cut w n (drop w bs) (fit-drop w b) (rest-fits w n bs h))
     ∙ sym (take-add w (n * w) bs)
     ∙ ap (λ (k : ℕ). take k bs) (add-comm w (n * w) ∙ sym (suc-mul n w))
+
+pub run-one : (w v : ℕ) → run w (v ∷ []) ≡ bitsOf w v
+unfolding run
+run-one w v = append-nil (bitsOf w v)
+
+pub run-cons : (w v : ℕ) (vs : List ℕ) → run w (v ∷ vs) ≡ bitsOf w v ++ run w vs
+unfolding run
+run-cons w v vs = refl
+
+-- one value more
+pub cut-more : (w n : ℕ) (bs : List ℕ) → cut w (suc n) bs ≡ cut w n bs ++ (number (take w (drop (n * w) bs)) ∷ [])
+unfolding cut
+cut-more w zero bs = ap (λ (k : ℕ). number (take w (drop k bs)) ∷ []) (sym (zero-mul w))
+cut-more w (suc n) bs =
+    ap (λ (l : List ℕ). number (take w bs) ∷ l)
+    (cut-more w n (drop w bs)
+    ∙ ap (λ (l : List ℕ). cut w n (drop w bs) ++ (number (take w l) ∷ []))
+    (drop-drop (n * w) w bs ∙ ap (λ (k : ℕ). drop k bs) (add-comm w (n * w) ∙ sym (suc-mul n w))))

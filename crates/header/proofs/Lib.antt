@@ -1,0 +1,2 @@
+mod Checked
+mod Runs

@@ -1,0 +1,61 @@
+-- The header's layout: 01's table, row under row. The rows are numbered from 0.
+use Prim.Native.Nat.{ℕ, _+_, _*_}
+use mathlib.Core.List.{List, [], _∷_, _++_}
+use Rattle.header.specs.declared.setting.Kind.{Kind}
+use Rattle.header.specs.Counters.{lastSlot, lastStream}
+use Rattle.header.specs.Rows.{Row}
+
+-- sync_byte, TSMF_sync, and the value of a reserved byte
+abbrev pub syncByte : ℕ
+syncByte = 0x47
+
+abbrev pub tsmfSync : ℕ
+tsmfSync = 0x1A86
+
+abbrev pub reservedByte : ℕ
+reservedByte = 0xFF
+
+-- how many bytes of private data there are; in an extended header the first are auxiliary and the last reserved
+abbrev pub privateBytes : ℕ
+privateBytes = 85
+
+abbrev pub auxiliaryBytes : ℕ
+auxiliaryBytes = 28
+
+abbrev pub reservedBytes : ℕ
+reservedBytes = 53
+
+-- what a plain and an extended header have in its place
+abbrev pub byKind : {A : Type 0} → Kind → A → A → A
+byKind Kind.Plain p e = p
+byKind Kind.Extended p e = e
+
+-- rows 0 to 16, which both kinds have: bytes 0 to 98
+unfoldable pub sharedRows : List Row
+sharedRows =
+    -- 0 sync_byte, 1 '000', 2 TSMF_header_PID, 3 '0001', 4 continuity_counter
+    (8, 1) ∷ (3, 1) ∷ (13, 1) ∷ (4, 1) ∷ (4, 1)
+    -- 5 reserved, 6 TSMF_sync
+    ∷ (3, 1) ∷ (13, 1)
+    -- 7 version_number, 8 slot_allocation_type, 9 frame_type
+    ∷ (3, 1) ∷ (1, 1) ∷ (4, 1)
+    -- 10 availability of the streams, stream 1 highest, 11 reserved
+    ∷ (lastStream, 1) ∷ (1, 1)
+    -- 12 TS_id and original_network_id of each stream
+    ∷ (16, 2 * lastStream)
+    -- 13 receive_status of each stream, 14 emergency_indicator, 15 reserved
+    ∷ (2, lastStream) ∷ (1, 1) ∷ (1, 1)
+    -- 16 relative_TS_number of each slot
+    ∷ (4, lastSlot) ∷ []
+
+-- the private data, bytes 99 to 183
+unfoldable pub privateRows : Kind → List Row
+-- 17 private_data
+privateRows Kind.Plain = (8, privateBytes) ∷ []
+-- 17 auxiliary information, 18 group_id, 19 number_of_carriers, 20 carrier_sequence, 21 number_of_frames, 22 frame_position, 23 reserved
+privateRows Kind.Extended =
+    (8, auxiliaryBytes) ∷ (8, 1) ∷ (8, 1) ∷ (8, 1) ∷ (4, 1) ∷ (4, 1) ∷ (8, reservedBytes) ∷ []
+
+-- all rows but the CRC, which stands behind them in 32 bits
+unfoldable pub layout : Kind → List Row
+layout kind = sharedRows ++ privateRows kind

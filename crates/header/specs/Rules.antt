@@ -1,0 +1,83 @@
+-- What a setting has to obey.
+use Prim.Native.Nat.{ℕ, _+_, _-_, _*_, _/_, _%_, _^_}
+use mathlib.Core.Bool.{Bool, not, _&&_, _||_}
+use mathlib.Core.List.{List, [], _∷_, _++_}
+use lib.Dec.{leb, eqb}
+use lib.ListN.{length, getD}
+use Rattle.slices.specs.Slices.{anyBelow, someAtLeast}
+use Rattle.header.specs.declared.setting.Kind.{Kind}
+use Rattle.header.specs.declared.setting.Setting.{Setting}
+use Rattle.header.specs.Counters.{firstStream, lastStream, firstPosition, within}
+use Rattle.header.specs.Layout.{byKind}
+use Rattle.header.specs.Refusal.{Check}
+
+-- whether a header PID may be used
+abbrev pub pidAllowed : ℕ → Bool
+pidAllowed pid = within 16 8190 pid
+
+-- whether stream r is available: its bit is one, stream 1 having the highest of the fifteen
+unfoldable pub available : ℕ → ℕ → Bool
+available availability r = within firstStream lastStream r && eqb (availability / 2 ^ (lastStream - r) % 2) 1
+
+-- how many of the fifteen streams are available
+unfoldable pub countAvailable : ℕ → ℕ → ℕ
+countAvailable availability ℕ.zero = 0
+countAvailable availability (ℕ.suc r) = countAvailable availability r + availability / 2 ^ (lastStream - ℕ.suc r) % 2
+
+-- 17: a part that the kind does not have is a field of no bits, and holds zeros alone
+unfoldable pub absentChecks : Kind → Setting → List Check
+absentChecks Kind.Plain s =
+    (17, someAtLeast (2 ^ 0) (s .auxiliary))
+    ∷ (17, leb (2 ^ 0) (s .«group_id»))
+    ∷ (17, leb (2 ^ 0) (s .«number_of_carriers»))
+    ∷ (17, leb (2 ^ 0) (s .«carrier_sequence»))
+    ∷ (17, leb (2 ^ 0) (s .«number_of_frames»))
+    ∷ (17, leb (2 ^ 0) (s .«frame_position» .0))
+    ∷ []
+absentChecks Kind.Extended s = (17, someAtLeast (2 ^ 0) (s .«private_data»)) ∷ []
+
+-- 17: a field too large for its bits
+unfoldable pub widthChecks : Kind → Setting → List Check
+widthChecks kind s =
+    (17, leb (2 ^ 4) (s .«continuity_counter»))
+    ∷ (17, leb (2 ^ 3) (s .«version_number»))
+    ∷ (17, leb (2 ^ 1) (s .«slot_allocation_type»))
+    ∷ (17, leb (2 ^ 4) (s .«frame_type»))
+    ∷ (17, leb (2 ^ lastStream) (s .availability))
+    ∷ (17, someAtLeast (2 ^ 2) (s .«receive_status»))
+    ∷ (17, leb (2 ^ 1) (s .«emergency_indicator»))
+    ∷ (17, someAtLeast (2 ^ 4) (s .«relative_ts_number»))
+    ∷ absentChecks kind s
+
+-- whether the slot's number is that of an unavailable stream
+abbrev pub unavailable : ℕ → ℕ → Bool
+unavailable availability n = not (eqb n 0) && not (available availability n)
+
+-- whether streams i + 1 and j + 1 are available and have equal identifier pairs
+abbrev pub samePair : Setting → ℕ → ℕ → Bool
+samePair s i j =
+    available (s .availability) (i + 1) && (available (s .availability) (j + 1)
+    && (eqb (getD (s .«ts_id») i 0) (getD (s .«ts_id») j 0)
+    && eqb (getD (s .«original_network_id») i 0) (getD (s .«original_network_id») j 0)))
+
+-- whether two available streams have equal identifier pairs
+unfoldable pub pairTwice : Setting → Bool
+pairTwice s = anyBelow lastStream (λ j. anyBelow j (λ i. samePair s i j))
+
+-- 11: the bonding fields of an extended header
+unfoldable pub bondingChecks : Kind → Setting → List Check
+bondingChecks Kind.Plain s = []
+bondingChecks Kind.Extended s =
+    (11, not (within 1 8 (s .«number_of_carriers»)))
+    ∷ (11, not (within 1 (s .«number_of_carriers») (s .«carrier_sequence»)))
+    ∷ (11, not (within 3 4 (s .«number_of_frames»)))
+    ∷ (11, not (within firstPosition (s .«number_of_frames») (s .«frame_position» .0)))
+    ∷ []
+
+-- 8 to 11: what a header that is written or read has to obey
+unfoldable pub ruleChecks : Kind → Setting → List Check
+ruleChecks kind s =
+    (8, not (byKind kind (eqb (s .«frame_type») 1) (within 1 2 (s .«frame_type»))))
+    ∷ (9, anyBelow (length (s .«relative_ts_number»)) (λ i. unavailable (s .availability) (getD (s .«relative_ts_number») i 0)))
+    ∷ (10, pairTwice s)
+    ∷ bondingChecks kind s

@@ -1,0 +1,4 @@
+// The TSMF header of J.183: its setting, writer and reader.
+pub mod counters;
+mod packed;
+pub mod setting;

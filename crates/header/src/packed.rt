@@ -1,0 +1,55 @@
+// Runs of values of a few bits each, packed highest bit first.
+ghost use mathlib.Core.Path.{_≡_};
+ghost use mathlib.Core.List.{_++_};
+ghost use Prim.Native.Nat.{_*_, _/_, _%_, _≤_};
+ghost use lib.ListN.{length};
+ghost use Rattle.bits.specs.Fields.{bitsOf, run, cut};
+ghost use Rattle.bits.proofs.Laws.{Fit};
+
+// Packs values of `width` bits into `part`, which has room for their whole bytes. Answers what is left: bits that do
+// not fill a byte, in the answer's low end.
+pub(crate) fn write_run(part: &mut [u8], values: &[u8], width: u32) -> u32
+    requires { ⌜ width ≤ 8 ⌝ }
+    requires { ⌜ Fit width (now values) ⌝ }
+    requires { ⌜ length (now part) ≡ length (now values) * width / 8 ⌝ }
+    ensures { λ r. ⌜ run 8 (now (part .exit)) ++ bitsOf (length (now (values .entry)) * width % 8) r ≡ run width (now (values .entry)) ⌝ }
+{
+    let mut held: u32 = 0;
+    let mut bits: u32 = 0;
+    let mut at = 0;
+    let mut i = 0;
+    while i < values.len() {
+        held = ((held % 256) << width) + values[i] as u32;
+        bits += width;
+        if 8 <= bits {
+            bits -= 8;
+            part[at] = ((held >> bits) % 256) as u8;
+            at += 1;
+        }
+        i += 1;
+    }
+    held
+}
+
+// Cuts values of `width` bits from `part`, as many as `values` has.
+pub(crate) fn read_run(values: &mut [u8], part: &[u8], width: u32)
+    requires { ⌜ width ≤ 8 ⌝ }
+    requires { ⌜ length (now values) * width ≤ length (now part) * 8 ⌝ }
+    ensures { λ _. ⌜ now (values .exit) ≡ cut width (length (now (values .entry))) (run 8 (now (part .entry))) ⌝ }
+{
+    let limit = 1u32 << width;
+    let mut held: u32 = 0;
+    let mut bits: u32 = 0;
+    let mut at = 0;
+    let mut i = 0;
+    while i < values.len() {
+        if bits < width {
+            held = (held % 256) * 256 + part[at] as u32;
+            bits += 8;
+            at += 1;
+        }
+        bits -= width;
+        values[i] = ((held >> bits) % limit) as u8;
+        i += 1;
+    }
+}

@@ -1,0 +1,47 @@
+// What a header says, and its two kinds.
+use crate::counters::{FramePosition, RelativeNumber, Slot};
+
+// How many slots carry packets, and how many streams a header knows.
+pub const SLOTS: usize = Slot::LAST as usize;
+pub const STREAMS: usize = RelativeNumber::LAST as usize;
+
+// The bytes of the private data; in an extended header the first are auxiliary information.
+pub const PRIVATE_BYTES: usize = 85;
+pub const AUXILIARY_BYTES: usize = 28;
+
+// The caller says of each header which it is.
+pub enum Kind {
+    Plain,
+    Extended,
+}
+
+// Every field that a caller sets, by J.183's names. A part that the kind does not have is zeros.
+pub struct Setting {
+    pub continuity_counter: u8,
+    pub version_number: u8,
+    pub slot_allocation_type: u8,
+    pub frame_type: u8,
+    // Fifteen bits, stream 1 the highest; one is available.
+    pub availability: u16,
+    pub ts_id: [u16; STREAMS],
+    pub original_network_id: [u16; STREAMS],
+    pub receive_status: [u8; STREAMS],
+    pub emergency_indicator: u8,
+    // The number of the stream in each slot, from slot 1 on; 0: none.
+    pub relative_ts_number: [u8; SLOTS],
+    // Of a plain header.
+    pub private_data: [u8; PRIVATE_BYTES],
+    // Of an extended header.
+    pub auxiliary: [u8; AUXILIARY_BYTES],
+    pub group_id: u8,
+    pub number_of_carriers: u8,
+    pub carrier_sequence: u8,
+    pub number_of_frames: u8,
+    pub frame_position: FramePosition,
+}
+
+// What a read answers: refusal 0 and the setting, or the refusal's number and zeros.
+pub struct Reading {
+    pub refusal: u8,
+    pub setting: Setting,
+}
