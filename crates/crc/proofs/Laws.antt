@@ -1,6 +1,6 @@
 -- Laws of the CRC. All rest on one fact: the shift is linear under xor.
 -- Assumes nothing.
-use Prim.Native.Nat.{ℕ, zero, suc, _+_, _-_, _*_, _/_, _%_, _^_, _≤_, _<_}
+use Prim.Native.Nat.{ℕ, zero, suc, _+_, _-_, _*_, _/_, _%_, _^_, _<_}
 use mathlib.Core.Path.{_≡_, refl, sym, ap, ap₂, _∙_, subst}
 use mathlib.Core.List.{List, [], _∷_, _++_}
 use native.Mathlib.Omega.{arith}
@@ -9,7 +9,7 @@ use native.Mathlib.Numerals.{one-add}
 use lib.Dec.{lit<}
 use lib.Bits.{bitXor, xor-lt, xor-mod, xor-self, xor-shifted, xor-shr, xor-zero-r}
 use lib.ListN.{length}
-use lib.Pow.{pow-add, pow-pos, mod-mod-pow, mod-pow-add, shl-lt, shr-mod, ones-lt}
+use lib.Pow.{pow-add, pow-pos, mod-mod-pow, mod-pow-add, shl-lt, shr-mod}
 use lib.Seq.{take-all}
 use Rattle.bits.specs.Fields.{bitsOf, run, cut}
 use Rattle.bits.proofs.Laws.{Fit, none, more, bits-bitsOf, fit-run, length-bitsOf, run-append, run-cut}
@@ -33,17 +33,22 @@ shift-linear s t =
     ∙ xor-swap (s * 2 % 2 ^ 32) (t * 2 % 2 ^ 32) (s / 2 ^ 31 % 2 * poly) (t / 2 ^ 31 % 2 * poly)
 
 -- nothing falls out at the top
-pub shift-low : {s : ℕ} → s < 2 ^ 31 → shift s ≡ s * 2
+pub shift-low : (s : ℕ) → s < 2 ^ 31 → shift s ≡ s * 2
 unfolding shift
-shift-low {s} h =
+shift-low s h =
     ap₂ bitXor (mod-eq-of-lt (shl-lt 31 1 h)) (ap (λ (x : ℕ). x % 2 * poly) (div-eq-of-lt h) ∙ zero-mul poly) ∙ xor-zero-r (s * 2)
+
+-- a one falls out
+pub shift-high : (s : ℕ) → s / 2 ^ 31 ≡ 1 → shift s ≡ bitXor (s * 2 % 2 ^ 32) poly
+unfolding shift poly
+shift-high s e = ap (λ (b : ℕ). bitXor (s * 2 % 2 ^ 32) (b % 2 * poly)) e
 
 -- the polynomial is odd, so nothing but zero shifts to zero
 shift-zero : (s : ℕ) → s < 2 ^ 32 → shift s ≡ 0 → s ≡ 0
 unfolding shift poly
 shift-zero s h e =
     bit-cases (λ (b : ℕ). s / 2 ^ 31 % 2 ≡ b → s ≡ 0)
-    (λ z. let top : s / 2 ^ 31 ≡ 0 = sym (shr-mod 1 31 h) ∙ z in let low : s < 2 ^ 31 = omega arith in let twice : s * 2 ≡ 0 = sym (shift-low low) ∙ e in omega arith)
+    (λ z. let top : s / 2 ^ 31 ≡ 0 = sym (shr-mod 1 31 h) ∙ z in let low : s < 2 ^ 31 = omega arith in let twice : s * 2 ≡ 0 = sym (shift-low s low) ∙ e in omega arith)
     (λ z. let odd : 1 ≡ 0 = ap (λ (b : ℕ). b * poly % 2) (sym z) ∙ ap (λ (x : ℕ). x % 2) same ∙ mod-mod-pow (s * 2) 31 1 ∙ mul-mod-left s 2 in omega arith)
     (s / 2 ^ 31 % 2) (mod-lt (s / 2 ^ 31) (lit< tt)) refl
   where
@@ -102,14 +107,18 @@ field-in (suc w) k e s v =
   where
     b : ℕ
     b = v / 2 ^ w % 2
+
     r : ℕ
     r = v % 2 ^ w
+
     rest : w + k ≡ 31
     rest = suc-inj (sym (suc-add w k) ∙ e)
+
     low : r * 2 ^ k < 2 ^ 31
     low = subst (λ (n : ℕ). r * 2 ^ k < 2 ^ n) rest (shl-lt w k (mod-lt v (pow-pos w)))
+
     later : shift (r * 2 ^ k) ≡ r * 2 ^ suc k
-    later = shift-low low ∙ mul-assoc r (2 ^ k) 2 ∙ ap (λ (x : ℕ). r * x) (sym (pow-suc 2 k))
+    later = shift-low (r * 2 ^ k) low ∙ mul-assoc r (2 ^ k) 2 ∙ ap (λ (x : ℕ). r * x) (sym (pow-suc 2 k))
 
 word-in : (s v : ℕ) → v < 2 ^ 32 → registerFrom s (bitsOf 32 v) ≡ shifts 32 (bitXor s v)
 word-in s v h = field-in 32 0 refl s v ∙ ap (λ (x : ℕ). shifts 32 (bitXor s x)) (mul-one (v % 2 ^ 32) ∙ mod-eq-of-lt h)
@@ -133,6 +142,7 @@ own-bytes m =
   where
     bits : List ℕ
     bits = bitsOf 32 (registerOf m)
+
     long : length bits ≡ 32
     long = length-bitsOf 32 (registerOf m)
 
