@@ -1,4 +1,4 @@
--- Laws of the CRC. All rest on one fact: the shift is linear under xor.
+-- Laws of the CRC. Most rest on one fact: the shift is linear under xor.
 -- Assumes nothing.
 use Prim.Native.Nat.{ℕ, zero, suc, _+_, _-_, _*_, _/_, _%_, _^_, _<_}
 use mathlib.Core.Path.{_≡_, refl, sym, ap, ap₂, _∙_, subst}
@@ -22,14 +22,15 @@ pub shift-lt : (s : ℕ) → shift s < 2 ^ 32
 unfolding shift poly
 shift-lt s = xor-lt 32 (s * 2 % 2 ^ 32) (s / 2 ^ 31 % 2 * poly) (mod-lt (s * 2) (lit< tt)) (let h : s / 2 ^ 31 % 2 < 2 = mod-lt (s / 2 ^ 31) (lit< tt) in omega arith)
 
-top : (s t : ℕ) → bitXor s t / 2 ^ 31 % 2 ≡ bitXor (s / 2 ^ 31 % 2) (t / 2 ^ 31 % 2)
-top s t = ap (λ (x : ℕ). x % 2) (xor-shr s t 31) ∙ xor-mod (s / 2 ^ 31) (t / 2 ^ 31) 1
+-- the bit that falls out
+pub top-linear : (s t : ℕ) → bitXor s t / 2 ^ 31 % 2 ≡ bitXor (s / 2 ^ 31 % 2) (t / 2 ^ 31 % 2)
+top-linear s t = ap (λ (x : ℕ). x % 2) (xor-shr s t 31) ∙ xor-mod (s / 2 ^ 31) (t / 2 ^ 31) 1
 
 pub shift-linear : (s t : ℕ) → shift (bitXor s t) ≡ bitXor (shift s) (shift t)
 unfolding shift
 shift-linear s t =
     ap₂ bitXor (ap (λ (x : ℕ). x % 2 ^ 32) (xor-shl s t 1) ∙ xor-mod (s * 2) (t * 2) 32)
-    (ap (λ (x : ℕ). x * poly) (top s t) ∙ xor-times poly (s / 2 ^ 31 % 2) (t / 2 ^ 31 % 2) (mod-lt (s / 2 ^ 31) (lit< tt)) (mod-lt (t / 2 ^ 31) (lit< tt)))
+    (ap (λ (x : ℕ). x * poly) (top-linear s t) ∙ xor-times poly (s / 2 ^ 31 % 2) (t / 2 ^ 31 % 2) (mod-lt (s / 2 ^ 31) (lit< tt)) (mod-lt (t / 2 ^ 31) (lit< tt)))
     ∙ xor-swap (s * 2 % 2 ^ 32) (t * 2 % 2 ^ 32) (s / 2 ^ 31 % 2 * poly) (t / 2 ^ 31 % 2 * poly)
 
 -- nothing falls out at the top
@@ -44,7 +45,7 @@ unfolding shift poly
 shift-high s e = ap (λ (b : ℕ). bitXor (s * 2 % 2 ^ 32) (b % 2 * poly)) e
 
 -- the polynomial is odd, so nothing but zero shifts to zero
-shift-zero : (s : ℕ) → s < 2 ^ 32 → shift s ≡ 0 → s ≡ 0
+pub shift-zero : (s : ℕ) → s < 2 ^ 32 → shift s ≡ 0 → s ≡ 0
 unfolding shift poly
 shift-zero s h e =
     bit-cases (λ (b : ℕ). s / 2 ^ 31 % 2 ≡ b → s ≡ 0)
@@ -66,7 +67,7 @@ shifts-injective zero s t hs ht e = e
 shifts-injective (suc n) s t hs ht e =
     shift-injective s t hs ht (shifts-injective n (shift s) (shift t) (shift-lt s) (shift-lt t) e)
 
-shifts-zero : (n : ℕ) → shifts n 0 ≡ 0
+pub shifts-zero : (n : ℕ) → shifts n 0 ≡ 0
 unfolding shifts shift poly
 shifts-zero zero = refl
 shifts-zero (suc n) = shifts-zero n
@@ -90,7 +91,7 @@ registerOf-lt m = registerFrom-lt (2 ^ 32 - 1) (run 8 m) (lit< tt) (fit-run 8 m)
 -- ---- a field of bits at once
 
 -- the highest of a field's bits, and the others
-field-top : (w k v : ℕ) → w + k ≡ 31 → v % 2 ^ suc w * 2 ^ k ≡ v / 2 ^ w % 2 * 2 ^ 31 + v % 2 ^ w * 2 ^ k
+pub field-top : (w k v : ℕ) → w + k ≡ 31 → v % 2 ^ suc w * 2 ^ k ≡ v / 2 ^ w % 2 * 2 ^ 31 + v % 2 ^ w * 2 ^ k
 field-top w k v e =
     ap (λ (n : ℕ). v % 2 ^ n * 2 ^ k) (sym (one-add w)) ∙ ap (λ (x : ℕ). x * 2 ^ k) (mod-pow-add v 1 w)
     ∙ add-mul (v / 2 ^ w % 2 * 2 ^ w) (v % 2 ^ w) (2 ^ k)
@@ -120,19 +121,20 @@ field-in (suc w) k e s v =
     later : shift (r * 2 ^ k) ≡ r * 2 ^ suc k
     later = shift-low (r * 2 ^ k) low ∙ mul-assoc r (2 ^ k) 2 ∙ ap (λ (x : ℕ). r * x) (sym (pow-suc 2 k))
 
-word-in : (s v : ℕ) → v < 2 ^ 32 → registerFrom s (bitsOf 32 v) ≡ shifts 32 (bitXor s v)
+pub word-in : (s v : ℕ) → v < 2 ^ 32 → registerFrom s (bitsOf 32 v) ≡ shifts 32 (bitXor s v)
 word-in s v h = field-in 32 0 refl s v ∙ ap (λ (x : ℕ). shifts 32 (bitXor s x)) (mul-one (v % 2 ^ 32) ∙ mod-eq-of-lt h)
 
 -- the register's own bits behind a message bring it to zero
 pub own-bits : (s : ℕ) → s < 2 ^ 32 → registerFrom s (bitsOf 32 s) ≡ 0
 own-bits s h = word-in s s h ∙ ap (shifts 32) (xor-self s) ∙ shifts-zero 32
 
--- only those do
+-- and no other 32 bits do
 pub own-bits-only : (s v : ℕ) → s < 2 ^ 32 → v < 2 ^ 32 → registerFrom s (bitsOf 32 v) ≡ 0 → v ≡ s
 own-bits-only s v hs hv e =
     xor-injective s (shifts-injective 32 (bitXor s v) (bitXor s s) (xor-lt 32 s v hs hv) (xor-lt 32 s s hs hs)
     (sym (word-in s v hv) ∙ e ∙ sym (own-bits s hs) ∙ word-in s s hs))
 
+-- the same of bytes
 pub own-bytes : (m : List ℕ) → registerOf (m ++ cut 8 4 (bitsOf 32 (registerOf m))) ≡ 0
 unfolding registerOf
 own-bytes m =
@@ -148,6 +150,7 @@ own-bytes m =
 
 -- ---- linearity
 
+-- at t = 0: errors b in bits a change the register by what b alone makes of zero
 pub linear : (s t : ℕ) (a b : List ℕ) → s < 2 ^ 32 → t < 2 ^ 32 → Fit 1 a → Fit 1 b → length a ≡ length b
     → registerFrom (bitXor s t) (xorWith a b) ≡ bitXor (registerFrom s a) (registerFrom t b)
 unfolding registerFrom xorWith bitIn
