@@ -1,5 +1,5 @@
 -- The CRC of H.222.0, bit by bit: register all ones at the start, highest bit first, nothing inverted at the end.
-use Prim.Native.Nat.{ℕ, _+_, _-_, _*_, _/_, _%_, _^_}
+use Prim.Native.Nat.{ℕ, zero, suc, _+_, _-_, _*_, _/_, _%_, _^_}
 use mathlib.Core.List.{List, [], _∷_}
 use lib.Bits.{bitXor}
 use Rattle.bits.specs.Fields.{run}
@@ -29,3 +29,15 @@ registerFrom s (b ∷ bs) = registerFrom (bitIn s b) bs
 unfoldable pub registerOf : List ℕ → ℕ
 unfolding registerFrom
 registerOf bytes = registerFrom (2 ^ 32 - 1) (run 8 bytes)
+
+-- the register n places up
+unfoldable pub shifts : ℕ → ℕ → ℕ
+unfolding shift
+shifts zero s = s
+shifts (suc n) s = shifts n (shift s)
+
+-- two lists of bits added bit by bit, as far as both reach
+unfoldable pub xorWith : List ℕ → List ℕ → List ℕ
+xorWith [] ys = []
+xorWith (x ∷ xs) [] = []
+xorWith (x ∷ xs) (y ∷ ys) = bitXor x y ∷ xorWith xs ys

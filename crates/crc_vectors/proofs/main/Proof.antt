@@ -1,0 +1,46 @@
+-- `crc_vectors::main` is safe and ends. The measure is the number of turns that are left; nothing else has to hold.
+-- Assumes nothing.
+use native.Mathlib.Omega.{arith}
+use Rattle.crc_vectors.proofs.main.Statement.{statement}
+use Rattle.crc_vectors.proofs.main.Tie as tie
+
+abbrev Inv-loop : tie.InvT-loop
+Inv-loop turns₀ turns = Unit {0}
+
+abbrev μ-loop : tie.MeasureT-loop
+μ-loop turns₀ turns = turns
+
+loop-holds : tie.Need-loop-holds Inv-loop μ-loop
+loop-holds c = tt
+
+record-requires : tie.Need-record-requires Inv-loop μ-loop
+record-requires c κs = tt
+
+sub-turns : tie.Need-sub-turns Inv-loop μ-loop
+sub-turns c = omega arith
+
+loop-less : tie.Need-loop-less Inv-loop μ-loop
+loop-less c = omega arith
+
+loop-again : tie.Need-loop-again Inv-loop μ-loop
+loop-again c = tt
+
+returns : tie.Need-returns Inv-loop μ-loop
+returns c = tt
+
+returns-2 : tie.Need-returns-2 Inv-loop μ-loop
+returns-2 c = tt
+
+pub main-spec : {M : Type 1} → statement M
+main-spec =
+    tie.close
+    (tie.spec
+    Inv-loop
+    μ-loop
+    loop-holds
+    record-requires
+    sub-turns
+    loop-less
+    loop-again
+    returns
+    returns-2)
