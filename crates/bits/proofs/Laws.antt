@@ -10,7 +10,7 @@ use lib.Seq.{take-at, drop-at, take-add, length-take-le, drop-drop}
 use lib.Dec.{lit<}
 use lib.Arith.{digits-lt}
 use lib.Pow.{high, low, mod-mod-pow, pow-pos, pow-add, shr-shr, mod-pow-add, field}
-use Rattle.bits.specs.Fields.{bitsOf, number, run, cut}
+use Rattle.bits.specs.Fields.{Fit, none, more, bitsOf, number, run, cut}
 
 -- ---- one field
 
@@ -51,11 +51,6 @@ bitsOf-low w hi {lo} h =
 pub bitsOf-join : (a b hi : ℕ) {lo : ℕ} → lo < 2 ^ b → bitsOf a hi ++ bitsOf b lo ≡ bitsOf (a + b) (hi * 2 ^ b + lo)
 bitsOf-join a b hi {lo} h =
     ap₂ (λ (x y : List ℕ). x ++ y) (ap (bitsOf a) (sym (high hi b h))) (sym (bitsOf-low b hi h)) ∙ sym (bitsOf-split a b (hi * 2 ^ b + lo))
-
--- each value fits in w bits. `Fit 1` is of bits, `Fit 8` of bytes
-pub data Fit (w : ℕ) : List ℕ → Type 0 where
-  none : Fit w []
-  more : {v : ℕ} {vs : List ℕ} → v < 2 ^ w → Fit w vs → Fit w (v ∷ vs)
 
 pub bits-bitsOf : (w v : ℕ) → Fit 1 (bitsOf w v)
 unfolding bitsOf

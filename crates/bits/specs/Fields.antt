@@ -1,5 +1,5 @@
 -- Packed fields, highest bit first. A bit is 0 or 1; a byte is a field of 8 bits.
-use Prim.Native.Nat.{ℕ, zero, suc, _+_, _*_, _/_, _%_, _^_}
+use Prim.Native.Nat.{ℕ, zero, suc, _+_, _*_, _/_, _%_, _^_, _<_}
 use mathlib.Core.List.{List, [], _∷_, _++_}
 use lib.ListN.{length, take, drop}
 
@@ -24,3 +24,8 @@ unfoldable pub cut : ℕ → ℕ → List ℕ → List ℕ
 unfolding number
 cut w zero bs = []
 cut w (suc n) bs = number (take w bs) ∷ cut w n (drop w bs)
+
+-- each value fits in w bits. `Fit 1` is of bits, `Fit 8` of bytes
+pub data Fit (w : ℕ) : List ℕ → Type 0 where
+  none : Fit w []
+  more : {v : ℕ} {vs : List ℕ} → v < 2 ^ w → Fit w vs → Fit w (v ∷ vs)

@@ -12,7 +12,8 @@ use lib.ListN.{length}
 use lib.Pow.{pow-add, pow-pos, mod-mod-pow, mod-pow-add, shl-lt, shr-mod}
 use lib.Seq.{take-all}
 use Rattle.bits.specs.Fields.{bitsOf, run, cut}
-use Rattle.bits.proofs.Laws.{Fit, none, more, bits-bitsOf, fit-run, length-bitsOf, run-append, run-cut}
+use Rattle.bits.specs.Fields.{Fit, none, more}
+use Rattle.bits.proofs.Laws.{bits-bitsOf, fit-run, length-bitsOf, run-append, run-cut}
 use Rattle.crc.specs.Crc.{poly, shift, bitIn, registerFrom, registerOf, shifts, xorWith}
 use Rattle.crc.proofs.Xor.{bit-cases, xor-assoc, xor-injective, xor-shl, xor-swap, xor-times}
 

@@ -1,6 +1,6 @@
 -- What a setting has to obey.
-use Prim.Native.Nat.{ℕ, _+_, _-_, _*_, _/_, _%_, _^_}
-use mathlib.Core.Bool.{Bool, not, _&&_, _||_}
+use Prim.Native.Nat.{ℕ, zero, suc, _+_, _-_, _*_, _/_, _%_, _^_}
+use mathlib.Core.Bool.{Bool, cond, not, _&&_, _||_}
 use mathlib.Core.List.{List, [], _∷_, _++_}
 use lib.Dec.{leb, eqb}
 use lib.ListN.{length, getD}
@@ -19,10 +19,14 @@ pidAllowed pid = within 16 8190 pid
 unfoldable pub available : ℕ → ℕ → Bool
 available availability r = within firstStream lastStream r && eqb (availability / 2 ^ (lastStream - r) % 2) 1
 
+-- how many of the numbers 1 to n pass the test
+unfoldable pub howMany : ℕ → (ℕ → Bool) → ℕ
+howMany zero test = 0
+howMany (suc n) test = cond (test (suc n)) 1 0 + howMany n test
+
 -- how many of the fifteen streams are available
-unfoldable pub countAvailable : ℕ → ℕ → ℕ
-countAvailable availability ℕ.zero = 0
-countAvailable availability (ℕ.suc r) = countAvailable availability r + availability / 2 ^ (lastStream - ℕ.suc r) % 2
+unfoldable pub countAvailable : ℕ → ℕ
+countAvailable availability = howMany lastStream (available availability)
 
 -- 17: a part that the kind does not have is a field of no bits, and holds zeros alone
 unfoldable pub absentChecks : Kind → Setting → List Check
@@ -53,16 +57,19 @@ widthChecks kind s =
 abbrev pub unavailable : ℕ → ℕ → Bool
 unavailable availability n = not (eqb n 0) && not (available availability n)
 
--- whether streams i + 1 and j + 1 are available and have equal identifier pairs
-abbrev pub samePair : Setting → ℕ → ℕ → Bool
-samePair s i j =
-    available (s .availability) (i + 1) && (available (s .availability) (j + 1)
-    && (eqb (getD (s .«ts_id») i 0) (getD (s .«ts_id») j 0)
-    && eqb (getD (s .«original_network_id») i 0) (getD (s .«original_network_id») j 0)))
+-- whether some slot has the number of an unavailable stream
+unfoldable pub someUnavailable : ℕ → List ℕ → Bool
+someUnavailable availability numbers = anyBelow (length numbers) (λ i. unavailable availability (getD numbers i 0))
+
+-- whether streams i + 1 and j + 1 have equal identifier pairs and are both available
+abbrev pub samePair : ℕ → List ℕ → List ℕ → ℕ → ℕ → Bool
+samePair availability ts os i j =
+    eqb (getD ts i 0) (getD ts j 0)
+    && (eqb (getD os i 0) (getD os j 0) && (available availability (i + 1) && available availability (j + 1)))
 
 -- whether two available streams have equal identifier pairs
-unfoldable pub pairTwice : Setting → Bool
-pairTwice s = anyBelow lastStream (λ j. anyBelow j (λ i. samePair s i j))
+unfoldable pub pairTwice : ℕ → List ℕ → List ℕ → Bool
+pairTwice availability ts os = anyBelow (length ts) (λ j. anyBelow j (λ i. samePair availability ts os i j))
 
 -- 11: the bonding fields of an extended header
 unfoldable pub bondingChecks : Kind → Setting → List Check
@@ -78,6 +85,6 @@ bondingChecks Kind.Extended s =
 unfoldable pub ruleChecks : Kind → Setting → List Check
 ruleChecks kind s =
     (8, not (byKind kind (eqb (s .«frame_type») 1) (within 1 2 (s .«frame_type»))))
-    ∷ (9, anyBelow (length (s .«relative_ts_number»)) (λ i. unavailable (s .availability) (getD (s .«relative_ts_number») i 0)))
-    ∷ (10, pairTwice s)
+    ∷ (9, someUnavailable (s .availability) (s .«relative_ts_number»))
+    ∷ (10, pairTwice (s .availability) (s .«ts_id») (s .«original_network_id»))
     ∷ bondingChecks kind s

@@ -3,8 +3,7 @@ ghost use mathlib.Core.Path.{_≡_};
 ghost use mathlib.Core.List.{_++_};
 ghost use Prim.Native.Nat.{_*_, _/_, _%_, _≤_};
 ghost use lib.ListN.{length};
-ghost use Rattle.bits.specs.Fields.{bitsOf, run, cut};
-ghost use Rattle.bits.proofs.Laws.{Fit};
+ghost use Rattle.bits.specs.Fields.{Fit, bitsOf, run, cut};
 
 // Packs values of `width` bits into `part`, which has room for their whole bytes. Answers what is left: bits that do
 // not fill a byte, in the answer's low end.
