@@ -1,0 +1,141 @@
+//! The long input: good headers of all sorts among ordinary packets, each
+//! damage alone, each two together, and what looks like damage but is none.
+
+use super::damage::{base, damaged, VARIETIES};
+use super::packets::{good, header, null, ordinary, Packet};
+use crate::generator::Generator;
+use crate::make_crc_right;
+use reference::{crc32, read, Kind, Setting, LISTER_PID};
+
+const GOOD_HEADERS: usize = 96;
+const FIRST_REFUSAL: u8 = 3;
+const LAST_REFUSAL: u8 = 10;
+
+struct Input {
+    generator: Generator,
+    bytes: Vec<u8>,
+}
+
+impl Input {
+    /// The packet is there for one answer, which the reader must give.
+    fn push(&mut self, packet: Packet, answer: u8) {
+        let found = read(&packet, LISTER_PID, Kind::Plain).err().unwrap_or(0);
+        assert_eq!(found, answer, "packet {}", self.bytes.len() / 188);
+        self.bytes.extend(packet);
+    }
+
+    fn push_ordinary(&mut self) {
+        let packet = ordinary(&mut self.generator);
+        self.push(packet, 4);
+    }
+
+    fn push_damaged(&mut self, refusals: &[u8], variety: usize) {
+        let packet = damaged(base(&mut self.generator), refusals, variety);
+        self.push(packet, refusals[0]);
+    }
+}
+
+pub fn input() -> Vec<u8> {
+    let mut input = Input {
+        generator: Generator::new(2),
+        bytes: Vec::new(),
+    };
+    good_headers(&mut input);
+    single_damage(&mut input);
+    double_damage(&mut input);
+    all_damage(&mut input);
+    wrong_crcs(&mut input);
+    other_counters(&mut input);
+    extended_headers(&mut input);
+    // A good header but for its last byte.
+    let cut = good(&mut input.generator, 15);
+    input.bytes.extend(&cut[..187]);
+    input.bytes
+}
+
+fn good_headers(input: &mut Input) {
+    for variety in 0..GOOD_HEADERS {
+        let packet = good(&mut input.generator, variety);
+        input.push(packet, 0);
+        if variety % 3 == 1 {
+            input.push_ordinary();
+        }
+        if variety % 7 == 2 {
+            input.push(null(), 4);
+        }
+    }
+}
+
+fn single_damage(input: &mut Input) {
+    for refusal in FIRST_REFUSAL..=LAST_REFUSAL {
+        for variety in 0..VARIETIES {
+            input.push_damaged(&[refusal], variety);
+        }
+        input.push_ordinary();
+    }
+}
+
+fn double_damage(input: &mut Input) {
+    let mut variety = 0;
+    for first in FIRST_REFUSAL..=LAST_REFUSAL {
+        for second in first + 1..=LAST_REFUSAL {
+            input.push_damaged(&[first, second], variety);
+            input.push_damaged(&[first, second], variety + 1);
+            variety += 2;
+        }
+    }
+}
+
+fn all_damage(input: &mut Input) {
+    let all: Vec<u8> = (FIRST_REFUSAL..=LAST_REFUSAL).collect();
+    for first in 0..all.len() {
+        input.push_damaged(&all[first..], first);
+    }
+}
+
+/// A CRC run from byte 0, one inverted at the end, one with its bytes turned.
+fn wrong_crcs(input: &mut Input) {
+    let packet = base(&mut input.generator);
+    let right = crc32(&packet[4..184]);
+    for wrong in [
+        crc32(&packet[..184]),
+        !right,
+        right.swap_bytes(),
+        0,
+        u32::MAX,
+    ] {
+        let mut spoilt = packet;
+        spoilt[184..].copy_from_slice(&wrong.to_be_bytes());
+        input.push(spoilt, 7);
+    }
+}
+
+/// The counter is not under the CRC: a changed one is simply another.
+fn other_counters(input: &mut Input) {
+    let packet = base(&mut input.generator);
+    for counter in 0..16 {
+        let mut other = packet;
+        other[3] = other[3] & 0xF0 | counter;
+        input.push(other, 0);
+    }
+}
+
+/// The lister takes these for plain ones, whose private data may be anything,
+/// bonding fields out of range included.
+fn extended_headers(input: &mut Input) {
+    let mut setting = Setting {
+        frame_type: 1,
+        ..Setting::ZEROS
+    };
+    setting.number_of_carriers = 2;
+    setting.carrier_sequence = 1;
+    setting.number_of_frames = 4;
+    setting.frame_position = 2;
+    let mut packet = header(Kind::Extended, &setting);
+    input.push(packet, 0);
+    packet[128..131].fill(0xFF);
+    make_crc_right(&mut packet);
+    input.push(packet, 0);
+    setting.frame_type = 2;
+    input.push(header(Kind::Extended, &setting), 8);
+}

@@ -1,0 +1,95 @@
+//! Settings for the tests. Each test file uses a part of this.
+#![allow(dead_code)]
+
+use reference::{Kind, Setting};
+
+pub const KINDS: [Kind; 2] = [Kind::Plain, Kind::Extended];
+pub const PID: u16 = 0x1FF0;
+
+pub struct Random(pub u64);
+
+impl Random {
+    /// A number below the limit.
+    pub fn below(&mut self, limit: u64) -> u64 {
+        self.0 ^= self.0 << 13;
+        self.0 ^= self.0 >> 7;
+        self.0 ^= self.0 << 17;
+        (self.0 >> 20) % limit
+    }
+
+    pub fn byte(&mut self, limit: u64) -> u8 {
+        self.below(limit) as u8
+    }
+
+    pub fn fill(&mut self, bytes: &mut [u8], limit: u64) {
+        for byte in bytes {
+            *byte = self.byte(limit);
+        }
+    }
+}
+
+/// The least setting that the writer takes.
+pub fn least(kind: Kind) -> Setting {
+    let mut setting = Setting {
+        frame_type: 1,
+        ..Setting::ZEROS
+    };
+    if kind == Kind::Extended {
+        setting.number_of_carriers = 1;
+        setting.carrier_sequence = 1;
+        setting.number_of_frames = 3;
+        setting.frame_position = 1;
+    }
+    setting
+}
+
+/// A setting that meets every rule.
+pub fn good(random: &mut Random, kind: Kind) -> Setting {
+    let mut setting = least(kind);
+    setting.continuity_counter = random.byte(16);
+    setting.version_number = random.byte(8);
+    setting.slot_allocation_type = random.byte(2);
+    setting.availability = random.below(1 << 15) as u16;
+    for stream in 0..15 {
+        // A few values only, so that pairs share one half often; the
+        // network tells the streams apart.
+        setting.ts_id[stream] = random.below(3) as u16 * 0x7FFF;
+        setting.original_network_id[stream] = (random.below(4096) * 16 + stream as u64) as u16;
+    }
+    random.fill(&mut setting.receive_status, 4);
+    setting.emergency_indicator = random.byte(2);
+    random.fill(&mut setting.relative_ts_number, 16);
+    let kept = setting.clone();
+    for number in &mut setting.relative_ts_number {
+        if !kept.is_available(usize::from(*number)) {
+            *number = 0;
+        }
+    }
+    match kind {
+        Kind::Plain => random.fill(&mut setting.private_data, 256),
+        Kind::Extended => good_extension(random, &mut setting),
+    }
+    setting
+}
+
+fn good_extension(random: &mut Random, setting: &mut Setting) {
+    setting.frame_type = 1 + random.byte(2);
+    random.fill(&mut setting.auxiliary, 256);
+    setting.group_id = random.byte(256);
+    setting.number_of_carriers = 1 + random.byte(8);
+    setting.carrier_sequence = 1 + random.byte(setting.number_of_carriers.into());
+    setting.number_of_frames = 3 + random.byte(2);
+    setting.frame_position = 1 + random.byte(setting.number_of_frames.into());
+}
+
+/// The header of a setting that the writer takes.
+pub fn header(kind: Kind, setting: &Setting) -> [u8; 188] {
+    let mut packet = [0; 188];
+    assert_eq!(reference::write(&mut packet, PID, kind, setting), 0);
+    packet
+}
+
+pub fn make_crc_right(packet: &mut [u8; 188]) {
+    let crc = reference::crc32(&packet[4..184]);
+    packet[184..].copy_from_slice(&crc.to_be_bytes());
+}
