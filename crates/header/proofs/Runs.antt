@@ -38,14 +38,14 @@ module _ (part values : List ℕ) (w held bits at i : ℕ) (p : Packed part valu
   packed-in few h fits =
       let v = getD values i 0 in
       record {
-          count = let e : suc i * w ≡ i * w + w = suc-mul i w in rw add-one (let k : at * 8 + bits ≡ i * w = p .count in omega arith);
-          same =
-              ap (λ (l : List ℕ). run 8 (take at part) ++ l)
-              (sym (bitsOf-join bits w (held % 256) fits) ∙ ap (λ (l : List ℕ). l ++ bitsOf w v) (low-byte bits held few))
-              ∙ sym (append-assoc (run 8 (take at part)) (bitsOf bits held) (bitsOf w v))
-              ∙ ap₂ (λ (x y : List ℕ). x ++ y) (p .same) (sym (run-one w v))
-              ∙ sym (run-append w (take i values) (v ∷ []))
-              ∙ ap (run w) (sym (take-suc values i 0 h) ∙ ap (λ (k : ℕ). take k values) (sym (add-one i)))
+        count = let e : suc i * w ≡ i * w + w = suc-mul i w in rw add-one (let k : at * 8 + bits ≡ i * w = p .count in omega arith);
+        same =
+            ap (λ (l : List ℕ). run 8 (take at part) ++ l)
+            (sym (bitsOf-join bits w (held % 256) fits) ∙ ap (λ (l : List ℕ). l ++ bitsOf w v) (low-byte bits held few))
+            ∙ sym (append-assoc (run 8 (take at part)) (bitsOf bits held) (bitsOf w v))
+            ∙ ap₂ (λ (x y : List ℕ). x ++ y) (p .same) (sym (run-one w v))
+            ∙ sym (run-append w (take i values) (v ∷ []))
+            ∙ ap (run w) (sym (take-suc values i 0 h) ∙ ap (λ (k : ℕ). take k values) (sym (add-one i)));
       }
 
   -- a whole byte goes out
@@ -53,15 +53,15 @@ module _ (part values : List ℕ) (w held bits at i : ℕ) (p : Packed part valu
   packed-out full room =
       let b = held / 2 ^ (bits - 8) % 256 in
       record {
-          count = let k : at * 8 + bits ≡ i * w = p .count in omega arith;
-          same =
-              ap (λ (l : List ℕ). run 8 l ++ bitsOf (bits - 8) held)
-              (ap (λ (k : ℕ). take k (set part at b)) (add-one at) ∙ take-suc-set part at b room)
-              ∙ ap (λ (l : List ℕ). l ++ bitsOf (bits - 8) held)
-              (run-append 8 (take at part) (b ∷ []) ∙ ap (λ (l : List ℕ). run 8 (take at part) ++ l) (run-one 8 b ∙ bitsOf-mod 8 0 (held / 2 ^ (bits - 8))))
-              ∙ append-assoc (run 8 (take at part)) (bitsOf 8 (held / 2 ^ (bits - 8))) (bitsOf (bits - 8) held)
-              ∙ ap (λ (l : List ℕ). run 8 (take at part) ++ l) (sym (parted 8 bits held full))
-              ∙ p .same
+        count = let k : at * 8 + bits ≡ i * w = p .count in omega arith;
+        same =
+            ap (λ (l : List ℕ). run 8 l ++ bitsOf (bits - 8) held)
+            (ap (λ (k : ℕ). take k (set part at b)) (add-one at) ∙ take-suc-set part at b room)
+            ∙ ap (λ (l : List ℕ). l ++ bitsOf (bits - 8) held)
+            (run-append 8 (take at part) (b ∷ []) ∙ ap (λ (l : List ℕ). run 8 (take at part) ++ l) (run-one 8 b ∙ bitsOf-mod 8 0 (held / 2 ^ (bits - 8))))
+            ∙ append-assoc (run 8 (take at part)) (bitsOf 8 (held / 2 ^ (bits - 8))) (bitsOf (bits - 8) held)
+            ∙ ap (λ (l : List ℕ). run 8 (take at part) ++ l) (sym (parted 8 bits held full))
+            ∙ p .same;
       }
 
 -- the first i values are cut: `at` bytes of `part` are taken in, of which the `bits` low bits of `held` are left
@@ -74,9 +74,9 @@ pub taken-none : (values part : List ℕ) (w : ℕ) → Taken values part w 0 0 
 unfolding bitsOf cut
 taken-none values part w =
     record {
-        count = let e : 0 * w ≡ 0 = zero-mul w in omega arith;
-        rest = sym (ap (λ (k : ℕ). drop k (run 8 part)) (zero-mul w));
-        same = refl
+      count = let e : 0 * w ≡ 0 = zero-mul w in omega arith;
+      rest = sym (ap (λ (k : ℕ). drop k (run 8 part)) (zero-mul w));
+      same = refl;
     }
 
 module _ (values part : List ℕ) (w held bits at i : ℕ) (t : Taken values part w held bits at i) where
@@ -86,15 +86,15 @@ module _ (values part : List ℕ) (w held bits at i : ℕ) (t : Taken values par
   taken-in few more byte =
       let b = getD part at 0 in
       record {
-          count = let k : at * 8 ≡ i * w + bits = t .count in omega arith;
-          rest =
-              ap₂ (λ (x y : List ℕ). x ++ y)
-              (sym (bitsOf-join bits 8 (held % 256) byte) ∙ ap (λ (l : List ℕ). l ++ bitsOf 8 b) (low-byte bits held few))
-              (ap (λ (k : ℕ). run 8 (drop k part)) (add-one at))
-              ∙ append-assoc (bitsOf bits held) (bitsOf 8 b) (run 8 (drop (suc at) part))
-              ∙ ap (λ (l : List ℕ). bitsOf bits held ++ l) (sym (ap (run 8) (drop-cons part at 0 more) ∙ run-cons 8 b (drop (suc at) part)))
-              ∙ t .rest;
-          same = t .same
+        count = let k : at * 8 ≡ i * w + bits = t .count in omega arith;
+        rest =
+            ap₂ (λ (x y : List ℕ). x ++ y)
+            (sym (bitsOf-join bits 8 (held % 256) byte) ∙ ap (λ (l : List ℕ). l ++ bitsOf 8 b) (low-byte bits held few))
+            (ap (λ (k : ℕ). run 8 (drop k part)) (add-one at))
+            ∙ append-assoc (bitsOf bits held) (bitsOf 8 b) (run 8 (drop (suc at) part))
+            ∙ ap (λ (l : List ℕ). bitsOf bits held ++ l) (sym (ap (run 8) (drop-cons part at 0 more) ∙ run-cons 8 b (drop (suc at) part)))
+            ∙ t .rest;
+        same = t .same;
       }
 
   -- a value goes out
@@ -104,18 +104,18 @@ module _ (values part : List ℕ) (w held bits at i : ℕ) (t : Taken values par
       let v = held / 2 ^ (bits - w) % 2 ^ w in
       let behind = bitsOf (bits - w) held ++ run 8 (drop at part) in
       let split : bitsOf w (held / 2 ^ (bits - w)) ++ behind ≡ drop (i * w) (run 8 part) =
-          sym (append-assoc (bitsOf w (held / 2 ^ (bits - w))) (bitsOf (bits - w) held) (run 8 (drop at part)))
-          ∙ ap (λ (l : List ℕ). l ++ run 8 (drop at part)) (sym (parted w bits held full)) ∙ t .rest in
+      sym (append-assoc (bitsOf w (held / 2 ^ (bits - w))) (bitsOf (bits - w) held) (run 8 (drop at part)))
+      ∙ ap (λ (l : List ℕ). l ++ run 8 (drop at part)) (sym (parted w bits held full)) ∙ t .rest in
       let next : (i + 1) * w ≡ i * w + w = ap (λ (k : ℕ). k * w) (add-one i) ∙ suc-mul i w in
       record {
-          count = let k : at * 8 ≡ i * w + bits = t .count in omega arith;
-          rest =
-              sym (drop-at (bitsOf w (held / 2 ^ (bits - w))) behind w (length-bitsOf w (held / 2 ^ (bits - w))))
-              ∙ ap (drop w) split ∙ drop-drop w (i * w) (run 8 part) ∙ ap (λ (k : ℕ). drop k (run 8 part)) (sym next);
-          same =
-              ap (λ (k : ℕ). take k (set values i v)) (add-one i) ∙ take-suc-set values i v room
-              ∙ ap₂ (λ (l : List ℕ) (x : ℕ). l ++ (x ∷ [])) (t .same)
-              (sym (number-bitsOf w (held / 2 ^ (bits - w)))
-              ∙ ap number (sym (take-at (bitsOf w (held / 2 ^ (bits - w))) behind w (length-bitsOf w (held / 2 ^ (bits - w)))) ∙ ap (take w) split))
-              ∙ sym (cut-more w i (run 8 part)) ∙ ap (λ (k : ℕ). cut w k (run 8 part)) (sym (add-one i))
+        count = let k : at * 8 ≡ i * w + bits = t .count in omega arith;
+        rest =
+            sym (drop-at (bitsOf w (held / 2 ^ (bits - w))) behind w (length-bitsOf w (held / 2 ^ (bits - w))))
+            ∙ ap (drop w) split ∙ drop-drop w (i * w) (run 8 part) ∙ ap (λ (k : ℕ). drop k (run 8 part)) (sym next);
+        same =
+            ap (λ (k : ℕ). take k (set values i v)) (add-one i) ∙ take-suc-set values i v room
+            ∙ ap₂ (λ (l : List ℕ) (x : ℕ). l ++ (x ∷ [])) (t .same)
+            (sym (number-bitsOf w (held / 2 ^ (bits - w)))
+            ∙ ap number (sym (take-at (bitsOf w (held / 2 ^ (bits - w))) behind w (length-bitsOf w (held / 2 ^ (bits - w)))) ∙ ap (take w) split))
+            ∙ sym (cut-more w i (run 8 part)) ∙ ap (λ (k : ℕ). cut w k (run 8 part)) (sym (add-one i));
       }

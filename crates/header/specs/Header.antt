@@ -12,7 +12,7 @@ use Rattle.header.specs.declared.setting.Reading.{Reading}
 use Rattle.header.specs.Counters.{lastSlot, lastStream}
 use Rattle.header.specs.Refusal.{Check, firstOf}
 use Rattle.header.specs.Rows.{pack, rowAt}
-use Rattle.header.specs.Layout.{syncByte, tsmfSync, reservedByte, privateBytes, auxiliaryBytes, reservedBytes, byKind, layout}
+use Rattle.header.specs.Layout.{syncByte, tsmfSync, reservedByte, privateBytes, auxiliaryBytes, reservedBytes, byKind, startRows, layout}
 use Rattle.header.specs.Rules.{pidAllowed, widthChecks, ruleChecks}
 
 -- a header is 188 bytes
@@ -40,15 +40,21 @@ seconds (t ∷ []) = []
 seconds (t ∷ o ∷ ids) = o ∷ seconds ids
 
 -- what stands in each row of the layout
-unfoldable pub sharedContent : ℕ → Setting → List (List ℕ)
-sharedContent pid s =
+unfoldable pub startContent : ℕ → Setting → List (List ℕ)
+startContent pid s =
     one syncByte ∷ one 0 ∷ one pid ∷ one 1 ∷ one (s .«continuity_counter»)
     ∷ one 7 ∷ one tsmfSync
     ∷ one (s .«version_number») ∷ one (s .«slot_allocation_type») ∷ one (s .«frame_type»)
-    ∷ one (s .availability) ∷ one 1
-    ∷ paired (s .«ts_id») (s .«original_network_id»)
-    ∷ s .«receive_status» ∷ one (s .«emergency_indicator») ∷ one 1
-    ∷ s .«relative_ts_number» ∷ []
+    ∷ one (s .availability) ∷ one 1 ∷ []
+
+unfoldable pub identifierContent : Setting → List (List ℕ)
+identifierContent s = paired (s .«ts_id») (s .«original_network_id») ∷ []
+
+unfoldable pub controlContent : Setting → List (List ℕ)
+controlContent s = s .«receive_status» ∷ one (s .«emergency_indicator») ∷ one 1 ∷ []
+
+unfoldable pub numberContent : Setting → List (List ℕ)
+numberContent s = s .«relative_ts_number» ∷ []
 
 unfoldable pub privateContent : Kind → Setting → List (List ℕ)
 privateContent Kind.Plain s = s .«private_data» ∷ []
@@ -57,7 +63,8 @@ privateContent Kind.Extended s =
     ∷ one (s .«number_of_frames») ∷ one (s .«frame_position» .0) ∷ replicate reservedBytes reservedByte ∷ []
 
 unfoldable pub content : Kind → ℕ → Setting → List (List ℕ)
-content kind pid s = sharedContent pid s ++ privateContent kind s
+content kind pid s =
+    startContent pid s ++ (identifierContent s ++ (controlContent s ++ (numberContent s ++ privateContent kind s)))
 
 -- the header's bits before the CRC
 unfoldable pub body : Kind → ℕ → Setting → List ℕ
@@ -78,59 +85,63 @@ value kind p k = getD (row kind p k) 0 0
 unfoldable pub reading : Kind → List ℕ → Setting
 reading kind p =
     record {
-        «continuity_counter» = value kind p 4;
-        «version_number» = value kind p 7;
-        «slot_allocation_type» = value kind p 8;
-        «frame_type» = value kind p 9;
-        availability = value kind p 10;
-        «ts_id» = firsts (row kind p 12);
-        «original_network_id» = seconds (row kind p 12);
-        «receive_status» = row kind p 13;
-        «emergency_indicator» = value kind p 14;
-        «relative_ts_number» = row kind p 16;
-        «private_data» = byKind kind (row kind p 17) (replicate privateBytes 0);
-        auxiliary = byKind kind (replicate auxiliaryBytes 0) (row kind p 17);
-        «group_id» = byKind kind 0 (value kind p 18);
-        «number_of_carriers» = byKind kind 0 (value kind p 19);
-        «carrier_sequence» = byKind kind 0 (value kind p 20);
-        «number_of_frames» = byKind kind 0 (value kind p 21);
-        «frame_position» = record { 0 = byKind kind 0 (value kind p 22) }
+      «continuity_counter» = value kind p 4;
+      «version_number» = value kind p 7;
+      «slot_allocation_type» = value kind p 8;
+      «frame_type» = value kind p 9;
+      availability = value kind p 10;
+      «ts_id» = firsts (row kind p 12);
+      «original_network_id» = seconds (row kind p 12);
+      «receive_status» = row kind p 13;
+      «emergency_indicator» = value kind p 14;
+      «relative_ts_number» = row kind p 16;
+      «private_data» = byKind kind (row kind p 17) (replicate privateBytes 0);
+      auxiliary = byKind kind (replicate auxiliaryBytes 0) (row kind p 17);
+      «group_id» = byKind kind 0 (value kind p 18);
+      «number_of_carriers» = byKind kind 0 (value kind p 19);
+      «carrier_sequence» = byKind kind 0 (value kind p 20);
+      «number_of_frames» = byKind kind 0 (value kind p 21);
+      «frame_position» = record { 0 = byKind kind 0 (value kind p 22) };
     }
 
 -- zeros in every part
 unfoldable pub blank : Setting
 blank =
     record {
-        «continuity_counter» = 0;
-        «version_number» = 0;
-        «slot_allocation_type» = 0;
-        «frame_type» = 0;
-        availability = 0;
-        «ts_id» = replicate lastStream 0;
-        «original_network_id» = replicate lastStream 0;
-        «receive_status» = replicate lastStream 0;
-        «emergency_indicator» = 0;
-        «relative_ts_number» = replicate lastSlot 0;
-        «private_data» = replicate privateBytes 0;
-        auxiliary = replicate auxiliaryBytes 0;
-        «group_id» = 0;
-        «number_of_carriers» = 0;
-        «carrier_sequence» = 0;
-        «number_of_frames» = 0;
-        «frame_position» = record { 0 = 0 }
+      «continuity_counter» = 0;
+      «version_number» = 0;
+      «slot_allocation_type» = 0;
+      «frame_type» = 0;
+      availability = 0;
+      «ts_id» = replicate lastStream 0;
+      «original_network_id» = replicate lastStream 0;
+      «receive_status» = replicate lastStream 0;
+      «emergency_indicator» = 0;
+      «relative_ts_number» = replicate lastSlot 0;
+      «private_data» = replicate privateBytes 0;
+      auxiliary = replicate auxiliaryBytes 0;
+      «group_id» = 0;
+      «number_of_carriers» = 0;
+      «carrier_sequence» = 0;
+      «number_of_frames» = 0;
+      «frame_position» = record { 0 = 0 };
     }
 
 -- what is asked of every call's PID and of the packet or buffer that it is lent
 abbrev pub callChecks : ℕ → ℕ → List Check
 callChecks pid lent = (1, not (eqb lent headerLength)) ∷ (2, not (pidAllowed pid)) ∷ []
 
+-- the one value of a row that both kinds have in the same place
+abbrev pub startValue : List ℕ → ℕ → ℕ
+startValue p k = getD (rowAt startRows k (run 8 p)) 0 0
+
 -- 3 to 7: what the packet itself shows
-unfoldable pub packetChecks : Kind → ℕ → List ℕ → List Check
-packetChecks kind pid p =
-    (3, not (eqb (value kind p 0) syncByte))
-    ∷ (4, not (eqb (value kind p 2) pid))
-    ∷ (5, not (eqb (value kind p 1) 0 && eqb (value kind p 3) 1))
-    ∷ (6, not (eqb (value kind p 6) tsmfSync))
+unfoldable pub packetChecks : ℕ → List ℕ → List Check
+packetChecks pid p =
+    (3, not (eqb (startValue p 0) syncByte))
+    ∷ (4, not (eqb (startValue p 2) pid))
+    ∷ (5, not (eqb (startValue p 1) 0 && eqb (startValue p 3) 1))
+    ∷ (6, not (eqb (startValue p 6) tsmfSync))
     ∷ (7, not (eqb (registerOf (drop 4 p)) 0))
     ∷ []
 
@@ -147,12 +158,12 @@ written kind pid s buffer = cond (eqb (writeRefusal kind pid s (length buffer)) 
 -- the refusal of a read, or 0
 unfoldable pub readRefusal : Kind → ℕ → List ℕ → ℕ
 readRefusal kind pid p =
-    firstOf (callChecks pid (length p) ++ (packetChecks kind pid p ++ ruleChecks kind (reading kind p)))
+    firstOf (callChecks pid (length p) ++ (packetChecks pid p ++ ruleChecks kind (reading kind p)))
 
 -- what a read answers
 unfoldable pub readOf : Kind → ℕ → List ℕ → Reading
 readOf kind pid p =
     record {
-        refusal = readRefusal kind pid p;
-        setting = cond (eqb (readRefusal kind pid p) 0) (reading kind p) blank
+      refusal = readRefusal kind pid p;
+      setting = cond (eqb (readRefusal kind pid p) 0) (reading kind p) blank;
     }

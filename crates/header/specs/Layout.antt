@@ -30,9 +30,9 @@ abbrev pub byKind : {A : Type 0} → Kind → A → A → A
 byKind Kind.Plain p e = p
 byKind Kind.Extended p e = e
 
--- rows 0 to 16, which both kinds have: bytes 0 to 98
-unfoldable pub sharedRows : List Row
-sharedRows =
+-- packet_header, TSMF_sync, version_number and slot_information: bytes 0 to 8
+unfoldable pub startRows : List Row
+startRows =
     -- 0 sync_byte, 1 '000', 2 TSMF_header_PID, 3 '0001', 4 continuity_counter
     (8, 1) ∷ (3, 1) ∷ (13, 1) ∷ (4, 1) ∷ (4, 1)
     -- 5 reserved, 6 TSMF_sync
@@ -40,15 +40,21 @@ sharedRows =
     -- 7 version_number, 8 slot_allocation_type, 9 frame_type
     ∷ (3, 1) ∷ (1, 1) ∷ (4, 1)
     -- 10 availability of the streams, stream 1 highest, 11 reserved
-    ∷ (lastStream, 1) ∷ (1, 1)
-    -- 12 TS_id and original_network_id of each stream
-    ∷ (16, 2 * lastStream)
-    -- 13 receive_status of each stream, 14 emergency_indicator, 15 reserved
-    ∷ (2, lastStream) ∷ (1, 1) ∷ (1, 1)
-    -- 16 relative_TS_number of each slot
-    ∷ (4, lastSlot) ∷ []
+    ∷ (lastStream, 1) ∷ (1, 1) ∷ []
 
--- the private data, bytes 99 to 183
+-- identifiers_information, bytes 9 to 68: 12 TS_id and original_network_id of each stream
+unfoldable pub identifierRows : List Row
+identifierRows = (16, 2 * lastStream) ∷ []
+
+-- control_information, bytes 69 to 72: 13 receive_status of each stream, 14 emergency_indicator, 15 reserved
+unfoldable pub controlRows : List Row
+controlRows = (2, lastStream) ∷ (1, 1) ∷ (1, 1) ∷ []
+
+-- relative_TS_information, bytes 73 to 98: 16 relative_TS_number of each slot
+unfoldable pub numberRows : List Row
+numberRows = (4, lastSlot) ∷ []
+
+-- private_data, bytes 99 to 183
 unfoldable pub privateRows : Kind → List Row
 -- 17 private_data
 privateRows Kind.Plain = (8, privateBytes) ∷ []
@@ -58,4 +64,8 @@ privateRows Kind.Extended =
 
 -- all rows but the CRC, which stands behind them in 32 bits
 unfoldable pub layout : Kind → List Row
-layout kind = sharedRows ++ privateRows kind
+layout kind = startRows ++ (identifierRows ++ (controlRows ++ (numberRows ++ privateRows kind)))
+
+-- the rows that are reserved
+unfoldable pub reservedRows : Kind → List ℕ
+reservedRows kind = 5 ∷ 11 ∷ 15 ∷ byKind kind [] (23 ∷ [])

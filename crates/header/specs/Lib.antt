@@ -5,3 +5,4 @@ pub mod Rows
 pub mod Layout
 pub mod Rules
 pub mod Header
+pub mod Demands

@@ -1,9 +1,10 @@
 -- What a setting has to obey.
-use Prim.Native.Nat.{ℕ, zero, suc, _+_, _-_, _*_, _/_, _%_, _^_}
+use Prim.Native.Nat.{ℕ, zero, suc, _+_, _-_, _*_, _/_, _%_, _^_, _<_}
 use mathlib.Core.Bool.{Bool, cond, not, _&&_, _||_}
 use mathlib.Core.List.{List, [], _∷_, _++_}
 use lib.Dec.{leb, eqb}
 use lib.ListN.{length, getD}
+use Rattle.bits.specs.Fields.{Fit}
 use Rattle.slices.specs.Slices.{anyBelow, someAtLeast}
 use Rattle.header.specs.declared.setting.Kind.{Kind}
 use Rattle.header.specs.declared.setting.Setting.{Setting}
@@ -52,6 +53,17 @@ widthChecks kind s =
     ∷ (17, leb (2 ^ 1) (s .«emergency_indicator»))
     ∷ (17, someAtLeast (2 ^ 4) (s .«relative_ts_number»))
     ∷ absentChecks kind s
+
+-- each field that both kinds have fits its bits: what the checks of 17 leave
+pub record Narrow (s : Setting) : Type 0 where
+  pub counter : s .«continuity_counter» < 2 ^ 4
+  pub version : s .«version_number» < 2 ^ 3
+  pub slot-type : s .«slot_allocation_type» < 2 ^ 1
+  pub frame-type : s .«frame_type» < 2 ^ 4
+  pub streams : s .availability < 2 ^ lastStream
+  pub statuses : Fit 2 (s .«receive_status»)
+  pub emergency : s .«emergency_indicator» < 2 ^ 1
+  pub numbers : Fit 4 (s .«relative_ts_number»)
 
 -- whether the slot's number is that of an unavailable stream
 abbrev pub unavailable : ℕ → ℕ → Bool

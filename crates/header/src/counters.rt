@@ -1,6 +1,7 @@
 // The three counters of J.183, each with its first and last value. The counts stand here and nowhere else in the code.
 ghost use mathlib.Core.Path.{_≡_};
 ghost use Rattle.header.specs.Counters.{firstSlot, lastSlot, firstStream, lastStream, firstPosition, lastPosition, checked, slotAnswer, relativeNumberAnswer, framePositionAnswer};
+ghost use Rattle.header.specs.Rules.{available};
 
 // A slot of a frame. Slot 0 is the header's and is no value of this type.
 pub struct Slot(pub u8);
@@ -29,6 +30,7 @@ pub enum FramePositionAnswer {
 
 impl Slot {
     pub const FIRST: u8 = 1;
+
     pub const LAST: u8 = 52;
 
     pub fn new(n: u8) -> SlotAnswer
@@ -46,6 +48,7 @@ impl Slot {
 
 impl RelativeNumber {
     pub const FIRST: u8 = 1;
+
     pub const LAST: u8 = 15;
 
     pub fn new(n: u8) -> RelativeNumberAnswer
@@ -59,10 +62,25 @@ impl RelativeNumber {
         }
         RelativeNumberAnswer::Is(RelativeNumber(n))
     }
+
+    // Whether the stream is available by a setting's fifteen bits, of which stream 1 has the highest.
+    pub fn is_available(self, availability: u16) -> bool
+        ensures { λ r. ⌜ r ≡ available availability (self .0) ⌝ }
+    {
+        let n = self.0;
+        if n < RelativeNumber::FIRST {
+            return false;
+        }
+        if RelativeNumber::LAST < n {
+            return false;
+        }
+        (availability >> ((RelativeNumber::LAST - n) as u32)) % 2 == 1
+    }
 }
 
 impl FramePosition {
     pub const FIRST: u8 = 1;
+
     pub const LAST: u8 = 4;
 
     pub fn new(n: u8) -> FramePositionAnswer

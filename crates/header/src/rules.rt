@@ -1,7 +1,8 @@
 // What a setting has to obey, each rule with its refusal's number, in the table's order.
 use crate::counters::FramePosition;
 use crate::counters::RelativeNumber;
-use crate::setting::{Kind, Setting};
+use crate::setting::Kind;
+use crate::setting::Setting;
 ghost use mathlib.Core.Path.{_≡_};
 ghost use mathlib.Core.Bool.{not};
 ghost use mathlib.Core.List.{_++_};
@@ -12,7 +13,7 @@ ghost use Rattle.slices.specs.Slices.{anyBelow};
 ghost use Rattle.header.specs.Counters.{lastStream, within};
 ghost use Rattle.header.specs.Layout.{byKind};
 ghost use Rattle.header.specs.Refusal.{firstOf};
-ghost use Rattle.header.specs.Rules.{pidAllowed, available, someUnavailable, samePair, pairTwice, absentChecks, widthChecks, bondingChecks, ruleChecks};
+ghost use Rattle.header.specs.Rules.{pidAllowed, someUnavailable, samePair, pairTwice, absentChecks, widthChecks, bondingChecks, ruleChecks};
 
 // Whether a header PID may be used.
 pub(crate) fn pid_allowed(pid: u16) -> bool
@@ -99,20 +100,6 @@ pub(crate) fn width_refusal(kind: Kind, s: Setting) -> u8
     absent_refusal(kind, s)
 }
 
-// Whether the stream is available: its bit is one, stream 1 having the highest of the fifteen.
-pub(crate) fn is_available(availability: u16, stream: RelativeNumber) -> bool
-    ensures { λ r. ⌜ r ≡ available availability (stream .0) ⌝ }
-{
-    if stream.0 < RelativeNumber::FIRST {
-        return false;
-    }
-    if RelativeNumber::LAST < stream.0 {
-        return false;
-    }
-    let place = (RelativeNumber::LAST - stream.0) as u32;
-    (availability >> place) % 2 == 1
-}
-
 // 9: whether a slot has the number of an unavailable stream.
 fn has_unavailable(availability: u16, numbers: &[u8]) -> bool
     ensures { λ r. ⌜ r ≡ someUnavailable availability (now (numbers .entry)) ⌝ }
@@ -121,7 +108,7 @@ fn has_unavailable(availability: u16, numbers: &[u8]) -> bool
     while i < numbers.len() {
         let n = numbers[i];
         if n != 0 {
-            if !is_available(availability, RelativeNumber(n)) {
+            if !RelativeNumber(n).is_available(availability) {
                 return true;
             }
         }
@@ -142,10 +129,10 @@ fn is_same_pair(availability: u16, ts: &[u16], os: &[u16], i: usize, j: usize) -
     if os[i] != os[j] {
         return false;
     }
-    if !is_available(availability, RelativeNumber((i + 1) as u8)) {
+    if !RelativeNumber((i + 1) as u8).is_available(availability) {
         return false;
     }
-    is_available(availability, RelativeNumber((j + 1) as u8))
+    RelativeNumber((j + 1) as u8).is_available(availability)
 }
 
 // Whether a stream before stream j + 1 makes such a pair with it.

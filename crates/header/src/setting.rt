@@ -1,12 +1,16 @@
 // What a header says, and its two kinds.
-use crate::counters::{FramePosition, RelativeNumber, Slot};
+use crate::counters::FramePosition;
+use crate::counters::RelativeNumber;
+use crate::counters::Slot;
 
 // How many slots carry packets, and how many streams a header knows.
 pub const SLOTS: usize = Slot::LAST as usize;
+
 pub const STREAMS: usize = RelativeNumber::LAST as usize;
 
 // The bytes of the private data; in an extended header the first are auxiliary information.
 pub const PRIVATE_BYTES: usize = 85;
+
 pub const AUXILIARY_BYTES: usize = 28;
 
 // The caller says of each header which it is.

@@ -10,31 +10,31 @@ Inv-loop availability ts os j i₀ i = ?
 abbrev μ-loop : tie.MeasureT-loop
 μ-loop availability ts os j i₀ i = ?
 
--- src/rules.rt:158:5
+-- src/rules.rt:144:5
 loop-holds : tie.Need-loop-holds Inv-loop μ-loop
 loop-holds c = ?
 
--- src/rules.rt:159:12
+-- src/rules.rt:145:12
 is-same-pair-requires : tie.Need-is-same-pair-requires Inv-loop μ-loop
 is-same-pair-requires c κs = ?
 
--- src/rules.rt:160:13
+-- src/rules.rt:146:13
 returns : tie.Need-returns Inv-loop μ-loop
 returns c = ?
 
--- src/rules.rt:162:9
+-- src/rules.rt:148:9
 add-i : tie.Need-add-i Inv-loop μ-loop
 add-i c = ?
 
--- src/rules.rt:158:5
+-- src/rules.rt:144:5
 loop-less : tie.Need-loop-less Inv-loop μ-loop
 loop-less c = ?
 
--- src/rules.rt:158:5
+-- src/rules.rt:144:5
 loop-again : tie.Need-loop-again Inv-loop μ-loop
 loop-again c = ?
 
--- src/rules.rt:152:1
+-- src/rules.rt:138:1
 returns-2 : tie.Need-returns-2 Inv-loop μ-loop
 returns-2 c = ?
 

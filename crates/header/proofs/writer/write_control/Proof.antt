@@ -1,0 +1,76 @@
+use borrow.Author.Needs.{needs}
+use Rattle.header.proofs.writer.write_control.Statement.{statement}
+use Rattle.header.proofs.writer.write_control.Tie as tie
+use Rattle.header.proofs.writer.write_control.Reads as reads
+use Rattle.header.proofs.writer.write_control.Lts as lts
+use Rattle.header.proofs.packed.write_run.Reads as write-run-reads
+
+-- src/writer.rt:57:34
+sub-write-run : tie.Need-sub-write-run
+sub-write-run c = search needs
+
+-- src/writer.rt:57:34
+part-write-run-start : tie.Need-part-write-run-start
+part-write-run-start c = search needs
+
+-- src/writer.rt:57:34
+part-write-run-end : tie.Need-part-write-run-end
+part-write-run-end c = search needs
+
+-- src/writer.rt:57:62
+slice-aggregate-write-run : tie.Need-slice-aggregate-write-run
+slice-aggregate-write-run c = search needs
+
+-- src/writer.rt:57:9
+write-run-requires : tie.Need-write-run-requires
+write-run-requires c κs = ?
+
+-- src/writer.rt:58:27
+mul-part : tie.Need-mul-part
+mul-part c = search needs
+
+-- src/writer.rt:58:26
+cast-part : tie.Need-cast-part
+cast-part c = search needs
+
+-- src/writer.rt:58:50
+mul-part-2 : tie.Need-mul-part-2
+mul-part-2 c = search needs
+
+-- src/writer.rt:58:26
+add-part : tie.Need-add-part
+add-part c = search needs
+
+-- src/writer.rt:58:26
+add-part-2 : tie.Need-add-part-2
+add-part-2 c = search needs
+
+-- src/writer.rt:58:5
+slice-write-part : tie.Need-slice-write-part
+slice-write-part c = search needs
+
+-- src/writer.rt:51:1
+same-length : tie.Need-same-length
+same-length c = search needs
+
+-- src/writer.rt:51:1
+returns : tie.Need-returns
+returns c = ?
+
+pub write-control-spec : {M : Type 1} → statement M
+write-control-spec =
+    tie.close
+    (tie.spec
+    sub-write-run
+    part-write-run-start
+    part-write-run-end
+    slice-aggregate-write-run
+    write-run-requires
+    mul-part
+    cast-part
+    mul-part-2
+    add-part
+    add-part-2
+    slice-write-part
+    same-length
+    returns)

@@ -1,0 +1,74 @@
+-- What demand 2 says of headers, as statements over what the calls answer and leave. The proofs stand apart.
+use Prim.Native.Nat.{ℕ, _-_, _<_, _^_}
+use mathlib.Core.Path.{_≡_}
+use mathlib.Core.Bool.{Bool, true, false}
+use mathlib.Core.List.{List, [], _∷_, _++_}
+use lib.ListN.{length, getD, replicate}
+use Rattle.bits.specs.Fields.{Fit}
+use Rattle.header.specs.declared.setting.Kind.{Kind}
+use Rattle.header.specs.declared.setting.Setting.{Setting}
+use Rattle.header.specs.Counters.{lastSlot, lastStream}
+use Rattle.header.specs.Refusal.{Check}
+use Rattle.header.specs.Rows.{Row}
+use Rattle.header.specs.Layout.{privateBytes, auxiliaryBytes, layout, reservedRows}
+use Rattle.header.specs.Rules.{pidAllowed, widthChecks, ruleChecks}
+use Rattle.header.specs.Header.{headerLength, header, row, reading, writeRefusal, written, readRefusal, readOf}
+
+-- a list of n values of w bits each: what an array of the code can hold
+abbrev pub Array : ℕ → ℕ → List ℕ → Type 0
+Array n w vs = (length vs ≡ n) × Fit w vs
+
+-- what the code's types say of a setting, and nothing more
+pub record OfItsTypes (s : Setting) : Type 0 where
+  pub ts-id : Array lastStream 16 (s .«ts_id»)
+  pub network-id : Array lastStream 16 (s .«original_network_id»)
+  pub statuses : Array lastStream 8 (s .«receive_status»)
+  pub numbers : Array lastSlot 8 (s .«relative_ts_number»)
+  pub privates : Array privateBytes 8 (s .«private_data»)
+  pub auxiliaries : Array auxiliaryBytes 8 (s .auxiliary)
+  pub group : s .«group_id» < 2 ^ 8
+
+-- no condition of the checks holds
+pub data NoneHolds : List Check → Type 0 where
+  none : NoneHolds []
+  more : {n : ℕ} {b : Bool} {cs : List Check} → b ≡ false → NoneHolds cs → NoneHolds ((n, b) ∷ cs)
+
+-- the rules that a setting meets which is to be written with this PID as this kind
+pub record MeetsRules (kind : Kind) (pid : ℕ) (s : Setting) : Type 0 where
+  pub pid-allowed : pidAllowed pid ≡ true
+  pub fields : NoneHolds (widthChecks kind s ++ ruleChecks kind s)
+
+-- 'Every setting that meets the rules is written, and read back equal.'
+abbrev pub WrittenAndReadBack : Type 0
+WrittenAndReadBack =
+    (kind : Kind) (pid : ℕ) (s : Setting) (buffer : List ℕ)
+    → OfItsTypes s → MeetsRules kind pid s → length buffer ≡ headerLength
+    → (writeRefusal kind pid s (length buffer) ≡ 0)
+    × (readOf kind pid (written kind pid s buffer) ≡ record { refusal = 0; setting = s })
+
+-- whether k is among the numbers
+pub data Among (k : ℕ) : List ℕ → Type 0 where
+  here : {ks : List ℕ} → Among k (k ∷ ks)
+  there : {j : ℕ} {ks : List ℕ} → Among k ks → Among k (j ∷ ks)
+
+-- two headers say the same in every row that is not reserved
+abbrev pub SameButReserved : Kind → List ℕ → List ℕ → Type 0
+SameButReserved kind p q =
+    (k : ℕ) → k < length (layout kind) → (Among k (reservedRows kind) → ⊥) → row kind p k ≡ row kind q k
+
+-- the values of a row whose bits are all ones
+abbrev pub allOnes : Row → List ℕ
+allOnes r = replicate (r .1) (2 ^ r .0 - 1)
+
+-- the reserved bits of a header are ones
+abbrev pub ReservedOnes : Kind → List ℕ → Type 0
+ReservedOnes kind p = (k : ℕ) → Among k (reservedRows kind) → row kind p k ≡ allOnes (getD (layout kind) k (0, 0))
+
+-- 'A header that the reader accepts, written again, gives the same bytes but for reserved bits': it is written, it says the same
+-- in every row that is not reserved, and where the reserved bits were ones it is the same header, its CRC too
+abbrev pub WrittenAgain : Type 0
+WrittenAgain =
+    (kind : Kind) (pid : ℕ) (p : List ℕ) → Fit 8 p → readRefusal kind pid p ≡ 0
+    → (writeRefusal kind pid (reading kind p) headerLength ≡ 0)
+    × SameButReserved kind (header kind pid (reading kind p)) p
+    × (ReservedOnes kind p → header kind pid (reading kind p) ≡ p)

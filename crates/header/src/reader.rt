@@ -1,0 +1,151 @@
+// The reader's parts: what a packet of 188 bytes says, read as a header.
+use crate::counters::FramePosition;
+use crate::packed;
+use crate::places::BONDING;
+use crate::places::CONTROL;
+use crate::places::CONTROL_LAST;
+use crate::places::CRC;
+use crate::places::HEADER_LENGTH;
+use crate::places::IDENTIFIERS;
+use crate::places::NUMBERS;
+use crate::places::PRIVATE;
+use crate::places::TSMF_SYNC;
+use crate::setting::AUXILIARY_BYTES;
+use crate::setting::Kind;
+use crate::setting::PRIVATE_BYTES;
+use crate::setting::Reading;
+use crate::setting::SLOTS;
+use crate::setting::STREAMS;
+use crate::setting::Setting;
+ghost use mathlib.Core.Path.{_≡_};
+ghost use Prim.Native.Nat.{_+_, _*_};
+ghost use lib.ListN.{length};
+ghost use Rattle.bits.specs.Fields.{run, cut};
+ghost use Rattle.header.specs.Refusal.{firstOf};
+ghost use Rattle.header.specs.Header.{headerLength, firsts, seconds, packetChecks, reading, blank};
+
+// A number of 16 bits from its two bytes.
+fn word(high: u8, low: u8) -> u16
+    ensures { λ r. ⌜ r ≡ high * 256 + low ⌝ }
+{
+    (high as u16) * 256 + low as u16
+}
+
+// 3 to 7: what the packet itself shows.
+pub(crate) fn packet_refusal(packet: &[u8], pid: u16) -> u8
+    requires { ⌜ length (now packet) ≡ headerLength ⌝ }
+    ensures { λ r. ⌜ r ≡ firstOf (packetChecks pid (now (packet .entry))) ⌝ }
+{
+    if packet[0] != 0x47 {
+        return 3;
+    }
+    if word(packet[1], packet[2]) % 8192 != pid {
+        return 4;
+    }
+    if packet[1] / 32 != 0 {
+        return 5;
+    }
+    if packet[3] / 16 != 1 {
+        return 5;
+    }
+    if word(packet[4], packet[5]) % 8192 != 0x1A86 {
+        return 6;
+    }
+    if crc::register(&packet[TSMF_SYNC..HEADER_LENGTH]) != 0 {
+        return 7;
+    }
+    0
+}
+
+// The identifiers of each stream.
+fn read_identifiers(ts: &mut [u16], os: &mut [u16], part: &[u8])
+    requires { ⌜ (length (now part) ≡ 4 * length (now ts)) × (length (now os) ≡ length (now ts)) ⌝ }
+    ensures { λ _. ⌜ now (ts .exit) ≡ firsts (cut 16 (2 * length (now (ts .entry))) (run 8 (now (part .entry)))) ⌝ }
+    ensures { λ _. ⌜ now (os .exit) ≡ seconds (cut 16 (2 * length (now (ts .entry))) (run 8 (now (part .entry)))) ⌝ }
+{
+    let mut k = 0;
+    let mut at = 0;
+    while k < ts.len() {
+        ts[k] = word(part[at], part[at + 1]);
+        os[k] = word(part[at + 2], part[at + 3]);
+        at += 4;
+        k += 1;
+    }
+}
+
+// What the packet says, field by field; zeros in the part that the kind does not have.
+pub(crate) fn setting_of(packet: &[u8], kind: Kind) -> Setting
+    requires { ⌜ length (now packet) ≡ headerLength ⌝ }
+    ensures { λ r. ⌜ r ≡ reading kind (now (packet .entry)) ⌝ }
+{
+    let mut ts_id = [0u16; STREAMS];
+    let mut original_network_id = [0u16; STREAMS];
+    read_identifiers(
+        &mut ts_id,
+        &mut original_network_id,
+        &packet[IDENTIFIERS..CONTROL],
+    );
+    let mut receive_status = [0u8; STREAMS];
+    packed::read_run(&mut receive_status, &packet[CONTROL..NUMBERS], 2);
+    let mut relative_ts_number = [0u8; SLOTS];
+    packed::read_run(&mut relative_ts_number, &packet[NUMBERS..PRIVATE], 4);
+    let mut private_data = [0u8; PRIVATE_BYTES];
+    let mut auxiliary = [0u8; AUXILIARY_BYTES];
+    let mut bonding = [0u8; 4];
+    match kind {
+        Kind::Plain => {
+            slices::copy(&mut private_data, &packet[PRIVATE..CRC]);
+        }
+        Kind::Extended => {
+            slices::copy(&mut auxiliary, &packet[PRIVATE..BONDING]);
+            slices::copy(&mut bonding, &packet[BONDING..BONDING + 4]);
+        }
+    }
+    Setting {
+        continuity_counter: packet[3] % 16,
+        version_number: packet[6] / 32,
+        slot_allocation_type: packet[6] / 16 % 2,
+        frame_type: packet[6] % 16,
+        availability: word(packet[7], packet[8]) / 2,
+        ts_id,
+        original_network_id,
+        receive_status,
+        emergency_indicator: packet[CONTROL + CONTROL_LAST] / 2 % 2,
+        relative_ts_number,
+        private_data,
+        auxiliary,
+        group_id: bonding[0],
+        number_of_carriers: bonding[1],
+        carrier_sequence: bonding[2],
+        number_of_frames: bonding[3] / 16,
+        frame_position: FramePosition(bonding[3] % 16),
+    }
+}
+
+// A refusal: its number, and zeros in every other part.
+pub(crate) fn refused(refusal: u8) -> Reading
+    ensures { λ r. ⌜ (r .refusal ≡ refusal) × (r .setting ≡ blank) ⌝ }
+{
+    Reading {
+        refusal,
+        setting: Setting {
+            continuity_counter: 0,
+            version_number: 0,
+            slot_allocation_type: 0,
+            frame_type: 0,
+            availability: 0,
+            ts_id: [0u16; STREAMS],
+            original_network_id: [0u16; STREAMS],
+            receive_status: [0u8; STREAMS],
+            emergency_indicator: 0,
+            relative_ts_number: [0u8; SLOTS],
+            private_data: [0u8; PRIVATE_BYTES],
+            auxiliary: [0u8; AUXILIARY_BYTES],
+            group_id: 0,
+            number_of_carriers: 0,
+            carrier_sequence: 0,
+            number_of_frames: 0,
+            frame_position: FramePosition(0),
+        },
+    }
+}
