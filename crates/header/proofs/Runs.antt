@@ -3,8 +3,10 @@ use Prim.Native.Nat.{ℕ, zero, suc, _+_, _-_, _*_, _/_, _%_, _^_, _≤_, _<_}
 use mathlib.Core.Path.{_≡_, refl, sym, ap, ap₂, _∙_, subst}
 use mathlib.Core.List.{List, [], _∷_, _++_, append-assoc, append-nil}
 use native.Mathlib.Omega.{arith}
-use native.Mathlib.Nat.{suc-mul, zero-mul, add-comm, zero-add}
+use native.Mathlib.Nat.{suc-mul, zero-mul, mod-lt, mul-le-mul-right, one-mul}
 use native.Mathlib.Numerals.{add-one}
+use lib.Dec.{lit<}
+use lib.Pow.{shl-exact, shl-lt, pow-mono}
 use lib.ListN.{length, take, drop, getD, set}
 use lib.Seq.{take-suc, take-suc-set, drop-cons, take-at, drop-at, drop-drop}
 use Rattle.bits.specs.Fields.{bitsOf, number, run, cut}
@@ -119,3 +121,36 @@ module _ (values part : List ℕ) (w held bits at i : ℕ) (t : Taken values par
             ∙ ap number (sym (take-at (bitsOf w (held / 2 ^ (bits - w))) behind w (length-bitsOf w (held / 2 ^ (bits - w)))) ∙ ap (take w) split))
             ∙ sym (cut-more w i (run 8 part)) ∙ ap (λ (k : ℕ). cut w k (run 8 part)) (sym (add-one i));
       }
+
+-- ---- the numbers of the two loops
+
+-- a byte moved up by a width does not reach the top of 32 bits
+pub no-wrap : (w x : ℕ) → w ≤ 8 → x % 256 * 2 ^ w % 2 ^ 32 ≡ x % 256 * 2 ^ w
+no-wrap w x h = shl-exact 8 w 32 (mod-lt x (lit< tt)) (omega arith)
+
+pub moved-fits : (w x v : ℕ) → w ≤ 8 → v < 256 → x % 256 * 2 ^ w % 2 ^ 32 + v < 2 ^ 32
+moved-fits w x v h b =
+    let m : x % 256 * 2 ^ w < 2 ^ (8 + w) = shl-lt 8 w (mod-lt x (lit< tt)) in
+    let few : 8 + w ≤ 16 = omega arith in
+    let l : 2 ^ (8 + w) ≤ 2 ^ 16 = pow-mono few in
+    rw (no-wrap w x h) (omega arith)
+
+-- a whole byte of the bits of n values, one more than `at`, has its place
+pub byte-has-room : (n w at bits i : ℕ) → i < n → at * 8 + bits ≡ (i + 1) * w → 8 ≤ bits → at < n * w / 8
+byte-has-room n w at bits i h e full =
+    let all : (i + 1) * w ≤ n * w = mul-le-mul-right w (omega arith) in
+    omega arith
+
+-- while bits are missing of the next of n values, there is a byte more
+pub byte-is-there : (n w at bits i len : ℕ) → i < n → at * 8 ≡ i * w + bits → bits < w → n * w ≤ len * 8 → at < len
+byte-is-there n w at bits i len h e few all =
+    let next : (i + 1) * w ≡ i * w + w = ap (λ (k : ℕ). k * w) (add-one i) ∙ suc-mul i w in
+    let within : (i + 1) * w ≤ n * w = mul-le-mul-right w (omega arith) in
+    omega arith
+
+-- the limit of a width: its power, which is no zero and no more than a byte's
+pub limit-is : (w : ℕ) → w ≤ 8 → 1 * 2 ^ w % 2 ^ 32 ≡ 2 ^ w
+limit-is w h = shl-exact 1 w 32 (lit< tt) (omega arith) ∙ one-mul (2 ^ w)
+
+pub limit-small : (w : ℕ) → w ≤ 8 → 2 ^ w ≤ 256
+limit-small w h = pow-mono h
