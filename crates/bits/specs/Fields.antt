@@ -15,13 +15,11 @@ number (b ∷ bs) = b * 2 ^ length bs + number bs
 
 -- a run of values of w bits each, as bits
 unfoldable pub run : ℕ → List ℕ → List ℕ
-unfolding bitsOf
 run w [] = []
 run w (v ∷ vs) = bitsOf w v ++ run w vs
 
 -- the first n values of w bits each, cut from bits
 unfoldable pub cut : ℕ → ℕ → List ℕ → List ℕ
-unfolding number
 cut w zero bs = []
 cut w (suc n) bs = number (take w bs) ∷ cut w n (drop w bs)
 

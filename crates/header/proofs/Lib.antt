@@ -1,2 +1,6 @@
 mod Checked
 mod Runs
+mod Bytes
+mod Start
+mod Control
+mod Identifiers

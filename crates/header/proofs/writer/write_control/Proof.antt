@@ -1,3 +1,10 @@
+-- `write_control` meets its contract: whole bytes of statuses, and the last byte behind them. Assumes nothing.
+use Prim.Native.Nat.{_*_, _/_, _%_}
+use mathlib.Core.Path.{_≡_, sym, _∙_}
+use native.Mathlib.Omega.{arith}
+use lib.ListN.{length, take}
+use lib.Seq.{length-take-le}
+use Rattle.header.proofs.Control.{control-bits}
 use borrow.Author.Needs.{needs}
 use Rattle.header.proofs.writer.write_control.Statement.{statement}
 use Rattle.header.proofs.writer.write_control.Tie as tie
@@ -23,7 +30,10 @@ slice-aggregate-write-run c = search needs
 
 -- src/writer.rt:57:9
 write-run-requires : tie.Need-write-run-requires
-write-run-requires c κs = ?
+write-run-requires c κs =
+    let start = c .before .before .before .before in
+    let n : length (start .args .s .«receive_status») ≡ 15 = start .pre .0 .1 in
+    (omega arith, (start .pre .1 .statuses, length-take-le 3 (start .args .part .now) (omega (arith, start .pre)) ∙ omega arith))
 
 -- src/writer.rt:58:27
 mul-part : tie.Need-mul-part
@@ -55,7 +65,13 @@ same-length c = search needs
 
 -- src/writer.rt:51:1
 returns : tie.Need-returns
-returns c = ?
+returns c =
+    let start = c .before .before .before .before .before .before .before .before in
+    let call = c .before .before .before .write-run in
+    let n : length (start .args .s .«receive_status») ≡ 15 = start .pre .0 .1 in
+    let left : length (start .args .s .«receive_status») * 2 % 8 ≡ 6 = omega arith in
+    control-bits (start .args .s) (call .last .0) (start .args .part .now) (call .result) (call .kept .0 ∙ length-take-le 3 (start .args .part .now) (omega (arith, start .pre)))
+    (start .pre .0 .0) (start .pre .1 .emergency) (rw left at (call .ensures))
 
 pub write-control-spec : {M : Type 1} → statement M
 write-control-spec =

@@ -1,117 +1,142 @@
+-- `write_identifiers` meets its contract: after k turns the identifiers of the first k streams are written. Assumes nothing.
+use Prim.Native.Nat.{ℕ, _+_, _-_, _*_, _≤_, _<_}
+use mathlib.Core.Path.{_≡_, refl, sym, ap, ap₂, _∙_}
+use mathlib.Core.List.{List}
+use native.Mathlib.Omega.{arith}
+use borrow.Author.Needs.{needs}
+use lib.ListN.{length, take, length-set}
+use lib.Seq.{take-all}
+use Rattle.bits.specs.Fields.{run}
+use Rattle.header.specs.Header.{paired}
+use Rattle.header.proofs.Identifiers.{stream-written}
 use Rattle.header.proofs.writer.write_identifiers.Statement.{statement}
 use Rattle.header.proofs.writer.write_identifiers.Tie as tie
 use Rattle.header.proofs.writer.write_identifiers.Reads as reads
 use Rattle.header.proofs.writer.write_identifiers.Lts as lts
 
 abbrev Inv-loop : tie.InvT-loop
-Inv-loop part₀ ts os k₀ at₀ part k at = ?
+Inv-loop part₀ ts os k₀ at₀ part k at =
+    (k ≤ length ts) × (at ≡ 4 * k) × (length part ≡ length part₀) × (run 8 (take at part) ≡ run 16 (paired (take k ts) (take k os)))
 
 abbrev μ-loop : tie.MeasureT-loop
-μ-loop part₀ ts os k₀ at₀ part k at = ?
+μ-loop part₀ ts os k₀ at₀ part k at = length ts - k
 
 -- src/writer.rt:40:5
 loop-holds : tie.Need-loop-holds Inv-loop μ-loop
-loop-holds c = ?
+unfolding paired run
+loop-holds c = (omega arith, omega arith, refl, refl)
 
 -- src/writer.rt:41:21
 mul-part : tie.Need-mul-part Inv-loop μ-loop
-mul-part c = ?
+mul-part c = search needs
 
 -- src/writer.rt:41:21
 shared-slice-read-part : tie.Need-shared-slice-read-part Inv-loop μ-loop
-shared-slice-read-part c = ?
+shared-slice-read-part c = search needs
 
 -- src/writer.rt:41:20
 cast-part : tie.Need-cast-part Inv-loop μ-loop
-cast-part c = ?
+cast-part c = omega (arith, c .shared-slice-known .given (c .before .before .loop .k))
 
 -- src/writer.rt:41:9
 slice-write-part : tie.Need-slice-write-part Inv-loop μ-loop
-slice-write-part c = ?
+slice-write-part c = omega arith
 
 -- src/writer.rt:42:25
 mul-part-2 : tie.Need-mul-part-2 Inv-loop μ-loop
-mul-part-2 c = ?
+mul-part-2 c = search needs
 
 -- src/writer.rt:42:25
 shared-slice-read-part-2 : tie.Need-shared-slice-read-part-2 Inv-loop μ-loop
-shared-slice-read-part-2 c = ?
+shared-slice-read-part-2 c = search needs
 
 -- src/writer.rt:42:24
 cast-part-2 : tie.Need-cast-part-2 Inv-loop μ-loop
-cast-part-2 c = ?
+cast-part-2 c = search needs
 
 -- src/writer.rt:42:14
 add-part : tie.Need-add-part Inv-loop μ-loop
-add-part c = ?
+add-part c = search needs
 
 -- src/writer.rt:42:9
 slice-write-part-2 : tie.Need-slice-write-part-2 Inv-loop μ-loop
-slice-write-part-2 c = ?
+slice-write-part-2 c = simp length-set (omega arith)
 
 -- src/writer.rt:43:25
 mul-part-3 : tie.Need-mul-part-3 Inv-loop μ-loop
-mul-part-3 c = ?
+mul-part-3 c = search needs
 
 -- src/writer.rt:43:25
 shared-slice-read-part-3 : tie.Need-shared-slice-read-part-3 Inv-loop μ-loop
-shared-slice-read-part-3 c = ?
+shared-slice-read-part-3 c = search needs
 
 -- src/writer.rt:43:24
 cast-part-3 : tie.Need-cast-part-3 Inv-loop μ-loop
-cast-part-3 c = ?
+cast-part-3 c = omega (arith, c .shared-slice-known3 .given (c .before .before .before .before .loop .k))
 
 -- src/writer.rt:43:14
 add-part-2 : tie.Need-add-part-2 Inv-loop μ-loop
-add-part-2 c = ?
+add-part-2 c = search needs
 
 -- src/writer.rt:43:9
 slice-write-part-3 : tie.Need-slice-write-part-3 Inv-loop μ-loop
-slice-write-part-3 c = ?
+slice-write-part-3 c = simp length-set (omega arith)
 
 -- src/writer.rt:44:25
 mul-part-4 : tie.Need-mul-part-4 Inv-loop μ-loop
-mul-part-4 c = ?
+mul-part-4 c = search needs
 
 -- src/writer.rt:44:25
 shared-slice-read-part-4 : tie.Need-shared-slice-read-part-4 Inv-loop μ-loop
-shared-slice-read-part-4 c = ?
+shared-slice-read-part-4 c = search needs
 
 -- src/writer.rt:44:24
 cast-part-4 : tie.Need-cast-part-4 Inv-loop μ-loop
-cast-part-4 c = ?
+cast-part-4 c = search needs
 
 -- src/writer.rt:44:14
 add-part-3 : tie.Need-add-part-3 Inv-loop μ-loop
-add-part-3 c = ?
+add-part-3 c = search needs
 
 -- src/writer.rt:44:9
 slice-write-part-4 : tie.Need-slice-write-part-4 Inv-loop μ-loop
-slice-write-part-4 c = ?
+slice-write-part-4 c = simp length-set (omega arith)
 
 -- src/writer.rt:45:9
 add-at : tie.Need-add-at Inv-loop μ-loop
-add-at c = ?
+add-at c = search needs
 
 -- src/writer.rt:46:9
 add-k : tie.Need-add-k Inv-loop μ-loop
-add-k c = ?
+add-k c = search needs
 
 -- src/writer.rt:40:5
 loop-less : tie.Need-loop-less Inv-loop μ-loop
-loop-less c = ?
+loop-less c = search needs
 
 -- src/writer.rt:40:5
 loop-again : tie.Need-loop-again Inv-loop μ-loop
-loop-again c = ?
+loop-again c =
+    let at = c .before .before .before .before .before .loop in
+    let args = c .before .before .before .before .before .before .args in
+    let pre = c .before .before .before .before .before .before .pre in
+    (omega arith, omega arith, simp length-set (at .inv .2),
+        stream-written (at .part) (args .ts .now) (args .os .now) (at .k) (at .at) (omega arith) (omega (arith, pre)) (omega (arith, pre)) (at .inv .3))
 
 -- src/writer.rt:34:1
 same-length : tie.Need-same-length Inv-loop μ-loop
-same-length c = ?
+same-length c = c .before .loop .inv .2
 
 -- src/writer.rt:34:1
 returns : tie.Need-returns Inv-loop μ-loop
-returns c = ?
+returns c =
+    let at = c .before .loop in
+    let args = c .before .before .args in
+    let pre = c .before .before .pre in
+    let n : at .k ≡ length (args .ts .now) = omega arith in
+    let all : length (at .part) ≤ at .at = omega (arith, pre) in
+    ap (run 8) (sym (take-all (at .at) (at .part) all)) ∙ at .inv .3
+    ∙ ap₂ (λ (x y : List ℕ). run 16 (paired x y)) (take-all (at .k) (args .ts .now) (omega arith)) (take-all (at .k) (args .os .now) (omega (arith, pre)))
 
 pub write-identifiers-spec : {M : Type 1} → statement M
 write-identifiers-spec =

@@ -1,3 +1,10 @@
+-- `write_start` meets its contract: its nine stores are the header's first bytes. Assumes nothing.
+use mathlib.Core.Path.{ap, _∙_}
+use native.Mathlib.Omega.{arith}
+use lib.ListN.{length-set}
+use Rattle.bits.specs.Fields.{run}
+use Rattle.header.proofs.Bytes.{stored}
+use Rattle.header.proofs.Start.{startBytes, start-bits}
 use borrow.Author.Needs.{needs}
 use Rattle.header.proofs.writer.write_start.Statement.{statement}
 use Rattle.header.proofs.writer.write_start.Tie as tie
@@ -30,15 +37,15 @@ add-part c = search needs
 
 -- src/writer.rt:25:5
 slice-write-part-4 : tie.Need-slice-write-part-4
-slice-write-part-4 c = ?
+slice-write-part-4 c = simp length-set (omega arith)
 
 -- src/writer.rt:26:5
 slice-write-part-5 : tie.Need-slice-write-part-5
-slice-write-part-5 c = ?
+slice-write-part-5 c = simp length-set (omega arith)
 
 -- src/writer.rt:27:5
 slice-write-part-6 : tie.Need-slice-write-part-6
-slice-write-part-6 c = ?
+slice-write-part-6 c = simp length-set (omega arith)
 
 -- src/writer.rt:28:15
 mul-part : tie.Need-mul-part
@@ -58,7 +65,7 @@ add-part-3 c = search needs
 
 -- src/writer.rt:28:5
 slice-write-part-7 : tie.Need-slice-write-part-7
-slice-write-part-7 c = ?
+slice-write-part-7 c = simp length-set (omega arith)
 
 -- src/writer.rt:29:15
 cast-part-3 : tie.Need-cast-part-3
@@ -66,7 +73,7 @@ cast-part-3 c = search needs
 
 -- src/writer.rt:29:5
 slice-write-part-8 : tie.Need-slice-write-part-8
-slice-write-part-8 c = ?
+slice-write-part-8 c = simp length-set (omega arith)
 
 -- src/writer.rt:30:16
 mul-part-3 : tie.Need-mul-part-3
@@ -82,15 +89,18 @@ cast-part-4 c = search needs
 
 -- src/writer.rt:30:5
 slice-write-part-9 : tie.Need-slice-write-part-9
-slice-write-part-9 c = ?
+slice-write-part-9 c = simp length-set (omega arith)
 
 -- src/writer.rt:17:1
 same-length : tie.Need-same-length
-same-length c = ?
+same-length c = simp length-set
 
 -- src/writer.rt:17:1
 returns : tie.Need-returns
-returns c = ?
+returns c =
+    let start = c .before .before .before .before .before .before in
+    let args = start .args in
+    ap (run 8) (stored (startBytes (args .pid) (args .s)) (args .part .now) (start .pre .0 .0)) ∙ start-bits (args .pid) (args .s) (start .pre .0 .1) (start .pre .1)
 
 pub write-start-spec : {M : Type 1} → statement M
 write-start-spec =

@@ -1,3 +1,12 @@
+-- `write_word` meets its contract: its four stores are the number's bytes. Assumes nothing.
+use Prim.Native.Nat.{ℕ, _/_, _%_}
+use mathlib.Core.Path.{_≡_, sym, ap, _∙_}
+use mathlib.Core.List.{List, [], _∷_, _++_, append-nil}
+use native.Mathlib.Omega.{arith}
+use lib.Pow.{shr-shr}
+use Rattle.bits.specs.Fields.{bitsOf, run}
+use Rattle.bits.proofs.Laws.{bitsOf-split}
+use Rattle.header.proofs.Bytes.{stored, two-bytes, split}
 use borrow.Author.Needs.{needs}
 use Rattle.header.proofs.writer.write_word.Statement.{statement}
 use Rattle.header.proofs.writer.write_word.Tie as tie
@@ -42,7 +51,15 @@ same-length c = search needs
 
 -- src/writer.rt:111:1
 returns : tie.Need-returns
-returns c = ?
+unfolding run
+returns c =
+    let w = c .args .word in
+    ap (run 8) (stored (w / 16777216 ∷ w / 65536 % 256 ∷ w / 256 % 256 ∷ w % 256 ∷ []) (c .args .part .now) (c .pre))
+    ∙ sym
+    (bitsOf-split 16 16 w
+    ∙ split (w / 65536) (w / 16777216) (w / 65536 % 256) (omega arith) (omega arith) (bitsOf 16 w)
+    ∙ ap (λ (l : List ℕ). bitsOf 8 (w / 16777216) ++ (bitsOf 8 (w / 65536 % 256) ++ l))
+    (sym (append-nil (bitsOf 16 w)) ∙ split w (w / 256 % 256) (w % 256) (omega arith) (omega arith) []))
 
 pub write-word-spec : {M : Type 1} → statement M
 write-word-spec =

@@ -1,0 +1,36 @@
+-- Fields of a few bits as whole bytes: what byte-wise code needs of the bit-wise definition. Assumes nothing.
+use Prim.Native.Nat.{ℕ, zero, suc, _+_, _-_, _*_, _/_, _%_, _^_, _≤_, _<_}
+use mathlib.Core.Path.{_≡_, refl, sym, ap, ap₂, _∙_}
+use mathlib.Core.List.{List, [], _∷_, _++_, append-assoc, append-nil}
+use native.Mathlib.Omega.{arith}
+use lib.ListN.{length, take, drop, drop-of-length-le}
+use lib.Seq.{sets, sets-eq}
+use Rattle.bits.specs.Fields.{bitsOf, run}
+use Rattle.bits.proofs.Laws.{bitsOf-split, bitsOf-join, bitsOf-mod}
+
+-- what one store after another leaves where they fill the whole list
+pub stored : (vs l : List ℕ) → length l ≡ length vs → sets l 0 vs ≡ vs
+stored vs l e =
+    let whole : length l ≤ 0 + length vs = omega arith in
+    sets-eq vs l 0 (omega arith) ∙ ap (λ (r : List ℕ). vs ++ r) (drop-of-length-le l whole) ∙ append-nil vs
+
+-- numbers that agree in their lowest byte are the same byte
+pub byte : (a b : ℕ) → a % 256 ≡ b % 256 → bitsOf 8 a ≡ bitsOf 8 b
+byte a b e = sym (bitsOf-mod 8 0 a) ∙ ap (bitsOf 8) e ∙ bitsOf-mod 8 0 b
+
+-- sixteen bits are two bytes
+pub two-bytes : (x a b : ℕ) → a % 256 ≡ x / 256 % 256 → b % 256 ≡ x % 256 → bitsOf 16 x ≡ bitsOf 8 a ++ bitsOf 8 b
+two-bytes x a b p q =
+    bitsOf-split 8 8 x ∙ ap₂ (λ (l r : List ℕ). l ++ r) (sym (byte a (x / 256) p)) (sym (byte b x q))
+
+-- two fields before others
+pub joined : (v w hi : ℕ) {lo : ℕ} → lo < 2 ^ w → {rest rest′ : List ℕ} → rest ≡ rest′
+    → bitsOf v hi ++ (bitsOf w lo ++ rest) ≡ bitsOf (v + w) (hi * 2 ^ w + lo) ++ rest′
+joined v w hi {lo} h {rest} e =
+    sym (append-assoc (bitsOf v hi) (bitsOf w lo) rest) ∙ ap₂ (λ (l r : List ℕ). l ++ r) (bitsOf-join v w hi h) e
+
+-- two bytes before others
+pub split : (x a b : ℕ) → a % 256 ≡ x / 256 % 256 → b % 256 ≡ x % 256 → (rest : List ℕ)
+    → bitsOf 16 x ++ rest ≡ bitsOf 8 a ++ (bitsOf 8 b ++ rest)
+split x a b p q rest =
+    ap (λ (l : List ℕ). l ++ rest) (two-bytes x a b p q) ∙ append-assoc (bitsOf 8 a) (bitsOf 8 b) rest
