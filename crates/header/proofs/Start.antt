@@ -29,15 +29,15 @@ start-bits pid s h n =
     let f = s .«frame_type» in
     let k = s .«continuity_counter» in
     let last : bitsOf 15 a ++ bitsOf 1 1 ≡ bitsOf 8 (a / 128) ++ bitsOf 8 (a % 128 * 2 + 1) =
-        bitsOf-join 15 1 a (lit< tt) ∙ two-bytes (a * 2 + 1) (a / 128) (a % 128 * 2 + 1) (omega arith) (omega arith) in
+    bitsOf-join 15 1 a (lit< tt) ∙ two-bytes (a * 2 + 1) (a / 128) (a % 128 * 2 + 1) (omega arith) (omega arith) in
     let types : bitsOf 3 v ++ (bitsOf 1 t ++ (bitsOf 4 f ++ (bitsOf 15 a ++ bitsOf 1 1)))
-        ≡ bitsOf 8 (v * 32 + t * 16 + f) ++ (bitsOf 8 (a / 128) ++ bitsOf 8 (a % 128 * 2 + 1)) =
-        joined 3 1 v (n .slot-type) refl ∙ joined 4 4 (v * 2 ^ 1 + t) (n .frame-type) last
-        ∙ ap (λ (x : ℕ). bitsOf 8 x ++ (bitsOf 8 (a / 128) ++ bitsOf 8 (a % 128 * 2 + 1))) (omega arith) in
+    ≡ bitsOf 8 (v * 32 + t * 16 + f) ++ (bitsOf 8 (a / 128) ++ bitsOf 8 (a % 128 * 2 + 1)) =
+    joined 3 1 v (n .slot-type) refl ∙ joined 4 4 (v * 2 ^ 1 + t) (n .frame-type) last
+    ∙ ap (λ (x : ℕ). bitsOf 8 x ++ (bitsOf 8 (a / 128) ++ bitsOf 8 (a % 128 * 2 + 1))) (omega arith) in
     let rest = bitsOf 8 (v * 32 + t * 16 + f) ++ (bitsOf 8 (a / 128) ++ bitsOf 8 (a % 128 * 2 + 1)) in
     let sync : bitsOf 3 7 ++ (bitsOf 13 0x1A86 ++ (bitsOf 3 v ++ (bitsOf 1 t ++ (bitsOf 4 f ++ (bitsOf 15 a ++ bitsOf 1 1)))))
-        ≡ bitsOf 8 0xFA ++ (bitsOf 8 0x86 ++ rest) =
-        joined 3 13 7 (lit< tt) types ∙ split 0xFA86 0xFA 0x86 refl refl rest in
+    ≡ bitsOf 8 0xFA ++ (bitsOf 8 0x86 ++ rest) =
+    joined 3 13 7 (lit< tt) types ∙ split 0xFA86 0xFA 0x86 refl refl rest in
     let counter = joined 4 4 1 (n .counter) sync in
     let pids = joined 3 13 0 h counter ∙ split (0 * 2 ^ 13 + pid) (pid / 256) (pid % 256) (omega arith) (omega arith) _ in
     simp append-nil (ap (λ (l : List ℕ). bitsOf 8 0x47 ++ l) (sym pids))

@@ -5,4 +5,5 @@ pub mod Rows
 pub mod Layout
 pub mod Rules
 pub mod Header
+pub mod Bytes
 pub mod Demands

@@ -20,4 +20,6 @@ pub(crate) const PRIVATE: usize = NUMBERS + SLOTS * 4 / 8;
 // Of an extended header: group_id, number_of_carriers, carrier_sequence, then number_of_frames and frame_position.
 pub(crate) const BONDING: usize = PRIVATE + AUXILIARY_BYTES;
 
+pub(crate) const BONDING_BYTES: usize = 4;
+
 pub(crate) const CRC: usize = PRIVATE + PRIVATE_BYTES;

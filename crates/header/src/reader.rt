@@ -1,15 +1,7 @@
 // The reader's parts: what a packet of 188 bytes says, read as a header.
 use crate::counters::FramePosition;
 use crate::packed;
-use crate::places::BONDING;
-use crate::places::CONTROL;
-use crate::places::CONTROL_LAST;
-use crate::places::CRC;
-use crate::places::HEADER_LENGTH;
-use crate::places::IDENTIFIERS;
-use crate::places::NUMBERS;
-use crate::places::PRIVATE;
-use crate::places::TSMF_SYNC;
+use crate::places;
 use crate::setting::AUXILIARY_BYTES;
 use crate::setting::Kind;
 use crate::setting::PRIVATE_BYTES;
@@ -51,7 +43,7 @@ pub(crate) fn packet_refusal(packet: &[u8], pid: u16) -> u8
     if word(packet[4], packet[5]) % 8192 != 0x1A86 {
         return 6;
     }
-    if crc::register(&packet[TSMF_SYNC..HEADER_LENGTH]) != 0 {
+    if crc::register(&packet[places::TSMF_SYNC..places::HEADER_LENGTH]) != 0 {
         return 7;
     }
     0
@@ -83,22 +75,33 @@ pub(crate) fn setting_of(packet: &[u8], kind: Kind) -> Setting
     read_identifiers(
         &mut ts_id,
         &mut original_network_id,
-        &packet[IDENTIFIERS..CONTROL],
+        &packet[places::IDENTIFIERS..places::CONTROL],
     );
     let mut receive_status = [0u8; STREAMS];
-    packed::read_run(&mut receive_status, &packet[CONTROL..NUMBERS], 2);
+    packed::read_run(
+        &mut receive_status,
+        &packet[places::CONTROL..places::NUMBERS],
+        2,
+    );
     let mut relative_ts_number = [0u8; SLOTS];
-    packed::read_run(&mut relative_ts_number, &packet[NUMBERS..PRIVATE], 4);
+    packed::read_run(
+        &mut relative_ts_number,
+        &packet[places::NUMBERS..places::PRIVATE],
+        4,
+    );
     let mut private_data = [0u8; PRIVATE_BYTES];
     let mut auxiliary = [0u8; AUXILIARY_BYTES];
-    let mut bonding = [0u8; 4];
+    let mut bonding = [0u8; places::BONDING_BYTES];
     match kind {
         Kind::Plain => {
-            slices::copy(&mut private_data, &packet[PRIVATE..CRC]);
+            slices::copy(&mut private_data, &packet[places::PRIVATE..places::CRC]);
         }
         Kind::Extended => {
-            slices::copy(&mut auxiliary, &packet[PRIVATE..BONDING]);
-            slices::copy(&mut bonding, &packet[BONDING..BONDING + 4]);
+            slices::copy(&mut auxiliary, &packet[places::PRIVATE..places::BONDING]);
+            slices::copy(
+                &mut bonding,
+                &packet[places::BONDING..places::BONDING + places::BONDING_BYTES],
+            );
         }
     }
     Setting {
@@ -110,7 +113,7 @@ pub(crate) fn setting_of(packet: &[u8], kind: Kind) -> Setting
         ts_id,
         original_network_id,
         receive_status,
-        emergency_indicator: packet[CONTROL + CONTROL_LAST] / 2 % 2,
+        emergency_indicator: packet[places::CONTROL + places::CONTROL_LAST] / 2 % 2,
         relative_ts_number,
         private_data,
         auxiliary,

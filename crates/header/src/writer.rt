@@ -1,13 +1,6 @@
 // The writer's parts: each fills its own bytes of the lent buffer, straight from the setting.
 use crate::packed;
-use crate::places::CONTROL;
-use crate::places::CONTROL_LAST;
-use crate::places::CRC;
-use crate::places::HEADER_LENGTH;
-use crate::places::IDENTIFIERS;
-use crate::places::NUMBERS;
-use crate::places::PRIVATE;
-use crate::places::TSMF_SYNC;
+use crate::places;
 use crate::setting::AUXILIARY_BYTES;
 use crate::setting::Kind;
 use crate::setting::PRIVATE_BYTES;
@@ -19,8 +12,9 @@ ghost use Rattle.bits.specs.Fields.{bitsOf, run};
 ghost use Rattle.header.specs.Counters.{lastStream, lastSlot};
 ghost use Rattle.header.specs.Refusal.{firstOf};
 ghost use Rattle.header.specs.Rows.{pack};
-ghost use Rattle.header.specs.Layout.{privateBytes, startRows, controlRows, privateRows};
+ghost use Rattle.header.specs.Layout.{privateBytes, auxiliaryBytes, startRows, controlRows, privateRows};
 ghost use Rattle.header.specs.Rules.{Narrow, bondingChecks};
+ghost use Rattle.header.specs.Bytes.{bondingBytes};
 ghost use Rattle.header.specs.Header.{headerLength, startContent, paired, controlContent, privateContent, body, header};
 
 // Bytes 0 to 8: packet header, sync, version, types and availability.
@@ -64,24 +58,39 @@ fn write_control(part: &mut [u8], s: Setting)
     ensures { λ _. ⌜ run 8 (now (part .exit)) ≡ pack controlRows (controlContent s) ⌝ }
 {
     let receive_status = s.receive_status;
-    let left = packed::write_run(&mut part[0..CONTROL_LAST], &receive_status, 2);
-    part[CONTROL_LAST] = (left % 64 * 4) as u8 + s.emergency_indicator * 2 + 1;
+    let left = packed::write_run(&mut part[0..places::CONTROL_LAST], &receive_status, 2);
+    part[places::CONTROL_LAST] = (left % 64 * 4) as u8 + s.emergency_indicator * 2 + 1;
 }
 
-// The bonding fields of an extended header behind its auxiliary information, and reserved bytes behind them.
+// The bonding fields of an extended header.
+fn write_bonding(part: &mut [u8], s: Setting)
+    requires { ⌜ length (now part) ≡ 4 ⌝ }
+    requires { ⌜ firstOf (bondingChecks Kind.Extended s) ≡ 0 ⌝ }
+    ensures { λ _. ⌜ now (part .exit) ≡ bondingBytes s ⌝ }
+{
+    let position = s.frame_position;
+    part[0] = s.group_id;
+    part[1] = s.number_of_carriers;
+    part[2] = s.carrier_sequence;
+    part[3] = s.number_of_frames * 16 + position.0;
+}
+
+// Auxiliary information, the bonding fields and reserved bytes.
 fn write_extended(part: &mut [u8], s: Setting)
-    requires { ⌜ length (now part) ≡ privateBytes ⌝ }
+    requires { ⌜ (length (now part) ≡ privateBytes) × (length (s .auxiliary) ≡ auxiliaryBytes) ⌝ }
     requires { ⌜ firstOf (bondingChecks Kind.Extended s) ≡ 0 ⌝ }
     ensures { λ _. ⌜ run 8 (now (part .exit)) ≡ pack (privateRows Kind.Extended) (privateContent Kind.Extended s) ⌝ }
 {
     let auxiliary = s.auxiliary;
     slices::copy(&mut part[0..AUXILIARY_BYTES], &auxiliary);
-    let position = s.frame_position;
-    part[AUXILIARY_BYTES] = s.group_id;
-    part[AUXILIARY_BYTES + 1] = s.number_of_carriers;
-    part[AUXILIARY_BYTES + 2] = s.carrier_sequence;
-    part[AUXILIARY_BYTES + 3] = s.number_of_frames * 16 + position.0;
-    slices::fill(&mut part[AUXILIARY_BYTES + 4..PRIVATE_BYTES], 0xFF);
+    write_bonding(
+        &mut part[AUXILIARY_BYTES..AUXILIARY_BYTES + places::BONDING_BYTES],
+        s,
+    );
+    slices::fill(
+        &mut part[AUXILIARY_BYTES + places::BONDING_BYTES..PRIVATE_BYTES],
+        0xFF,
+    );
 }
 
 fn write_private(part: &mut [u8], kind: Kind, s: Setting)
@@ -107,18 +116,22 @@ fn write_body(part: &mut [u8], pid: u16, kind: Kind, s: Setting)
     requires { ⌜ firstOf (bondingChecks kind s) ≡ 0 ⌝ }
     ensures { λ _. ⌜ run 8 (now (part .exit)) ≡ body kind pid s ⌝ }
 {
-    write_start(&mut part[0..IDENTIFIERS], pid, s);
+    write_start(&mut part[0..places::IDENTIFIERS], pid, s);
     let ts_id = s.ts_id;
     let original_network_id = s.original_network_id;
     write_identifiers(
-        &mut part[IDENTIFIERS..CONTROL],
+        &mut part[places::IDENTIFIERS..places::CONTROL],
         &ts_id,
         &original_network_id,
     );
-    write_control(&mut part[CONTROL..NUMBERS], s);
+    write_control(&mut part[places::CONTROL..places::NUMBERS], s);
     let relative_ts_number = s.relative_ts_number;
-    packed::write_run(&mut part[NUMBERS..PRIVATE], &relative_ts_number, 4);
-    write_private(&mut part[PRIVATE..CRC], kind, s);
+    packed::write_run(
+        &mut part[places::NUMBERS..places::PRIVATE],
+        &relative_ts_number,
+        4,
+    );
+    write_private(&mut part[places::PRIVATE..places::CRC], kind, s);
 }
 
 // A number of 32 bits, high byte first.
@@ -139,7 +152,7 @@ pub(crate) fn write_header(buffer: &mut [u8], pid: u16, kind: Kind, s: Setting)
     requires { ⌜ firstOf (bondingChecks kind s) ≡ 0 ⌝ }
     ensures { λ _. ⌜ now (buffer .exit) ≡ header kind pid s ⌝ }
 {
-    write_body(&mut buffer[0..CRC], pid, kind, s);
-    let word = crc::register(&buffer[TSMF_SYNC..CRC]);
-    write_word(&mut buffer[CRC..HEADER_LENGTH], word);
+    write_body(&mut buffer[0..places::CRC], pid, kind, s);
+    let word = crc::register(&buffer[places::TSMF_SYNC..places::CRC]);
+    write_word(&mut buffer[places::CRC..places::HEADER_LENGTH], word);
 }

@@ -1,11 +1,11 @@
 -- A list whose front is being overwritten, one element a turn: what a loop that fills a slice needs. Assumes nothing.
 use Prim.Native.Nat.{ℕ, zero, suc, _+_, _-_, _≤_, _<_}
-use mathlib.Core.Path.{_≡_, refl, sym, ap, _∙_, subst}
+use mathlib.Core.Path.{_≡_, refl, sym, ap, ap₂, _∙_}
 use mathlib.Core.List.{List, [], _∷_, _++_, append-assoc, append-nil}
 use native.Mathlib.Omega.{arith}
 use native.Mathlib.Numerals.{add-one}
-use lib.ListN.{length, drop, set, getD, length-append, length-drop, drop-of-length-le}
-use lib.Seq.{drop-cons, set-at, append-snoc}
+use lib.ListN.{length, take, drop, set, getD, length-append, length-drop, drop-of-length-le}
+use lib.Seq.{drop-cons, set-at, append-snoc, take-at, drop-at, drop-drop}
 
 -- d is d₀ with the i elements of `done` over its front
 pub record Front (d₀ done d : List ℕ) (i : ℕ) : Type 0 where
@@ -33,3 +33,16 @@ front-length d₀ done d i f h =
 
 pub front-all : (d₀ done d : List ℕ) (i : ℕ) → Front d₀ done d i → length d₀ ≤ i → d ≡ done
 front-all d₀ done d i f h = f .is ∙ ap (λ (l : List ℕ). done ++ l) (drop-of-length-le d₀ h) ∙ append-nil done
+
+-- a part behind the front that was lent and came back as ys, k elements from i on
+pub front-part : (d₀ done d ys : List ℕ) (i k : ℕ) → Front d₀ done d i → length ys ≡ k
+    → Front d₀ (done ++ ys) (take i d ++ (ys ++ drop k (drop i d))) (i + k)
+front-part d₀ done d ys i k f l =
+    record {
+      is =
+          ap₂ (λ (x y : List ℕ). x ++ (ys ++ y))
+          (ap (take i) (f .is) ∙ take-at done (drop i d₀) i (f .long))
+          (ap (drop k) (ap (drop i) (f .is) ∙ drop-at done (drop i d₀) i (f .long)) ∙ drop-drop k i d₀)
+          ∙ sym (append-assoc done ys (drop (i + k) d₀));
+      long = length-append done ys ∙ ap₂ _+_ (f .long) l;
+    }

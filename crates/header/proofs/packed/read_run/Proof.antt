@@ -67,16 +67,18 @@ add-at c = let r = there (c .before) in let l = c .before .before .before .befor
 filled : (c : tie.Joined1 Inv-loop μ-loop) →
     (c .before .before .before .args .width ≤ c .if1 .bits) × (c .if1 .bits < c .before .before .before .args .width + 8)
     × Taken (c .before .before .loop .values) (c .before .before .before .args .part .now) (c .before .before .before .args .width)
-        (c .if1 .held) (c .if1 .bits) (c .if1 .at) (c .before .before .loop .i)
+    (c .if1 .held) (c .if1 .bits) (c .if1 .at) (c .before .before .loop .i)
 filled c =
     let at = c .before .before .loop in
     let args = c .before .before .before .args in
     ⊎-elim
     (λ w.
-        rw (w .2, w .3, w .4)
-        (omega arith, omega arith,
-            taken-in (at .values) (args .part .now) (args .width) (at .held) (at .bits) (at .at) (at .i) (at .inv .3) (at .inv .1)
-            (there (record { before = c .before; if1 = w .0 })) (w .1 .given (at .at) .fits)))
+    rw (w .2, w .3, w .4) (
+      omega arith,
+      omega arith,
+      taken-in (at .values) (args .part .now) (args .width) (at .held) (at .bits) (at .at) (at .i) (at .inv .3) (at .inv .1)
+          (there (record { before = c .before; if1 = w .0 })) (w .1 .given (at .at) .fits),
+    ))
     (λ w. rw (w .1, w .2, w .3) (omega arith, omega arith, at .inv .3))
     (c .if1 .came)
 
@@ -121,9 +123,12 @@ loop-again c =
     let at = c .before .before .before .before .loop in
     let args = c .before .before .before .before .before .args in
     let pre = c .before .before .before .before .before .pre in
-    let f = filled (c .before .before) in
-    (omega arith, omega arith, simp length-set (at .inv .2),
-        rw (limit-is (args .width) (pre .0)) (taken-out (at .values) (args .part .now) (args .width) _ _ _ (at .i) (f .2) (f .0) (omega arith)))
+    let f = filled (c .before .before) in (
+      omega arith,
+      omega arith,
+      simp length-set (at .inv .2),
+      rw (limit-is (args .width) (pre .0)) (taken-out (at .values) (args .part .now) (args .width) _ _ _ (at .i) (f .2) (f .0) (omega arith)),
+    )
 
 -- src/packed.rt:35:1
 same-length : tie.Need-same-length Inv-loop μ-loop

@@ -31,16 +31,16 @@ loop-holds c = (omega arith, omega arith, refl, packed-none (c .args .part .now)
 -- with the value taken in
 loaded : (c : tie.After-shared-slice-known Inv-loop μ-loop) →
     Packed (c .before .before .loop .part) (c .before .before .before .args .values .now) (c .before .before .before .args .width)
-        (c .before .before .loop .held % 256 * 2 ^ c .before .before .before .args .width % 2 ^ 32
-        + getD (c .before .before .before .args .values .now) (c .before .before .loop .i) 0)
-        (c .before .before .loop .bits + c .before .before .before .args .width) (c .before .before .loop .at) (c .before .before .loop .i + 1)
+    (c .before .before .loop .held % 256 * 2 ^ c .before .before .before .args .width % 2 ^ 32
+    + getD (c .before .before .before .args .values .now) (c .before .before .loop .i) 0)
+    (c .before .before .loop .bits + c .before .before .before .args .width) (c .before .before .loop .at) (c .before .before .loop .i + 1)
 loaded c =
     let at = c .before .before .loop in
     let args = c .before .before .before .args in
     let pre = c .before .before .before .pre in
     rw (no-wrap (args .width) (at .held) (pre .0))
     (packed-in (at .part) (args .values .now) (args .width) (at .held) (at .bits) (at .at) (at .i) (at .inv .3) (at .inv .1) (omega arith)
-        (fit-getD (pre .1 .0) (at .i)))
+    (fit-getD (pre .1 .0) (at .i)))
 
 -- the byte that goes out has its place
 room : (c : tie.Then1 Inv-loop μ-loop) → c .before .before .before .loop .at < length (c .before .before .before .loop .part)
@@ -48,7 +48,7 @@ room c =
     let at = c .before .before .before .loop in
     let args = c .before .before .before .before .args in
     let r : at .at < length (args .values .now) * args .width / 8 =
-        byte-has-room (length (args .values .now)) (args .width) (at .at) (at .bits + args .width) (at .i) (omega arith) (loaded (c .before) .count) (c .if1 .taken) in
+    byte-has-room (length (args .values .now)) (args .width) (at .at) (at .bits + args .width) (at .i) (omega arith) (loaded (c .before) .count) (c .if1 .taken) in
     let e : length (args .part .now) ≡ length (args .values .now) * args .width / 8 = c .before .before .before .before .pre .1 .1 in
     omega arith
 
@@ -105,10 +105,13 @@ loop-again c =
     let taken-in = loaded (c .before) in
     ⊎-elim
     (λ w.
-        rw (w .1, w .2, w .3)
-        (omega arith, omega arith, simp length-set (at .inv .2),
-            packed-out (at .part) (args .values .now) (args .width) _ (at .bits + args .width) (at .at) (at .i + 1) taken-in (w .0 .taken)
-            (room (record { before = c .before; if1 = w .0 }))))
+    rw (w .1, w .2, w .3) (
+      omega arith,
+      omega arith,
+      simp length-set (at .inv .2),
+      packed-out (at .part) (args .values .now) (args .width) _ (at .bits + args .width) (at .at) (at .i + 1) taken-in (w .0 .taken)
+          (room (record { before = c .before; if1 = w .0 })),
+    ))
     (λ w. rw (w .1, w .2, w .3) (omega arith, w .0 .left, at .inv .2, taken-in))
     (c .if1 .came)
 

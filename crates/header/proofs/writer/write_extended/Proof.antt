@@ -3,90 +3,75 @@ use Rattle.header.proofs.writer.write_extended.Statement.{statement}
 use Rattle.header.proofs.writer.write_extended.Tie as tie
 use Rattle.header.proofs.writer.write_extended.Reads as reads
 use Rattle.header.proofs.writer.write_extended.Lts as lts
+use Rattle.header.proofs.writer.write_bonding.Reads as write-bonding-reads
 use Rattle.slices.proofs.copy.Reads as copy-reads
 use Rattle.slices.proofs.fill.Reads as fill-reads
 
--- src/writer.rt:68:18
+-- src/writer.rt:85:18
 sub-copy : tie.Need-sub-copy
 sub-copy c = search needs
 
--- src/writer.rt:68:18
+-- src/writer.rt:85:18
 part-copy-start : tie.Need-part-copy-start
 part-copy-start c = search needs
 
--- src/writer.rt:68:18
+-- src/writer.rt:85:18
 part-copy-end : tie.Need-part-copy-end
 part-copy-end c = search needs
 
--- src/writer.rt:68:49
+-- src/writer.rt:85:49
 slice-aggregate-copy : tie.Need-slice-aggregate-copy
 slice-aggregate-copy c = search needs
 
--- src/writer.rt:68:5
+-- src/writer.rt:85:5
 copy-requires : tie.Need-copy-requires
 copy-requires c κs = search needs
 
--- src/writer.rt:70:5
-slice-write-part : tie.Need-slice-write-part
-slice-write-part c = search needs
+-- src/writer.rt:87:36
+add-write-bonding : tie.Need-add-write-bonding
+add-write-bonding c = search needs
 
--- src/writer.rt:71:10
-add-part : tie.Need-add-part
-add-part c = search needs
+-- src/writer.rt:87:9
+sub-write-bonding : tie.Need-sub-write-bonding
+sub-write-bonding c = search needs
 
--- src/writer.rt:71:5
-slice-write-part-2 : tie.Need-slice-write-part-2
-slice-write-part-2 c = ?
+-- src/writer.rt:87:9
+part-write-bonding-start : tie.Need-part-write-bonding-start
+part-write-bonding-start c = search needs
 
--- src/writer.rt:72:10
-add-part-2 : tie.Need-add-part-2
-add-part-2 c = search needs
+-- src/writer.rt:87:9
+part-write-bonding-end : tie.Need-part-write-bonding-end
+part-write-bonding-end c = search needs
 
--- src/writer.rt:72:5
-slice-write-part-3 : tie.Need-slice-write-part-3
-slice-write-part-3 c = ?
+-- src/writer.rt:86:5
+write-bonding-requires : tie.Need-write-bonding-requires
+write-bonding-requires c κs = search needs
 
--- src/writer.rt:73:33
-mul-part : tie.Need-mul-part
-mul-part c = ?
-
--- src/writer.rt:73:33
-add-part-3 : tie.Need-add-part-3
-add-part-3 c = ?
-
--- src/writer.rt:73:10
-add-part-4 : tie.Need-add-part-4
-add-part-4 c = search needs
-
--- src/writer.rt:73:5
-slice-write-part-4 : tie.Need-slice-write-part-4
-slice-write-part-4 c = ?
-
--- src/writer.rt:74:28
+-- src/writer.rt:91:19
 add-fill : tie.Need-add-fill
 add-fill c = search needs
 
--- src/writer.rt:74:18
+-- src/writer.rt:91:9
 sub-fill : tie.Need-sub-fill
 sub-fill c = search needs
 
--- src/writer.rt:74:18
+-- src/writer.rt:91:9
 part-fill-start : tie.Need-part-fill-start
 part-fill-start c = search needs
 
--- src/writer.rt:74:18
+-- src/writer.rt:91:9
 part-fill-end : tie.Need-part-fill-end
-part-fill-end c = ?
+part-fill-end c = search needs
 
--- src/writer.rt:74:5
+-- src/writer.rt:90:5
 fill-requires : tie.Need-fill-requires
 fill-requires c κs = search needs
 
--- src/writer.rt:62:1
+-- src/writer.rt:79:1
 same-length : tie.Need-same-length
-same-length c = ?
+same-length c = search needs
 
--- src/writer.rt:62:1
+-- src/writer.rt:79:1
 returns : tie.Need-returns
 returns c = ?
 
@@ -99,15 +84,11 @@ write-extended-spec =
     part-copy-end
     slice-aggregate-copy
     copy-requires
-    slice-write-part
-    add-part
-    slice-write-part-2
-    add-part-2
-    slice-write-part-3
-    mul-part
-    add-part-3
-    add-part-4
-    slice-write-part-4
+    add-write-bonding
+    sub-write-bonding
+    part-write-bonding-start
+    part-write-bonding-end
+    write-bonding-requires
     add-fill
     sub-fill
     part-fill-start

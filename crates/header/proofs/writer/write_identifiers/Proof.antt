@@ -119,9 +119,12 @@ loop-again : tie.Need-loop-again Inv-loop μ-loop
 loop-again c =
     let at = c .before .before .before .before .before .loop in
     let args = c .before .before .before .before .before .before .args in
-    let pre = c .before .before .before .before .before .before .pre in
-    (omega arith, omega arith, simp length-set (at .inv .2),
-        stream-written (at .part) (args .ts .now) (args .os .now) (at .k) (at .at) (omega arith) (omega (arith, pre)) (omega (arith, pre)) (at .inv .3))
+    let pre = c .before .before .before .before .before .before .pre in (
+      omega arith,
+      omega arith,
+      simp length-set (at .inv .2),
+      stream-written (at .part) (args .ts .now) (args .os .now) (at .k) (at .at) (omega arith) (omega (arith, pre)) (omega (arith, pre)) (at .inv .3),
+    )
 
 -- src/writer.rt:34:1
 same-length : tie.Need-same-length Inv-loop μ-loop

@@ -1,0 +1,50 @@
+use borrow.Author.Needs.{needs}
+use Rattle.header.proofs.writer.write_bonding.Statement.{statement}
+use Rattle.header.proofs.writer.write_bonding.Tie as tie
+use Rattle.header.proofs.writer.write_bonding.Reads as reads
+use Rattle.header.proofs.writer.write_bonding.Lts as lts
+
+-- src/writer.rt:72:5
+slice-write-part : tie.Need-slice-write-part
+slice-write-part c = search needs
+
+-- src/writer.rt:73:5
+slice-write-part-2 : tie.Need-slice-write-part-2
+slice-write-part-2 c = search needs
+
+-- src/writer.rt:74:5
+slice-write-part-3 : tie.Need-slice-write-part-3
+slice-write-part-3 c = search needs
+
+-- src/writer.rt:75:15
+mul-part : tie.Need-mul-part
+mul-part c = ?
+
+-- src/writer.rt:75:15
+add-part : tie.Need-add-part
+add-part c = ?
+
+-- src/writer.rt:75:5
+slice-write-part-4 : tie.Need-slice-write-part-4
+slice-write-part-4 c = search needs
+
+-- src/writer.rt:66:1
+same-length : tie.Need-same-length
+same-length c = search needs
+
+-- src/writer.rt:66:1
+returns : tie.Need-returns
+returns c = ?
+
+pub write-bonding-spec : {M : Type 1} → statement M
+write-bonding-spec =
+    tie.close
+    (tie.spec
+    slice-write-part
+    slice-write-part-2
+    slice-write-part-3
+    mul-part
+    add-part
+    slice-write-part-4
+    same-length
+    returns)
