@@ -1,3 +1,8 @@
 mod Checked
+mod Content
+mod LaidOut
+mod Refusals
+pub mod RoundTrip
 mod Rows
 mod Runs
+mod Whole
