@@ -1,3 +1,5 @@
+mod Accepted
+pub mod Again
 mod Checked
 mod Content
 mod LaidOut
