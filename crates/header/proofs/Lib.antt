@@ -1,6 +1,14 @@
-mod Checked
-mod Runs
+mod Accepted
+pub mod Again
 mod Bytes
-mod Start
+mod Checked
+mod Content
 mod Control
 mod Identifiers
+mod LaidOut
+mod Refusals
+pub mod RoundTrip
+mod Rows
+mod Runs
+mod Start
+mod Whole

@@ -1,0 +1,100 @@
+-- Laws of the checks behind a refusal. Assumes nothing.
+use Prim.Native.Nat.{ℕ, zero, suc, _^_, _≤_, _<_}
+use mathlib.Core.Path.{_≡_, refl, sym, ap, subst}
+use mathlib.Core.Bool.{Bool, true, false, cond, not, _&&_, false≢true}
+use mathlib.Core.List.{List, [], _∷_, _++_}
+use native.Mathlib.Omega.{arith}
+use native.Mathlib.Decide.{decLt}
+use lib.Dec.{leb}
+use lib.ListN.{length, getD, List·getD-eq-default}
+use lib.Pow.{pow-pos}
+use borrow.Author.Tests.{leb-true, leb-false, lt-leb, eq-eqb}
+use Rattle.bits.specs.Fields.{Fit}
+use Rattle.bits.proofs.Laws.{fit-of, fit-getD}
+use Rattle.slices.specs.Slices.{anyBelow, someAtLeast}
+use Rattle.slices.proofs.Any.{any-each}
+use Rattle.header.specs.declared.setting.Kind.{Kind}
+use Rattle.header.specs.declared.setting.Setting.{Setting}
+use Rattle.header.specs.Counters.{lastStream}
+use Rattle.header.specs.Refusal.{Check, firstOf}
+use Rattle.header.specs.Rules.{widthChecks, Narrow}
+use Rattle.header.specs.Header.{headerLength, writeRefusal}
+use Rattle.header.specs.Demands.{NoneHolds, none, more, MeetsRules}
+
+-- ---- the first check that holds
+
+pub first-none : {cs : List Check} → NoneHolds cs → firstOf cs ≡ 0
+unfolding firstOf
+first-none none = refl
+first-none (more e rest) = rw e (first-none rest)
+
+-- no check has the number 0, which says that none holds
+abbrev pub numbered : List Check → Bool
+numbered [] = true
+numbered (c ∷ cs) = leb 1 (c .0) && numbered cs
+
+pub both : (a b : Bool) → a && b ≡ true → (a ≡ true) × (b ≡ true)
+both true b e = (refl, e)
+both false b e = absurd (false≢true e)
+
+one-more : (n : ℕ) (b : Bool) (cs : List Check) → 1 ≤ n → cond b n (firstOf cs) ≡ 0 → (firstOf cs ≡ 0 → NoneHolds cs) → NoneHolds ((n, b) ∷ cs)
+one-more n true cs h e rest = absurd (omega arith)
+one-more n false cs h e rest = more refl (rest e)
+
+pub none-first : (cs : List Check) → numbered cs ≡ true → firstOf cs ≡ 0 → NoneHolds cs
+unfolding firstOf
+none-first [] t e = none
+none-first (c ∷ cs) t e =
+    let p = both (leb 1 (c .0)) (numbered cs) t in
+    one-more (c .0) (c .1) cs (leb-true 1 (c .0) (p .0)) e (none-first cs (p .1))
+
+pub none-at : {cs : List Check} → NoneHolds cs → (k : ℕ) → getD cs k (0, false) .1 ≡ false
+none-at none k = refl
+none-at (more e rest) zero = e
+none-at (more e rest) (suc k) = none-at rest k
+
+pub none-append : {cs ds : List Check} → NoneHolds cs → NoneHolds ds → NoneHolds (cs ++ ds)
+none-append none q = q
+none-append (more e p) q = more e (none-append p q)
+
+pub none-behind : (cs : List Check) {ds : List Check} → NoneHolds (cs ++ ds) → NoneHolds ds
+none-behind [] p = p
+none-behind (c ∷ cs) (more e p) = none-behind cs p
+
+-- ---- what the checks say of numbers
+
+any-no : (test : ℕ → Bool) (n : ℕ) → ((i : ℕ) → i < n → test i ≡ false) → anyBelow n test ≡ false
+unfolding anyBelow
+any-no test zero h = refl
+any-no test (suc n) h = rw (any-no test n (λ i l. h i (omega arith)), h n (omega arith))
+
+pub some-fit : (w : ℕ) (xs : List ℕ) → Fit w xs → someAtLeast (2 ^ w) xs ≡ false
+unfolding someAtLeast
+some-fit w xs f = any-no (λ i. leb (2 ^ w) (getD xs i 0)) (length xs) (λ i l. lt-leb (2 ^ w) (getD xs i 0) (fit-getD f i))
+
+pub fit-some : (w : ℕ) (xs : List ℕ) → someAtLeast (2 ^ w) xs ≡ false → Fit w xs
+unfolding someAtLeast
+fit-some w xs e = fit-of w xs (λ i. below i (decLt i (length xs)))
+  where
+    below : (i : ℕ) → Dec (i < length xs) → getD xs i 0 < 2 ^ w
+    below i (yes l) = leb-false (2 ^ w) (getD xs i 0) (any-each (λ i. leb (2 ^ w) (getD xs i 0)) (length xs) e i l)
+    below i (no l) = subst (λ (n : ℕ). n < 2 ^ w) (sym (List·getD-eq-default xs 0 (omega arith))) (pow-pos w)
+
+pub narrow : {kind : Kind} {pid : ℕ} {s : Setting} → MeetsRules kind pid s → Narrow s
+unfolding widthChecks
+narrow {s} m =
+    let h = m .fields in
+    record {
+      counter = leb-false (2 ^ 4) (s .«continuity_counter») (none-at h 0);
+      version = leb-false (2 ^ 3) (s .«version_number») (none-at h 1);
+      slot-type = leb-false (2 ^ 1) (s .«slot_allocation_type») (none-at h 2);
+      frame-type = leb-false (2 ^ 4) (s .«frame_type») (none-at h 3);
+      streams = leb-false (2 ^ lastStream) (s .availability) (none-at h 4);
+      statuses = fit-some 2 (s .«receive_status») (none-at h 5);
+      emergency = leb-false (2 ^ 1) (s .«emergency_indicator») (none-at h 6);
+      numbers = fit-some 4 (s .«relative_ts_number») (none-at h 7);
+    }
+
+pub not-refused : (kind : Kind) (pid lent : ℕ) (s : Setting) → MeetsRules kind pid s → lent ≡ headerLength → writeRefusal kind pid s lent ≡ 0
+unfolding writeRefusal
+not-refused kind pid lent s m e = first-none (more (ap not (eq-eqb lent headerLength e)) (more (ap not (m .pid-allowed)) (m .fields)))

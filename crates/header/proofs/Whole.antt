@@ -1,0 +1,86 @@
+-- The bits of a header whose rows are filled: its body and its CRC. Assumes nothing.
+use Prim.Native.Nat.{ℕ, zero, suc, _+_, _-_, _*_, _^_, _<_}
+use mathlib.Core.Path.{_≡_, sym, ap, ap₂, _∙_}
+use mathlib.Core.List.{List, [], _∷_, _++_, append-nil}
+use native.Mathlib.Omega.{arith}
+use native.Mathlib.Nat.{zero-mul, suc-mul, add-comm, le-of-eq}
+use lib.Dec.{lit<}
+use lib.ListN.{length, getD, drop, length-append}
+use lib.Seq.{take-all, drop-nil, drop-drop, drop-at, drop-append-le}
+use Rattle.bits.specs.Fields.{Fit, bitsOf, run, cut}
+use Rattle.bits.proofs.Laws.{length-bitsOf, bits-bitsOf, length-cut, fit-append, fit-drop, cut-run, run-cut}
+use Rattle.crc.specs.Crc.{registerFrom, registerOf}
+use Rattle.crc.proofs.Laws.{registerFrom-append, registerFrom-lt, own-bits}
+use Rattle.header.specs.declared.setting.Kind.{Kind}
+use Rattle.header.specs.declared.setting.Setting.{Setting}
+use Rattle.header.specs.Rows.{rowAt}
+use Rattle.header.specs.Layout.{layout}
+use Rattle.header.specs.Header.{headerLength, content, body, header, row}
+use Rattle.header.proofs.LaidOut.{bodyBits, size-layout}
+use Rattle.header.proofs.Rows.{Suits, fit-pack, length-pack, row-pack}
+
+-- a run without its first n values
+run-drop : (w n : ℕ) (vs : List ℕ) → run w (drop n vs) ≡ drop (n * w) (run w vs)
+unfolding run
+run-drop w zero vs = rw zero-mul
+run-drop w (suc n) [] = sym (drop-nil (suc n * w))
+run-drop w (suc n) (v ∷ vs) =
+    run-drop w n vs
+    ∙ ap (drop (n * w)) (sym (drop-at (bitsOf w v) (run w vs) w (length-bitsOf w v)))
+    ∙ drop-drop (n * w) w (bitsOf w v ++ run w vs)
+    ∙ ap (λ (k : ℕ). drop k (bitsOf w v ++ run w vs)) (add-comm w (n * w) ∙ sym (suc-mul n w))
+
+-- the CRC behind a body
+pub crcOf : Kind → ℕ → Setting → ℕ
+crcOf kind pid s = registerFrom (2 ^ 32 - 1) (drop 32 (body kind pid s))
+
+module _ (kind : Kind) (pid : ℕ) (s : Setting) where
+  pub length-header : length (header kind pid s) ≡ headerLength
+  unfolding header crcOf
+  length-header = length-cut 8 headerLength (body kind pid s ++ bitsOf 32 (crcOf kind pid s))
+
+  -- no other bytes have its bits
+  pub header-only : (p : List ℕ) → Fit 8 p → length p ≡ headerLength → run 8 p ≡ body kind pid s ++ bitsOf 32 (crcOf kind pid s) → header kind pid s ≡ p
+  unfolding header crcOf
+  header-only p bytes whole e =
+      ap₂ (cut 8) (sym whole) (sym e ∙ sym (append-nil (run 8 p))) ∙ cut-run bytes []
+
+  fit-body : Fit 1 (body kind pid s)
+  unfolding body
+  fit-body = fit-pack (layout kind) (content kind pid s)
+
+  pub crc-lt : crcOf kind pid s < 2 ^ 32
+  unfolding crcOf
+  crc-lt = registerFrom-lt (2 ^ 32 - 1) (drop 32 (body kind pid s)) (lit< tt) (fit-drop 32 fit-body)
+
+module _ (kind : Kind) (pid : ℕ) (s : Setting) (suits : Suits (layout kind) (content kind pid s)) where
+  length-body : length (body kind pid s) ≡ bodyBits
+  unfolding body
+  length-body = length-pack (layout kind) (content kind pid s) suits ∙ size-layout kind
+
+  run-header : run 8 (header kind pid s) ≡ body kind pid s ++ bitsOf 32 (crcOf kind pid s)
+  unfolding header crcOf
+  run-header = run-cut 8 headerLength bits (fit-append (fit-body kind pid s) (bits-bitsOf 32 (crcOf kind pid s))) (le-of-eq (sym long)) ∙ take-all (headerLength * 8) bits (le-of-eq long)
+    where
+      bits : List ℕ
+      bits = body kind pid s ++ bitsOf 32 (crcOf kind pid s)
+
+      long : length bits ≡ headerLength * 8
+      long = length-append (body kind pid s) (bitsOf 32 (crcOf kind pid s)) ∙ ap₂ _+_ length-body (length-bitsOf 32 (crcOf kind pid s))
+
+  pub row-header : (k : ℕ) → k < length (layout kind) → row kind (header kind pid s) k ≡ getD (content kind pid s) k []
+  unfolding body
+  row-header k h =
+      ap (rowAt (layout kind) k) run-header
+      ∙ row-pack (layout kind) (content kind pid s) suits (bitsOf 32 (crcOf kind pid s)) k h
+
+  -- bytes with this body and any 32 bits behind it leave, from byte 4 on, what the CRC becomes by those bits
+  pub register-behind : (p : List ℕ) (n : ℕ) → run 8 p ≡ body kind pid s ++ bitsOf 32 n
+      → registerOf (drop 4 p) ≡ registerFrom (crcOf kind pid s) (bitsOf 32 n)
+  unfolding registerOf crcOf
+  register-behind p n e =
+      ap (registerFrom (2 ^ 32 - 1)) (run-drop 8 4 p ∙ ap (drop 32) e ∙ drop-append-le 32 (body kind pid s) (bitsOf 32 n) (omega (arith, length-body)))
+      ∙ registerFrom-append (2 ^ 32 - 1) (drop 32 (body kind pid s)) (bitsOf 32 n)
+
+  pub register-header : registerOf (drop 4 (header kind pid s)) ≡ 0
+  register-header = register-behind (header kind pid s) (crcOf kind pid s) run-header ∙ own-bits (crcOf kind pid s) (crc-lt kind pid s)
