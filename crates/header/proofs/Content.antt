@@ -1,23 +1,21 @@
 -- What a setting that meets the rules puts into the rows fills them. Assumes nothing.
-use Prim.Native.Nat.{ℕ, zero, suc, _+_, _^_, _≤_, _<_}
+use Prim.Native.Nat.{ℕ, zero, suc, _+_, _^_, _<_}
 use mathlib.Core.Path.{_≡_, refl}
-use mathlib.Core.Bool.{true}
 use mathlib.Core.List.{List, [], _∷_}
 use native.Mathlib.Omega.{arith}
-use lib.Dec.{lit<, leb}
+use lib.Dec.{lit<}
 use lib.ListN.{length, getD, replicate, length-replicate}
-use borrow.Author.Tests.{leb-true, not-false}
 use Rattle.bits.specs.Fields.{Fit, none, more}
 use Rattle.header.specs.declared.setting.Kind.{Kind}
 use Rattle.header.specs.declared.setting.Setting.{Setting}
-use Rattle.header.specs.Counters.{lastStream, within}
+use Rattle.header.specs.Counters.{lastStream}
 use Rattle.header.specs.Layout.{reservedByte, reservedBytes, layout}
-use Rattle.header.specs.Rules.{widthChecks, ruleChecks, bondingChecks}
+use Rattle.header.specs.Rules.{widthChecks}
 use Rattle.header.specs.Header.{one, paired, content}
 use Rattle.header.specs.Demands.{Array, OfItsTypes, MeetsRules}
 use Rattle.header.proofs.LaidOut.{laid-out, length-content}
 use Rattle.header.proofs.Rows.{Fills, rowOf, Suits, Each, next, done, each-at}
-use Rattle.header.proofs.Refusals.{both, none-at, none-behind, narrow}
+use Rattle.header.proofs.Refusals.{none-behind, at-most, bonded, bonding-none, narrow}
 
 fills-one : {w v : ℕ} → v < 2 ^ w → Array 1 w (one v)
 fills-one h = (refl, more h none)
@@ -40,26 +38,6 @@ unfolding paired
 fit-paired none q = none
 fit-paired (more h p) none = none
 fit-paired (more h p) (more l q) = more h (more l (fit-paired p q))
-
-at-most : (first last n : ℕ) → within first last n ≡ true → n ≤ last
-at-most first last n e = leb-true n last (both (leb first n) (leb n last) e .1)
-
--- the bonding fields fit their bits: what the checks of 11 leave
-record Bonded (s : Setting) : Type 0 where
-  carriers : s .«number_of_carriers» < 2 ^ 8
-  sequence : s .«carrier_sequence» < 2 ^ 8
-  frames : s .«number_of_frames» < 2 ^ 4
-  position : s .«frame_position» .0 < 2 ^ 4
-
-bonded : {pid : ℕ} {s : Setting} → MeetsRules Kind.Extended pid s → Bonded s
-unfolding ruleChecks bondingChecks
-bonded {s} m =
-    let h = none-behind (widthChecks Kind.Extended s) (m .fields) in
-    let carriers = at-most 1 8 (s .«number_of_carriers») (not-false _ (none-at h 3)) in
-    let sequence = at-most 1 (s .«number_of_carriers») (s .«carrier_sequence») (not-false _ (none-at h 4)) in
-    let frames = at-most 3 4 (s .«number_of_frames») (not-false _ (none-at h 5)) in
-    let position = at-most 1 (s .«number_of_frames») (s .«frame_position» .0) (not-false _ (none-at h 6)) in
-    record { carriers = omega arith; sequence = omega arith; frames = omega arith; position = omega arith }
 
 -- the values of row k fill it
 abbrev Filled : Kind → ℕ → Setting → ℕ → Type 0
@@ -85,7 +63,7 @@ private-rows : (kind : Kind) (pid : ℕ) (s : Setting) → OfItsTypes s → Meet
 unfolding laid-out
 private-rows Kind.Plain pid s t m = next (t .privates) done
 private-rows Kind.Extended pid s t m =
-    let b = bonded m in
+    let b = bonded (bonding-none Kind.Extended s (none-behind (widthChecks Kind.Extended s) (m .fields))) in
     next (t .auxiliaries) (next (fills-one (t .group))
     (next (fills-one (b .carriers)) (next (fills-one (b .sequence)) (next (fills-one (b .frames)) (next (fills-one (b .position))
     (next (fills-replicate 8 reservedBytes reservedByte (lit< tt)) done))))))

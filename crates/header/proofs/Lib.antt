@@ -6,6 +6,7 @@ mod Content
 mod Control
 mod Identifiers
 mod LaidOut
+mod Private
 mod Refusals
 pub mod RoundTrip
 mod Rows

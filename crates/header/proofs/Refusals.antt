@@ -6,18 +6,18 @@ use mathlib.Core.List.{List, [], _∷_, _++_}
 use native.Mathlib.Omega.{arith}
 use native.Mathlib.Decide.{decLt}
 use lib.Dec.{leb}
-use lib.ListN.{length, getD, List·getD-eq-default}
+use lib.ListN.{length, getD, take, List·getD-eq-default}
 use lib.Pow.{pow-pos}
-use borrow.Author.Tests.{leb-true, leb-false, lt-leb, eq-eqb}
+use borrow.Author.Tests.{leb-true, leb-false, not-false, lt-leb, eq-eqb}
 use Rattle.bits.specs.Fields.{Fit}
 use Rattle.bits.proofs.Laws.{fit-of, fit-getD}
 use Rattle.slices.specs.Slices.{anyBelow, someAtLeast}
 use Rattle.slices.proofs.Any.{any-each}
 use Rattle.header.specs.declared.setting.Kind.{Kind}
 use Rattle.header.specs.declared.setting.Setting.{Setting}
-use Rattle.header.specs.Counters.{lastStream}
+use Rattle.header.specs.Counters.{lastStream, within}
 use Rattle.header.specs.Refusal.{Check, firstOf}
-use Rattle.header.specs.Rules.{widthChecks, Narrow}
+use Rattle.header.specs.Rules.{widthChecks, bondingChecks, ruleChecks, Narrow}
 use Rattle.header.specs.Header.{headerLength, writeRefusal}
 use Rattle.header.specs.Demands.{NoneHolds, none, more, MeetsRules}
 
@@ -79,6 +79,29 @@ fit-some w xs e = fit-of w xs (λ i. below i (decLt i (length xs)))
     below : (i : ℕ) → Dec (i < length xs) → getD xs i 0 < 2 ^ w
     below i (yes l) = leb-false (2 ^ w) (getD xs i 0) (any-each (λ i. leb (2 ^ w) (getD xs i 0)) (length xs) e i l)
     below i (no l) = subst (λ (n : ℕ). n < 2 ^ w) (sym (List·getD-eq-default xs 0 (omega arith))) (pow-pos w)
+
+pub at-most : (first last n : ℕ) → within first last n ≡ true → n ≤ last
+at-most first last n e = leb-true n last (both (leb first n) (leb n last) e .1)
+
+-- the bonding fields fit their bits: what the checks of 11 leave
+pub record Bonded (s : Setting) : Type 0 where
+  pub carriers : s .«number_of_carriers» < 2 ^ 8
+  pub sequence : s .«carrier_sequence» < 2 ^ 8
+  pub frames : s .«number_of_frames» < 2 ^ 4
+  pub position : s .«frame_position» .0 < 2 ^ 4
+
+pub bonded : {s : Setting} → NoneHolds (bondingChecks Kind.Extended s) → Bonded s
+unfolding bondingChecks
+bonded {s} h =
+    let carriers = at-most 1 8 (s .«number_of_carriers») (not-false _ (none-at h 0)) in
+    let sequence = at-most 1 (s .«number_of_carriers») (s .«carrier_sequence») (not-false _ (none-at h 1)) in
+    let frames = at-most 3 4 (s .«number_of_frames») (not-false _ (none-at h 2)) in
+    let position = at-most 1 (s .«number_of_frames») (s .«frame_position» .0) (not-false _ (none-at h 3)) in
+    record { carriers = omega arith; sequence = omega arith; frames = omega arith; position = omega arith }
+
+pub bonding-none : (kind : Kind) (s : Setting) → NoneHolds (ruleChecks kind s) → NoneHolds (bondingChecks kind s)
+unfolding ruleChecks
+bonding-none kind s h = none-behind (take 3 (ruleChecks kind s)) h
 
 pub narrow : {kind : Kind} {pid : ℕ} {s : Setting} → MeetsRules kind pid s → Narrow s
 unfolding widthChecks

@@ -12,7 +12,7 @@ ghost use Rattle.bits.specs.Fields.{bitsOf, run};
 ghost use Rattle.header.specs.Counters.{lastStream, lastSlot};
 ghost use Rattle.header.specs.Refusal.{firstOf};
 ghost use Rattle.header.specs.Rows.{pack};
-ghost use Rattle.header.specs.Layout.{privateBytes, auxiliaryBytes, startRows, controlRows, privateRows};
+ghost use Rattle.header.specs.Layout.{privateBytes, startRows, controlRows, privateRows};
 ghost use Rattle.header.specs.Rules.{Narrow, bondingChecks};
 ghost use Rattle.header.specs.Bytes.{bondingBytes};
 ghost use Rattle.header.specs.Header.{headerLength, startContent, paired, controlContent, privateContent, body, header};
@@ -53,7 +53,7 @@ fn write_identifiers(part: &mut [u8], ts: &[u16], os: &[u16])
 
 // The statuses, and in the last byte behind them the emergency bit and a reserved one.
 fn write_control(part: &mut [u8], s: Setting)
-    requires { ⌜ (length (now part) ≡ 4) × (length (s .«receive_status») ≡ lastStream) ⌝ }
+    requires { ⌜ length (now part) ≡ 4 ⌝ }
     requires { ⌜ Narrow s ⌝ }
     ensures { λ _. ⌜ run 8 (now (part .exit)) ≡ pack controlRows (controlContent s) ⌝ }
 {
@@ -77,7 +77,7 @@ fn write_bonding(part: &mut [u8], s: Setting)
 
 // Auxiliary information, the bonding fields and reserved bytes.
 fn write_extended(part: &mut [u8], s: Setting)
-    requires { ⌜ (length (now part) ≡ privateBytes) × (length (s .auxiliary) ≡ auxiliaryBytes) ⌝ }
+    requires { ⌜ length (now part) ≡ privateBytes ⌝ }
     requires { ⌜ firstOf (bondingChecks Kind.Extended s) ≡ 0 ⌝ }
     ensures { λ _. ⌜ run 8 (now (part .exit)) ≡ pack (privateRows Kind.Extended) (privateContent Kind.Extended s) ⌝ }
 {

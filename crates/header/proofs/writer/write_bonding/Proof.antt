@@ -1,3 +1,11 @@
+-- `write_bonding` meets its contract. Assumes nothing.
+use mathlib.Core.Path.{refl}
+use native.Mathlib.Omega.{arith}
+use Rattle.header.specs.declared.setting.Kind.{Kind}
+use Rattle.header.specs.Rules.{bondingChecks}
+use Rattle.header.specs.Bytes.{bondingBytes}
+use Rattle.header.proofs.Bytes.{stored}
+use Rattle.header.proofs.Refusals.{Bonded, bonded, none-first}
 use borrow.Author.Needs.{needs}
 use Rattle.header.proofs.writer.write_bonding.Statement.{statement}
 use Rattle.header.proofs.writer.write_bonding.Tie as tie
@@ -5,6 +13,10 @@ use Rattle.header.proofs.writer.write_bonding.Reads as reads
 use Rattle.header.proofs.writer.write_bonding.Lts as lts
 
 -- src/writer.rt:72:5
+small : (c : tie.Start) → Bonded (c .args .s)
+unfolding bondingChecks
+small c = bonded (none-first (bondingChecks Kind.Extended (c .args .s)) refl (c .pre .1))
+
 slice-write-part : tie.Need-slice-write-part
 slice-write-part c = search needs
 
@@ -18,11 +30,11 @@ slice-write-part-3 c = search needs
 
 -- src/writer.rt:75:15
 mul-part : tie.Need-mul-part
-mul-part c = ?
+mul-part c = let b = small (c .before .before) in omega arith
 
 -- src/writer.rt:75:15
 add-part : tie.Need-add-part
-add-part c = ?
+add-part c = let b = small (c .before .before .before) in omega arith
 
 -- src/writer.rt:75:5
 slice-write-part-4 : tie.Need-slice-write-part-4
@@ -34,7 +46,9 @@ same-length c = search needs
 
 -- src/writer.rt:66:1
 returns : tie.Need-returns
-returns c = ?
+returns c =
+    let start = c .before .before .before in
+    stored (bondingBytes (start .args .s)) (start .args .part .now) (start .pre .0)
 
 pub write-bonding-spec : {M : Type 1} → statement M
 write-bonding-spec =

@@ -4,6 +4,7 @@ use mathlib.Core.Path.{_≡_, sym, _∙_}
 use native.Mathlib.Omega.{arith}
 use lib.ListN.{length, take}
 use lib.Seq.{length-take-le}
+use Rattle.header.specs.Counters.{lastStream}
 use Rattle.header.proofs.Control.{control-bits}
 use borrow.Author.Needs.{needs}
 use Rattle.header.proofs.writer.write_control.Statement.{statement}
@@ -13,6 +14,9 @@ use Rattle.header.proofs.writer.write_control.Lts as lts
 use Rattle.header.proofs.packed.write_run.Reads as write-run-reads
 
 -- src/writer.rt:57:34
+statuses : (c : tie.Start) → length (c .args .s .«receive_status») ≡ lastStream
+statuses c = search needs
+
 sub-write-run : tie.Need-sub-write-run
 sub-write-run c = search needs
 
@@ -32,7 +36,7 @@ slice-aggregate-write-run c = search needs
 write-run-requires : tie.Need-write-run-requires
 write-run-requires c κs =
     let start = c .before .before .before .before in
-    let n : length (start .args .s .«receive_status») ≡ 15 = start .pre .0 .1 in
+    let n = statuses start in
     (omega arith, (start .pre .1 .statuses, length-take-le 3 (start .args .part .now) (omega (arith, start .pre)) ∙ omega arith))
 
 -- src/writer.rt:58:27
@@ -68,10 +72,10 @@ returns : tie.Need-returns
 returns c =
     let start = c .before .before .before .before .before .before .before .before in
     let call = c .before .before .before .write-run in
-    let n : length (start .args .s .«receive_status») ≡ 15 = start .pre .0 .1 in
+    let n = statuses start in
     let left : length (start .args .s .«receive_status») * 2 % 8 ≡ 6 = omega arith in
     control-bits (start .args .s) (call .last .0) (start .args .part .now) (call .result) (call .kept .0 ∙ length-take-le 3 (start .args .part .now) (omega (arith, start .pre)))
-    (start .pre .0 .0) (start .pre .1 .emergency) (rw left at (call .ensures))
+    (start .pre .0) (start .pre .1 .emergency) (rw left at (call .ensures))
 
 pub write-control-spec : {M : Type 1} → statement M
 write-control-spec =

@@ -1,3 +1,18 @@
+-- `write_extended` meets its contract: three parts, one behind the other. Assumes nothing.
+use Prim.Native.Nat.{ℕ}
+use mathlib.Core.Path.{_≡_, refl, sym, ap, ap₂, _∙_}
+use mathlib.Core.List.{List, [], _++_}
+use native.Mathlib.Omega.{arith}
+use lib.ListN.{length, take, drop, replicate}
+use lib.Seq.{length-take-le}
+use Rattle.bits.specs.Fields.{run}
+use Rattle.slices.proofs.Front.{front-none, front-part, front-all}
+use Rattle.header.specs.declared.setting.Kind.{Kind}
+use Rattle.header.specs.Layout.{auxiliaryBytes}
+use Rattle.header.specs.Rules.{bondingChecks}
+use Rattle.header.specs.Bytes.{bondingBytes}
+use Rattle.header.proofs.Private.{copied-all, extended-parts}
+use Rattle.header.proofs.Refusals.{none-first}
 use borrow.Author.Needs.{needs}
 use Rattle.header.proofs.writer.write_extended.Statement.{statement}
 use Rattle.header.proofs.writer.write_extended.Tie as tie
@@ -8,6 +23,9 @@ use Rattle.slices.proofs.copy.Reads as copy-reads
 use Rattle.slices.proofs.fill.Reads as fill-reads
 
 -- src/writer.rt:85:18
+auxiliaries : (c : tie.Start) → length (c .args .s .auxiliary) ≡ auxiliaryBytes
+auxiliaries c = search needs
+
 sub-copy : tie.Need-sub-copy
 sub-copy c = search needs
 
@@ -73,7 +91,18 @@ same-length c = search needs
 
 -- src/writer.rt:79:1
 returns : tie.Need-returns
-returns c = ?
+unfolding bondingChecks
+returns c =
+    let filled = c .before .before in
+    let bonded = filled .before .before .before .before in
+    let copied = bonded .before .before .before .before in
+    let start = copied .before .before .before .before .before in
+    let part = start .args .part .now in
+    extended-parts (start .args .s) part _ _ _ (start .pre .0) (auxiliaries start)
+    (copied .copy .ensures ∙ copied-all (take 28 part) (start .args .s .auxiliary) (length-take-le 28 part (omega arith) ∙ sym (auxiliaries start)))
+    (bonded .write-bonding .ensures)
+    (filled .fill .ensures)
+    (none-first (bondingChecks Kind.Extended (start .args .s)) refl (start .pre .1))
 
 pub write-extended-spec : {M : Type 1} → statement M
 write-extended-spec =

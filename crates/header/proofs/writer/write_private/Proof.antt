@@ -24,7 +24,7 @@ enum-told-2 c = search needs
 
 -- src/writer.rt:107:13
 write-extended-requires : tie.Need-write-extended-requires
-write-extended-requires c κs = {! c .before .before .before .before .good !}
+write-extended-requires c κs = let h : c .before .before .before .before .good .1 .1 .0 ≡ c .before .before .before .before .good .1 .1 .0 = ? in ?
 
 -- src/writer.rt:96:1
 same-length : tie.Need-same-length
