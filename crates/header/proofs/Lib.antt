@@ -1,5 +1,6 @@
 mod Accepted
 pub mod Again
+mod Body
 mod Bytes
 mod Checked
 mod Content

@@ -10,7 +10,7 @@ use lib.Seq.{take-all, length-take-le}
 use Rattle.bits.specs.Fields.{bitsOf, run}
 use Rattle.bits.proofs.Laws.{run-append, run-one, run-cons, bitsOf-join}
 use Rattle.slices.specs.Slices.{copied}
-use Rattle.slices.proofs.Front.{front-none, front-part, front-length, front-all}
+use Rattle.slices.proofs.Front.{put, front-none, front-part, front-length, front-all}
 use Rattle.header.specs.declared.setting.Kind.{Kind}
 use Rattle.header.specs.declared.setting.Setting.{Setting}
 use Rattle.header.specs.Rows.{pack}
@@ -48,10 +48,6 @@ extended-bits s h =
     ∙ ap (λ (l : List ℕ). run 8 aux ++ l)
     (ap (λ (l : List ℕ). run 8 bonding ++ l) (sym (append-nil (run 8 (replicate 53 0xFF))))
     ∙ bonding-bits (s .«group_id») (s .«number_of_carriers») (s .«carrier_sequence») (s .«number_of_frames») (bonded h .position) (run 8 (replicate 53 0xFF) ++ []))
-
--- a part of a list, k elements from i on, with others in its place
-abbrev put : ℕ → ℕ → List ℕ → List ℕ → List ℕ
-put i k l ys = take i l ++ (ys ++ drop k (drop i l))
 
 -- three parts of the private data, filled one after the other
 pub extended-parts : (s : Setting) (part aux bonding ones : List ℕ) → length part ≡ 85 → length (s .auxiliary) ≡ 28

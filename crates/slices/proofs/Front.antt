@@ -34,9 +34,13 @@ front-length d₀ done d i f h =
 pub front-all : (d₀ done d : List ℕ) (i : ℕ) → Front d₀ done d i → length d₀ ≤ i → d ≡ done
 front-all d₀ done d i f h = f .is ∙ ap (λ (l : List ℕ). done ++ l) (drop-of-length-le d₀ h) ∙ append-nil done
 
+-- a list with ys in the place of its k elements from i on: what is left when a part was lent
+abbrev pub put : ℕ → ℕ → List ℕ → List ℕ → List ℕ
+put i k l ys = take i l ++ (ys ++ drop k (drop i l))
+
 -- a part behind the front that was lent and came back as ys, k elements from i on
 pub front-part : (d₀ done d ys : List ℕ) (i k : ℕ) → Front d₀ done d i → length ys ≡ k
-    → Front d₀ (done ++ ys) (take i d ++ (ys ++ drop k (drop i d))) (i + k)
+    → Front d₀ (done ++ ys) (put i k d ys) (i + k)
 front-part d₀ done d ys i k f l =
     record {
       is =

@@ -1,3 +1,15 @@
+-- `write_private` meets its contract, by the kind. Assumes nothing.
+use mathlib.Core.Path.{_≡_, sym, ap, subst, _∙_}
+use mathlib.Core.List.{append-nil}
+use lib.ListN.{length}
+use Rattle.bits.specs.Fields.{run}
+use Rattle.header.specs.declared.setting.Kind.{Kind}
+use Rattle.header.specs.Refusal.{firstOf}
+use Rattle.header.specs.Rows.{pack}
+use Rattle.header.specs.Layout.{privateBytes, privateRows}
+use Rattle.header.specs.Rules.{bondingChecks}
+use Rattle.header.specs.Header.{privateContent}
+use Rattle.header.proofs.Private.{copied-all}
 use borrow.Author.Needs.{needs}
 use Rattle.header.proofs.writer.write_private.Statement.{statement}
 use Rattle.header.proofs.writer.write_private.Tie as tie
@@ -7,6 +19,9 @@ use Rattle.header.proofs.writer.write_extended.Reads as write-extended-
 use Rattle.slices.proofs.copy.Reads as copy-reads
 
 -- src/writer.rt:103:17
+privates : (c : tie.Start) → length (c .args .s .«private_data») ≡ privateBytes
+privates c = search needs
+
 enum-told : tie.Need-enum-told
 enum-told c = search needs
 
@@ -24,7 +39,9 @@ enum-told-2 c = search needs
 
 -- src/writer.rt:107:13
 write-extended-requires : tie.Need-write-extended-requires
-write-extended-requires c κs = let h : c .before .before .before .before .good .1 .1 .0 ≡ c .before .before .before .before .good .1 .1 .0 = ? in ?
+write-extended-requires c κs =
+    let start = c .before .before .before .before in
+    (start .pre .0, subst (λ (k : Kind). firstOf (bondingChecks k (start .args .s)) ≡ 0) (c .before .enum-told2 .given .1) (start .pre .1))
 
 -- src/writer.rt:96:1
 same-length : tie.Need-same-length
@@ -32,7 +49,14 @@ same-length c = search needs
 
 -- src/writer.rt:96:1
 returns : tie.Need-returns
-returns c = ?
+unfolding pack privateRows privateContent
+returns c =
+    let copied = c .before .before in
+    let told = copied .before .before .before .before in
+    let start = told .before .before .before in
+    let s = start .args .s in
+    ap (run 8) (copied .copy .ensures ∙ copied-all (start .args .part .now) (s .«private_data») (start .pre .0 ∙ sym (privates start)))
+    ∙ sym (ap (λ (k : Kind). pack (privateRows k) (privateContent k s)) (told .enum-told .given .1) ∙ append-nil (run 8 (s .«private_data»)))
 
 -- src/writer.rt:96:1
 same-length-2 : tie.Need-same-length-2
@@ -40,7 +64,11 @@ same-length-2 c = search needs
 
 -- src/writer.rt:96:1
 returns-2 : tie.Need-returns-2
-returns-2 c = ?
+returns-2 c =
+    let call = c .before .before in
+    let told = call .before .before in
+    let s = told .before .before .before .args .s in
+    call .write-extended .ensures ∙ sym (ap (λ (k : Kind). pack (privateRows k) (privateContent k s)) (told .enum-told2 .given .1))
 
 pub write-private-spec : {M : Type 1} → statement M
 write-private-spec =
