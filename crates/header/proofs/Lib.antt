@@ -1,2 +1,4 @@
 mod Checked
+mod Refusals
 mod Runs
+mod Within
