@@ -1,4 +1,5 @@
 mod Checked
 mod Refusals
 mod Runs
+mod Streams
 mod Within

@@ -5,6 +5,7 @@ use mathlib.Core.Bool.{Bool, true, false, cond, not, _&&_}
 use mathlib.Core.List.{List, [], _∷_, _++_}
 use native.Mathlib.Omega.{arith}
 use lib.Dec.{T, eqb}
+use lib.ListN.{drop}
 use borrow.Author.Tests.{eqb-true, eqb-false, not-true, not-false, le-leb, lt-leb}
 use Rattle.header.specs.declared.setting.Kind.{Kind}
 use Rattle.header.specs.declared.setting.Setting.{Setting}
@@ -15,6 +16,10 @@ use Rattle.header.specs.Rules.{absentChecks, widthChecks, bondingChecks,
 abbrev pub numbered : List Check → Bool
 numbered [] = true
 numbered (c ∷ cs) = not (eqb (c .0) 0) && numbered cs
+
+-- the answer is that of the rows behind the first k, which do not hold
+abbrev pub Past : ℕ → List Check → Type 0
+Past k cs = firstOf cs ≡ firstOf (drop k cs)
 
 -- a row that holds answers
 pub answers : (n : ℕ) {b : Bool} (cs : List Check) → b ≡ true → firstOf ((n, b) ∷ cs) ≡ n

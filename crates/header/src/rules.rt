@@ -202,7 +202,7 @@ fn is_within(first: u8, last: u8, n: u8) -> bool
 
 // 8: whether a header of this kind may have the frame type.
 fn frame_type_allowed(kind: Kind, frame_type: u8) -> bool
-    ensures { λ r. ⌜ r ≡ byKind kind (eqb frame_type 1) (within 1 2 frame_type) ⌝ }
+    ensures { λ r. ⌜ r ≡ byKind kind (eqb «frame_type» 1) (within 1 2 «frame_type») ⌝ }
 {
     match kind {
         Kind::Plain => frame_type == 1,

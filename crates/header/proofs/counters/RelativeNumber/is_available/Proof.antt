@@ -1,4 +1,3 @@
-use mathlib.Core.Path.{sym}
 use borrow.Author.Needs.{needs}
 use Rattle.header.specs.Counters.{firstStream, lastStream}
 use Rattle.header.specs.Rules.{available}
