@@ -1,4 +1,5 @@
 mod Checked
+mod Narrow
 mod Refusals
 mod Runs
 mod Streams
