@@ -19,7 +19,8 @@ use Rattle.header.specs.Header.{headerLength, row, value, reading, callC
 use Rattle.header.specs.Demands.{MeetsRules, NoneHolds, none, more}
 use Rattle.header.proofs.Rows.{size, rowOf, Fills, row-fills}
 use Rattle.header.proofs.LaidOut.{laid-out, size-layout}
-use Rattle.header.proofs.Refusals.{both, numbered, none-first, none-at, none-append, none-behind, some-fit}
+use Rattle.header.proofs.Fields.{some-fit}
+use Rattle.header.proofs.Refusals.{both, numbered, none-first, none-at, none-append, none-behind}
 use Rattle.header.proofs.Content.{fills-replicate}
 
 numbered-bonding : (kind : Kind) (s : Setting) → numbered (bondingChecks kind s) ≡ true

@@ -16,7 +16,7 @@ use Rattle.header.specs.Header.{headerLength, one, paired, firsts, secon
 use Rattle.header.specs.Demands.{Among, here, there, allOnes, SameButReserved, ReservedOnes, WrittenAgain}
 use Rattle.header.proofs.Rows.{rowOf, Fills, Suits, Each, next, done, each-at, pack-rows}
 use Rattle.header.proofs.LaidOut.{laid-out, bodyBits, size-layout, length-content}
-use Rattle.header.proofs.Refusals.{not-refused}
+use Rattle.header.proofs.Fields.{not-refused}
 use Rattle.header.proofs.Content.{fills-replicate}
 use Rattle.header.proofs.Whole.{crcOf, crc-lt, header-only, register-behind, row-header}
 use Rattle.header.proofs.Accepted.{Shown, shown, long, row-filled, meets}

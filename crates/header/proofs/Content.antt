@@ -10,12 +10,13 @@ use Rattle.header.specs.declared.setting.Kind.{Kind}
 use Rattle.header.specs.declared.setting.Setting.{Setting}
 use Rattle.header.specs.Counters.{lastStream}
 use Rattle.header.specs.Layout.{reservedByte, reservedBytes, layout}
-use Rattle.header.specs.Rules.{widthChecks}
+use Rattle.header.specs.Rules.{widthChecks, ruleChecks}
 use Rattle.header.specs.Header.{one, paired, content}
 use Rattle.header.specs.Demands.{Array, OfItsTypes, MeetsRules}
 use Rattle.header.proofs.LaidOut.{laid-out, length-content}
 use Rattle.header.proofs.Rows.{Fills, rowOf, Suits, Each, next, done, each-at}
-use Rattle.header.proofs.Refusals.{none-behind, at-most, bonded, bonding-none, narrow}
+use Rattle.header.proofs.Fields.{at-most, bonded, bonding-none, narrow}
+use Rattle.header.proofs.Refusals.{none-before, none-behind}
 
 fills-one : {w v : ℕ} → v < 2 ^ w → Array 1 w (one v)
 fills-one h = (refl, more h none)
@@ -47,7 +48,7 @@ module _ (kind : Kind) (pid : ℕ) (s : Setting) (t : OfItsTypes s) (m : MeetsRu
   common : Each (Filled kind pid s) (length (layout kind)) 17 → Each (Filled kind pid s) (length (layout kind)) 0
   unfolding laid-out
   common behind =
-      let narrow = narrow m in
+      let narrow = narrow kind (none-before (widthChecks kind s) (ruleChecks kind s) (m .fields)) in
       next (fills-one (lit< tt)) (next (fills-one (lit< tt)) (next (fills-one pid-fits) (next (fills-one (lit< tt)) (next (fills-one (narrow .counter))
       (next (fills-one (lit< tt)) (next (fills-one (lit< tt))
       (next (fills-one (narrow .version)) (next (fills-one (narrow .slot-type)) (next (fills-one (narrow .frame-type))

@@ -5,6 +5,7 @@ mod Bytes
 mod Checked
 mod Content
 mod Control
+mod Fields
 mod Identifiers
 mod LaidOut
 mod Private
@@ -13,4 +14,6 @@ pub mod RoundTrip
 mod Rows
 mod Runs
 mod Start
+mod Streams
 mod Whole
+mod Within

@@ -20,7 +20,7 @@ use Rattle.header.specs.Bytes.{bondingBytes}
 use Rattle.header.specs.Header.{privateContent}
 use Rattle.header.specs.Demands.{NoneHolds}
 use Rattle.header.proofs.Bytes.{joined}
-use Rattle.header.proofs.Refusals.{bonded}
+use Rattle.header.proofs.Fields.{bonded}
 
 -- a copy over a list of the same length is what was copied
 pub copied-all : (into from : List ℕ) → length into ≡ length from → copied into from ≡ from

@@ -1,27 +1,36 @@
--- Laws of the checks behind a refusal. Assumes nothing.
-use Prim.Native.Nat.{ℕ, zero, suc, _^_, _≤_, _<_}
-use mathlib.Core.Path.{_≡_, refl, sym, ap, subst}
-use mathlib.Core.Bool.{Bool, true, false, cond, not, _&&_, false≢true}
+-- Laws of the first check that holds. Assumes nothing.
+use Prim.Native.Nat.{ℕ, zero, suc, _≤_}
+use mathlib.Core.Path.{_≡_, refl, _∙_}
+use mathlib.Core.Bool.{Bool, true, false, cond, _&&_, false≢true}
 use mathlib.Core.List.{List, [], _∷_, _++_}
 use native.Mathlib.Omega.{arith}
-use native.Mathlib.Decide.{decLt}
 use lib.Dec.{leb}
-use lib.ListN.{length, getD, take, List·getD-eq-default}
-use lib.Pow.{pow-pos}
-use borrow.Author.Tests.{leb-true, leb-false, not-false, lt-leb, eq-eqb}
-use Rattle.bits.specs.Fields.{Fit}
-use Rattle.bits.proofs.Laws.{fit-of, fit-getD}
-use Rattle.slices.specs.Slices.{anyBelow, someAtLeast}
-use Rattle.slices.proofs.Any.{any-each}
+use lib.ListN.{getD, drop}
+use borrow.Author.Tests.{leb-true}
 use Rattle.header.specs.declared.setting.Kind.{Kind}
 use Rattle.header.specs.declared.setting.Setting.{Setting}
-use Rattle.header.specs.Counters.{lastStream, within}
 use Rattle.header.specs.Refusal.{Check, firstOf}
-use Rattle.header.specs.Rules.{widthChecks, bondingChecks, ruleChecks, Narrow}
-use Rattle.header.specs.Header.{headerLength, writeRefusal}
-use Rattle.header.specs.Demands.{NoneHolds, none, more, MeetsRules}
+use Rattle.header.specs.Rules.{absentChecks, widthChecks, bondingChecks, ruleChecks}
+use Rattle.header.specs.Header.{packetChecks}
+use Rattle.header.specs.Demands.{NoneHolds, none, more}
 
--- ---- the first check that holds
+-- ---- one check
+
+-- one that holds answers
+pub answers : (n : ℕ) {b : Bool} (cs : List Check) → b ≡ true → firstOf ((n, b) ∷ cs) ≡ n
+unfolding firstOf
+answers n cs e = rw e
+
+-- one that does not hold is passed over
+pub passed : (n : ℕ) {b : Bool} (cs : List Check) → b ≡ false → firstOf ((n, b) ∷ cs) ≡ firstOf cs
+unfolding firstOf
+passed n cs e = rw e
+
+-- the answer is that of the checks behind the first k, which do not hold
+abbrev pub Past : ℕ → List Check → Type 0
+Past k cs = firstOf cs ≡ firstOf (drop k cs)
+
+-- ---- none
 
 pub first-none : {cs : List Check} → NoneHolds cs → firstOf cs ≡ 0
 unfolding firstOf
@@ -53,71 +62,44 @@ none-at none k = refl
 none-at (more e rest) zero = e
 none-at (more e rest) (suc k) = none-at rest k
 
+-- ---- checks behind checks
+
 pub none-append : {cs ds : List Check} → NoneHolds cs → NoneHolds ds → NoneHolds (cs ++ ds)
 none-append none q = q
 none-append (more e p) q = more e (none-append p q)
+
+pub none-before : (cs ds : List Check) → NoneHolds (cs ++ ds) → NoneHolds cs
+none-before [] ds p = none
+none-before (c ∷ cs) ds (more e p) = more e (none-before cs ds p)
 
 pub none-behind : (cs : List Check) {ds : List Check} → NoneHolds (cs ++ ds) → NoneHolds ds
 none-behind [] p = p
 none-behind (c ∷ cs) (more e p) = none-behind cs p
 
--- ---- what the checks say of numbers
+-- the first leave the answer to the others
+pub onward : {cs : List Check} (ds : List Check) → NoneHolds cs → firstOf (cs ++ ds) ≡ firstOf ds
+onward ds none = refl
+onward ds (more e p) = passed _ _ e ∙ onward ds p
 
-any-no : (test : ℕ → Bool) (n : ℕ) → ((i : ℕ) → i < n → test i ≡ false) → anyBelow n test ≡ false
-unfolding anyBelow
-any-no test zero h = refl
-any-no test (suc n) h = rw (any-no test n (λ i l. h i (omega arith)), h n (omega arith))
+-- the first answer for all
+pub at-once : (cs ds : List Check) → (firstOf cs ≡ 0 → ⊥) → firstOf (cs ++ ds) ≡ firstOf cs
+unfolding firstOf
+at-once [] ds h = absurd (h refl)
+at-once ((n, true) ∷ cs) ds h = refl
+at-once ((n, false) ∷ cs) ds h = at-once cs ds h
 
-pub some-fit : (w : ℕ) (xs : List ℕ) → Fit w xs → someAtLeast (2 ^ w) xs ≡ false
-unfolding someAtLeast
-some-fit w xs f = any-no (λ i. leb (2 ^ w) (getD xs i 0)) (length xs) (λ i l. lt-leb (2 ^ w) (getD xs i 0) (fit-getD f i))
+-- ---- the header's checks
 
-pub fit-some : (w : ℕ) (xs : List ℕ) → someAtLeast (2 ^ w) xs ≡ false → Fit w xs
-unfolding someAtLeast
-fit-some w xs e = fit-of w xs (λ i. below i (decLt i (length xs)))
-  where
-    below : (i : ℕ) → Dec (i < length xs) → getD xs i 0 < 2 ^ w
-    below i (yes l) = leb-false (2 ^ w) (getD xs i 0) (any-each (λ i. leb (2 ^ w) (getD xs i 0)) (length xs) e i l)
-    below i (no l) = subst (λ (n : ℕ). n < 2 ^ w) (sym (List·getD-eq-default xs 0 (omega arith))) (pow-pos w)
+pub packet-none : (pid : ℕ) (p : List ℕ) → firstOf (packetChecks pid p) ≡ 0 → NoneHolds (packetChecks pid p)
+unfolding packetChecks
+packet-none pid p e = none-first (packetChecks pid p) refl e
 
-pub at-most : (first last n : ℕ) → within first last n ≡ true → n ≤ last
-at-most first last n e = leb-true n last (both (leb first n) (leb n last) e .1)
+pub width-none : (kind : Kind) (s : Setting) → firstOf (widthChecks kind s) ≡ 0 → NoneHolds (widthChecks kind s)
+unfolding widthChecks absentChecks
+width-none Kind.Plain s e = none-first (widthChecks Kind.Plain s) refl e
+width-none Kind.Extended s e = none-first (widthChecks Kind.Extended s) refl e
 
--- the bonding fields fit their bits: what the checks of 11 leave
-pub record Bonded (s : Setting) : Type 0 where
-  pub carriers : s .«number_of_carriers» < 2 ^ 8
-  pub sequence : s .«carrier_sequence» < 2 ^ 8
-  pub frames : s .«number_of_frames» < 2 ^ 4
-  pub position : s .«frame_position» .0 < 2 ^ 4
-
-pub bonded : {s : Setting} → NoneHolds (bondingChecks Kind.Extended s) → Bonded s
-unfolding bondingChecks
-bonded {s} h =
-    let carriers = at-most 1 8 (s .«number_of_carriers») (not-false _ (none-at h 0)) in
-    let sequence = at-most 1 (s .«number_of_carriers») (s .«carrier_sequence») (not-false _ (none-at h 1)) in
-    let frames = at-most 3 4 (s .«number_of_frames») (not-false _ (none-at h 2)) in
-    let position = at-most 1 (s .«number_of_frames») (s .«frame_position» .0) (not-false _ (none-at h 3)) in
-    record { carriers = omega arith; sequence = omega arith; frames = omega arith; position = omega arith }
-
-pub bonding-none : (kind : Kind) (s : Setting) → NoneHolds (ruleChecks kind s) → NoneHolds (bondingChecks kind s)
-unfolding ruleChecks
-bonding-none kind s h = none-behind (take 3 (ruleChecks kind s)) h
-
-pub narrow : {kind : Kind} {pid : ℕ} {s : Setting} → MeetsRules kind pid s → Narrow s
-unfolding widthChecks
-narrow {s} m =
-    let h = m .fields in
-    record {
-      counter = leb-false (2 ^ 4) (s .«continuity_counter») (none-at h 0);
-      version = leb-false (2 ^ 3) (s .«version_number») (none-at h 1);
-      slot-type = leb-false (2 ^ 1) (s .«slot_allocation_type») (none-at h 2);
-      frame-type = leb-false (2 ^ 4) (s .«frame_type») (none-at h 3);
-      streams = leb-false (2 ^ lastStream) (s .availability) (none-at h 4);
-      statuses = fit-some 2 (s .«receive_status») (none-at h 5);
-      emergency = leb-false (2 ^ 1) (s .«emergency_indicator») (none-at h 6);
-      numbers = fit-some 4 (s .«relative_ts_number») (none-at h 7);
-    }
-
-pub not-refused : (kind : Kind) (pid lent : ℕ) (s : Setting) → MeetsRules kind pid s → lent ≡ headerLength → writeRefusal kind pid s lent ≡ 0
-unfolding writeRefusal
-not-refused kind pid lent s m e = first-none (more (ap not (eq-eqb lent headerLength e)) (more (ap not (m .pid-allowed)) (m .fields)))
+pub rule-none : (kind : Kind) (s : Setting) → firstOf (ruleChecks kind s) ≡ 0 → NoneHolds (ruleChecks kind s)
+unfolding ruleChecks bondingChecks
+rule-none Kind.Plain s e = none-first (ruleChecks Kind.Plain s) refl e
+rule-none Kind.Extended s e = none-first (ruleChecks Kind.Extended s) refl e

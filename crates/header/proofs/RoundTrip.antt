@@ -21,7 +21,8 @@ use Rattle.header.specs.Rules.{widthChecks, absentChecks, ruleChecks}
 use Rattle.header.specs.Header.{paired, firsts, seconds, content, headerLength, header, row, value, reading, blank, packetChecks, written, readRefusal, readOf}
 use Rattle.header.specs.Demands.{OfItsTypes, MeetsRules, NoneHolds, none, more, WrittenAndReadBack}
 use Rattle.header.proofs.LaidOut.{laid-out}
-use Rattle.header.proofs.Refusals.{first-none, not-refused, none-at, none-append, none-behind, fit-some}
+use Rattle.header.proofs.Fields.{not-refused, fit-some}
+use Rattle.header.proofs.Refusals.{first-none, none-at, none-append, none-behind}
 use Rattle.header.proofs.Content.{suits}
 use Rattle.header.proofs.Whole.{length-header, row-header, register-header}
 

@@ -4,8 +4,6 @@ use crate::counters::RelativeNumber;
 use crate::setting::Kind;
 use crate::setting::Setting;
 ghost use mathlib.Core.Path.{_≡_};
-ghost use mathlib.Core.Bool.{not};
-ghost use mathlib.Core.List.{_++_};
 ghost use Prim.Native.Nat.{_<_};
 ghost use lib.Dec.{eqb};
 ghost use lib.ListN.{length};
@@ -202,7 +200,7 @@ fn is_within(first: u8, last: u8, n: u8) -> bool
 
 // 8: whether a header of this kind may have the frame type.
 fn frame_type_allowed(kind: Kind, frame_type: u8) -> bool
-    ensures { λ r. ⌜ r ≡ byKind kind (eqb frame_type 1) (within 1 2 frame_type) ⌝ }
+    ensures { λ r. ⌜ r ≡ byKind kind (eqb «frame_type» 1) (within 1 2 «frame_type») ⌝ }
 {
     match kind {
         Kind::Plain => frame_type == 1,

@@ -1,42 +1,48 @@
+-- `has_pair_twice` meets its contract: no stream before stream j + 1 makes a pair with one before it. Assumes nothing.
+use Prim.Native.Nat.{_-_, _≤_}
+use mathlib.Core.Path.{_≡_, sym, _∙_}
+use mathlib.Core.Bool.{false}
+use native.Mathlib.Omega.{arith}
+use borrow.Author.Needs.{needs}
+use lib.ListN.{length}
+use Rattle.slices.specs.Slices.{anyBelow}
+use Rattle.slices.proofs.Any.{any-none, any-more, any-found}
+use Rattle.header.specs.Rules.{samePair, pairTwice}
 use Rattle.header.proofs.rules.has_pair_twice.Statement.{statement}
 use Rattle.header.proofs.rules.has_pair_twice.Tie as tie
-use Rattle.header.proofs.rules.has_pair_twice.Reads as reads
-use Rattle.header.proofs.rules.has_pair_twice.Lts as lts
-use Rattle.header.proofs.rules.has_pair_before.Reads as has-pair-before-reads
 
 abbrev Inv-loop : tie.InvT-loop
-Inv-loop availability ts os j₀ j = ?
+Inv-loop availability ts os j₀ j = (j ≤ length ts) × (anyBelow j (λ k. anyBelow k (λ i. samePair availability ts os i k)) ≡ false)
 
 abbrev μ-loop : tie.MeasureT-loop
-μ-loop availability ts os j₀ j = ?
+μ-loop availability ts os j₀ j = length ts - j
 
--- src/rules.rt:160:5
 loop-holds : tie.Need-loop-holds Inv-loop μ-loop
-loop-holds c = ?
+loop-holds c = (omega arith, any-none _)
 
--- src/rules.rt:161:12
 has-pair-before-requires : tie.Need-has-pair-before-requires Inv-loop μ-loop
-has-pair-before-requires c κs = ?
+has-pair-before-requires c κs = search needs
 
--- src/rules.rt:162:13
 returns : tie.Need-returns Inv-loop μ-loop
-returns c = ?
+unfolding pairTwice
+returns c =
+    sym (any-found _ _ (c .before .before .before .loop .j) (omega arith) (sym (c .before .has-pair-before .ensures) ∙ c .if1 .taken))
 
--- src/rules.rt:164:9
 add-j : tie.Need-add-j Inv-loop μ-loop
-add-j c = ?
+add-j c = search needs
 
--- src/rules.rt:160:5
 loop-less : tie.Need-loop-less Inv-loop μ-loop
-loop-less c = ?
+loop-less c = search needs
 
--- src/rules.rt:160:5
 loop-again : tie.Need-loop-again Inv-loop μ-loop
-loop-again c = ?
+loop-again c =
+    (omega arith, any-more _ (c .before .before .before .loop .j) (c .before .before .before .loop .inv .1) (sym (c .before .has-pair-before .ensures) ∙ c .if1 .left))
 
--- src/rules.rt:155:1
 returns-2 : tie.Need-returns-2 Inv-loop μ-loop
-returns-2 c = ?
+unfolding pairTwice
+returns-2 c =
+    let all : c .before .loop .j ≡ length (c .before .before .before .before .args .ts .now) = omega arith in
+    sym (rw all at (c .before .loop .inv .1))
 
 pub has-pair-twice-spec : {M : Type 1} → statement M
 has-pair-twice-spec =

@@ -1,46 +1,60 @@
+-- `has_unavailable` meets its contract: no slot before slot i has the number of an unavailable stream. Assumes nothing.
+use Prim.Native.Nat.{_-_, _≤_}
+use mathlib.Core.Path.{_≡_, sym}
+use mathlib.Core.Bool.{false}
+use mathlib.Core.Logic.{⊎-elim}
+use native.Mathlib.Omega.{arith}
+use borrow.Author.Needs.{needs}
+use borrow.Author.Tests.{eq-eqb, ne-eqb}
+use lib.ListN.{length, getD}
+use Rattle.slices.specs.Slices.{anyBelow}
+use Rattle.slices.proofs.Any.{any-none, any-more, any-found}
+use Rattle.header.specs.Rules.{unavailable, someUnavailable}
 use Rattle.header.proofs.rules.has_unavailable.Statement.{statement}
 use Rattle.header.proofs.rules.has_unavailable.Tie as tie
-use Rattle.header.proofs.rules.has_unavailable.Reads as reads
-use Rattle.header.proofs.rules.has_unavailable.Lts as lts
-use Rattle.header.proofs.counters.RelativeNumber.is_available.Reads as is-available-reads
 
 abbrev Inv-loop : tie.InvT-loop
-Inv-loop availability numbers i₀ i = ?
+Inv-loop availability numbers i₀ i = (i ≤ length numbers) × (anyBelow i (λ k. unavailable availability (getD numbers k 0)) ≡ false)
 
 abbrev μ-loop : tie.MeasureT-loop
-μ-loop availability numbers i₀ i = ?
+μ-loop availability numbers i₀ i = length numbers - i
 
--- src/rules.rt:107:5
 loop-holds : tie.Need-loop-holds Inv-loop μ-loop
-loop-holds c = ?
+loop-holds c = (omega arith, any-none _)
 
--- src/rules.rt:108:17
 shared-slice-read-n : tie.Need-shared-slice-read-n Inv-loop μ-loop
-shared-slice-read-n c = ?
+shared-slice-read-n c = search needs
 
--- src/rules.rt:110:17
 is-available-requires : tie.Need-is-available-requires Inv-loop μ-loop
-is-available-requires c κs = ?
+is-available-requires c κs = search needs
 
--- src/rules.rt:111:17
 returns : tie.Need-returns Inv-loop μ-loop
-returns c = ?
+unfolding someUnavailable
+returns c =
+    sym (any-found _ _ (c .before .before .before .before .before .loop .i) (omega arith)
+    (simp (ne-eqb _ _ (c .before .before .if1 .taken), sym (c .before .is-available .ensures), c .if2 .taken)))
 
--- src/rules.rt:114:9
 add-i : tie.Need-add-i Inv-loop μ-loop
-add-i c = ?
+add-i c = search needs
 
--- src/rules.rt:107:5
 loop-less : tie.Need-loop-less Inv-loop μ-loop
-loop-less c = ?
+loop-less c = search needs
 
--- src/rules.rt:107:5
 loop-again : tie.Need-loop-again Inv-loop μ-loop
-loop-again c = ?
+loop-again c = (
+  omega arith,
+  any-more _ (c .before .before .before .loop .i) (c .before .before .before .loop .inv .1)
+      (⊎-elim
+      (λ w. simp (ne-eqb _ _ (w .0 .taken), sym (w .1 .ensures), w .2 .left))
+      (λ w. simp (eq-eqb _ _ (w .left)))
+      (c .if1 .came)),
+)
 
--- src/rules.rt:103:1
 returns-2 : tie.Need-returns-2 Inv-loop μ-loop
-returns-2 c = ?
+unfolding someUnavailable
+returns-2 c =
+    let all : c .before .loop .i ≡ length (c .before .before .before .args .numbers .now) = omega arith in
+    sym (rw all at (c .before .loop .inv .1))
 
 pub has-unavailable-spec : {M : Type 1} → statement M
 has-unavailable-spec =

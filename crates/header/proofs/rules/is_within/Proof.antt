@@ -1,15 +1,13 @@
+use mathlib.Core.Path.{sym}
+use Rattle.header.proofs.Within.{under, from}
 use Rattle.header.proofs.rules.is_within.Statement.{statement}
 use Rattle.header.proofs.rules.is_within.Tie as tie
-use Rattle.header.proofs.rules.is_within.Reads as reads
-use Rattle.header.proofs.rules.is_within.Lts as lts
 
--- src/rules.rt:197:9
 returns : tie.Need-returns
-returns c = ?
+returns c = sym (under (c .before .args .first) (c .before .args .last) _ (c .if1 .taken))
 
--- src/rules.rt:193:1
 returns-2 : tie.Need-returns-2
-returns-2 c = ?
+returns-2 c = sym (from _ _ _ (c .if1 .left))
 
 pub is-within-spec : {M : Type 1} → statement M
 is-within-spec = tie.close (tie.spec returns returns-2)

@@ -1,45 +1,70 @@
+use mathlib.Core.Path.{sym, _∙_}
 use borrow.Author.Needs.{needs}
+use borrow.Author.Tests.{le-leb, lt-leb}
+use Rattle.header.specs.declared.setting.Kind.{Kind}
+use Rattle.header.specs.Refusal.{firstOf}
+use Rattle.header.specs.Rules.{absentChecks}
+use Rattle.header.proofs.Refusals.{Past, answers, passed}
 use Rattle.header.proofs.rules.plain_absent_refusal.Statement.{statement}
 use Rattle.header.proofs.rules.plain_absent_refusal.Tie as tie
-use Rattle.header.proofs.rules.plain_absent_refusal.Reads as reads
-use Rattle.header.proofs.rules.plain_absent_refusal.Lts as lts
-use Rattle.slices.proofs.some_at_least.Reads as some-at-least-reads
 
--- src/rules.rt:47:30
+past-1 : (c : tie.Else1) → Past 1 (absentChecks Kind.Plain (c .before .before .before .before .args .s))
+unfolding absentChecks
+past-1 c = passed _ _ (sym (c .before .some-at-least .ensures) ∙ c .if1 .left)
+
+past-2 : (c : tie.Else2) → Past 2 (absentChecks Kind.Plain (c .before .before .before .before .before .before .args .s))
+unfolding absentChecks
+past-2 c = past-1 (c .before .before) ∙ passed _ _ (lt-leb _ _ (c .if2 .left))
+
+past-3 : (c : tie.Else3) → Past 3 (absentChecks Kind.Plain (c .before .before .before .before .before .before .before .before .args .s))
+unfolding absentChecks
+past-3 c = past-2 (c .before .before) ∙ passed _ _ (lt-leb _ _ (c .if3 .left))
+
+past-4 : (c : tie.Else4) → Past 4 (absentChecks Kind.Plain (c .before .before .before .before .before .before .before .before .before .before .args .s))
+unfolding absentChecks
+past-4 c = past-3 (c .before .before) ∙ passed _ _ (lt-leb _ _ (c .if4 .left))
+
+past-5 : (c : tie.Else5) → Past 5 (absentChecks Kind.Plain (c .before .before .before .before .before .before .before .before .before .before .before .before .args .s))
+unfolding absentChecks
+past-5 c = past-4 (c .before .before) ∙ passed _ _ (lt-leb _ _ (c .if5 .left))
+
+past-6 : (c : tie.Else6) → Past 6 (absentChecks Kind.Plain (c .before .before .before .before .before .before .before .before .before .before .before .before .before .before .before .args .s))
+unfolding absentChecks
+past-6 c = past-5 (c .before .before .before) ∙ passed _ _ (lt-leb _ _ (c .if6 .left))
+
 slice-aggregate-some-at-least : tie.Need-slice-aggregate-some-at-least
 slice-aggregate-some-at-least c = search needs
 
--- src/rules.rt:47:8
 some-at-least-requires : tie.Need-some-at-least-requires
 some-at-least-requires c κs = search needs
 
--- src/rules.rt:48:9
 returns : tie.Need-returns
-returns c = ?
+unfolding absentChecks
+returns c = sym (answers _ _ (sym (c .before .some-at-least .ensures) ∙ c .if1 .taken))
 
--- src/rules.rt:51:9
 returns-2 : tie.Need-returns-2
-returns-2 c = ?
+unfolding absentChecks
+returns-2 c = sym (past-1 (c .before .before) ∙ answers _ _ (le-leb _ _ (c .if2 .taken)))
 
--- src/rules.rt:54:9
 returns-3 : tie.Need-returns-3
-returns-3 c = ?
+unfolding absentChecks
+returns-3 c = sym (past-2 (c .before .before) ∙ answers _ _ (le-leb _ _ (c .if3 .taken)))
 
--- src/rules.rt:57:9
 returns-4 : tie.Need-returns-4
-returns-4 c = ?
+unfolding absentChecks
+returns-4 c = sym (past-3 (c .before .before) ∙ answers _ _ (le-leb _ _ (c .if4 .taken)))
 
--- src/rules.rt:60:9
 returns-5 : tie.Need-returns-5
-returns-5 c = ?
+unfolding absentChecks
+returns-5 c = sym (past-4 (c .before .before) ∙ answers _ _ (le-leb _ _ (c .if5 .taken)))
 
--- src/rules.rt:64:9
 returns-6 : tie.Need-returns-6
-returns-6 c = ?
+unfolding absentChecks
+returns-6 c = sym (past-5 (c .before .before .before) ∙ answers _ _ (le-leb _ _ (c .if6 .taken)))
 
--- src/rules.rt:43:1
 returns-7 : tie.Need-returns-7
-returns-7 c = ?
+unfolding absentChecks firstOf
+returns-7 c = sym (past-6 c)
 
 pub plain-absent-refusal-spec : {M : Type 1} → statement M
 plain-absent-refusal-spec =

@@ -1,3 +1,13 @@
+-- `write_body` meets its contract: five parts, one behind the other. Assumes nothing.
+use Prim.Native.Nat.{ℕ, _*_, _%_}
+use mathlib.Core.Path.{_≡_, sym, _∙_}
+use mathlib.Core.List.{List}
+use native.Mathlib.Omega.{arith}
+use borrow.Rule.Slice.PartMut.{same-len-mid, mid-len}
+use lib.ListN.{length}
+use Rattle.slices.proofs.Front.{put}
+use Rattle.header.specs.Counters.{lastStream, lastSlot}
+use Rattle.header.proofs.Body.{body-parts}
 use borrow.Author.Needs.{needs}
 use Rattle.header.proofs.writer.write_body.Statement.{statement}
 use Rattle.header.proofs.writer.write_body.Tie as tie
@@ -8,6 +18,63 @@ use Rattle.header.proofs.writer.write_control.Reads as write-control-re
 use Rattle.header.proofs.writer.write_identifiers.Reads as write-identifiers-reads
 use Rattle.header.proofs.writer.write_private.Reads as write-private-reads
 use Rattle.header.proofs.writer.write_start.Reads as write-start-reads
+
+-- the places after each part, from the later to the earlier
+abbrev start : tie.After-write-start → tie.Start
+start c = c .before .before .before
+
+abbrev started : tie.After-write-identifiers → tie.After-write-start
+started c = c .before .before .before .before .before .before .before .before
+
+abbrev identified : tie.After-write-control → tie.After-write-identifiers
+identified c = c .before .before .before .before
+
+abbrev controlled : tie.After-write-run → tie.After-write-control
+controlled c = c .before .before .before .before .before .before
+
+-- what arrays of the setting have, which their types say
+streams : (c : tie.Start) → (length (c .args .s .«ts_id») ≡ lastStream) × (length (c .args .s .«original_network_id») ≡ lastStream)
+streams c = (search needs, search needs)
+
+slots : (c : tie.Start) → length (c .args .s .«relative_ts_number») ≡ lastSlot
+slots c = search needs
+
+-- each part is back with its length, and so is the whole
+nine : (c : tie.After-write-start) → length (c .write-start .last .0) ≡ 9
+nine c = c .write-start .kept .0 ∙ mid-len 0 9 (start c .args .part .now) (omega (arith, start c .pre .0 .0))
+
+whole₁ : (c : tie.After-write-start) → length (put 0 9 (start c .args .part .now) (c .write-start .last .0)) ≡ 184
+whole₁ c = same-len-mid 0 9 (start c .args .part .now) (c .write-start .last .0) (c .write-start .kept .0) ∙ start c .pre .0 .0
+
+abbrev after₁ : tie.After-write-start → List ℕ
+after₁ c = put 0 9 (start c .args .part .now) (c .write-start .last .0)
+
+sixty : (c : tie.After-write-identifiers) → length (c .write-identifiers .last .0) ≡ 60
+sixty c = c .write-identifiers .kept .0 ∙ mid-len 9 69 (after₁ (started c)) (omega (arith, whole₁ (started c)))
+
+abbrev after₂ : tie.After-write-identifiers → List ℕ
+after₂ c = put 9 60 (after₁ (started c)) (c .write-identifiers .last .0)
+
+whole₂ : (c : tie.After-write-identifiers) → length (after₂ c) ≡ 184
+whole₂ c = same-len-mid 9 60 (after₁ (started c)) (c .write-identifiers .last .0) (c .write-identifiers .kept .0) ∙ whole₁ (started c)
+
+four : (c : tie.After-write-control) → length (c .write-control .last .0) ≡ 4
+four c = c .write-control .kept .0 ∙ mid-len 69 73 (after₂ (identified c)) (omega (arith, whole₂ (identified c)))
+
+abbrev after₃ : tie.After-write-control → List ℕ
+after₃ c = put 69 4 (after₂ (identified c)) (c .write-control .last .0)
+
+whole₃ : (c : tie.After-write-control) → length (after₃ c) ≡ 184
+whole₃ c = same-len-mid 69 4 (after₂ (identified c)) (c .write-control .last .0) (c .write-control .kept .0) ∙ whole₂ (identified c)
+
+twenty-six : (c : tie.After-write-run) → length (c .write-run .last .0) ≡ 26
+twenty-six c = c .write-run .kept .0 ∙ mid-len 73 99 (after₃ (controlled c)) (omega (arith, whole₃ (controlled c)))
+
+abbrev after₄ : tie.After-write-run → List ℕ
+after₄ c = put 73 26 (after₃ (controlled c)) (c .write-run .last .0)
+
+whole₄ : (c : tie.After-write-run) → length (after₄ c) ≡ 184
+whole₄ c = same-len-mid 73 26 (after₃ (controlled c)) (c .write-run .last .0) (c .write-run .kept .0) ∙ whole₃ (controlled c)
 
 -- src/writer.rt:100:17
 sub-write-start : tie.Need-sub-write-start
@@ -47,7 +114,10 @@ slice-aggregate-write-identifiers-2 c = search needs
 
 -- src/writer.rt:103:5
 write-identifiers-requires : tie.Need-write-identifiers-requires
-write-identifiers-requires c κs = ?
+write-identifiers-requires c κs =
+    let s = start (c .before .before .before .before .before .before .before) in
+    let n = streams s .0 in
+    (mid-len 9 69 (after₁ (c .before .before .before .before .before .before .before)) (omega (arith, whole₁ (c .before .before .before .before .before .before .before))) ∙ omega arith, streams s .1 ∙ sym (streams s .0))
 
 -- src/writer.rt:104:19
 sub-write-control : tie.Need-sub-write-control
@@ -79,11 +149,15 @@ part-write-run-end c = search needs
 
 -- src/writer.rt:106:52
 slice-aggregate-write-run : tie.Need-slice-aggregate-write-run
-slice-aggregate-write-run c = ?
+slice-aggregate-write-run c = sym (slots (start (started (identified (c .before .before .before .before .before)))))
 
 -- src/writer.rt:106:5
 write-run-requires : tie.Need-write-run-requires
-write-run-requires c κs = ?
+write-run-requires c κs =
+    let control = c .before .before .before .before .before in
+    let s = start (started (identified control)) in
+    let n = slots s in
+    (omega arith, (s .pre .1 .0 .numbers, mid-len 73 99 (after₃ control) (omega (arith, whole₃ control)) ∙ omega arith))
 
 -- src/writer.rt:107:19
 sub-write-private : tie.Need-sub-write-private
@@ -107,7 +181,20 @@ same-length c = search needs
 
 -- src/writer.rt:94:1
 returns : tie.Need-returns
-returns c = ?
+returns c =
+    let private = c .before .before in
+    let numbers = private .before .before .before .before in
+    let control = controlled numbers in
+    let identifiers = identified control in
+    let first = started identifiers in
+    let s = start first in
+    let n = slots s in
+    let none : length (s .args .s .«relative_ts_number») * 4 % 8 ≡ 0 = omega arith in
+    body-parts (s .args .kind) (s .args .pid) (s .args .s) (s .args .part .now) _ _ _ _ _ (numbers .write-run .result) (s .pre .0 .0)
+    (nine first) (sixty identifiers) (four control) (twenty-six numbers)
+    (private .write-private .kept .0 ∙ mid-len 99 184 (after₄ numbers) (omega (arith, whole₄ numbers)))
+    (first .write-start .ensures) (identifiers .write-identifiers .ensures) (control .write-control .ensures)
+    (rw none at (numbers .write-run .ensures)) (private .write-private .ensures)
 
 pub write-body-spec : {M : Type 1} → statement M
 write-body-spec =

@@ -5,7 +5,8 @@ use Rattle.header.specs.declared.setting.Kind.{Kind}
 use Rattle.header.specs.Rules.{bondingChecks}
 use Rattle.header.specs.Bytes.{bondingBytes}
 use Rattle.header.proofs.Bytes.{stored}
-use Rattle.header.proofs.Refusals.{Bonded, bonded, none-first}
+use Rattle.header.proofs.Fields.{Bonded, bonded}
+use Rattle.header.proofs.Refusals.{none-first}
 use borrow.Author.Needs.{needs}
 use Rattle.header.proofs.writer.write_bonding.Statement.{statement}
 use Rattle.header.proofs.writer.write_bonding.Tie as tie

@@ -1,32 +1,30 @@
 use borrow.Author.Needs.{needs}
+use Rattle.header.specs.Counters.{firstStream, lastStream}
+use Rattle.header.specs.Rules.{available}
+use Rattle.header.proofs.Within.{under, past, between}
 use Rattle.header.proofs.counters.RelativeNumber.is_available.Statement.{statement}
 use Rattle.header.proofs.counters.RelativeNumber.is_available.Tie as tie
-use Rattle.header.proofs.counters.RelativeNumber.is_available.Reads as reads
-use Rattle.header.proofs.counters.RelativeNumber.is_available.Lts as lts
 
--- src/counters.rt:70:13
 returns : tie.Need-returns
-returns c = ?
+unfolding available
+returns c = rw (under firstStream lastStream _ (c .if1 .taken))
 
--- src/counters.rt:73:13
 returns-2 : tie.Need-returns-2
-returns-2 c = ?
+unfolding available
+returns-2 c = rw (past firstStream lastStream _ (c .before .if1 .left) (c .if2 .taken))
 
--- src/counters.rt:75:27
 cast-result : tie.Need-cast-result
 cast-result c = search needs
 
--- src/counters.rt:75:27
 cast-result-2 : tie.Need-cast-result-2
 cast-result-2 c = search needs
 
--- src/counters.rt:75:10
 shr-result : tie.Need-shr-result
 shr-result c = search needs
 
--- src/counters.rt:65:5
 returns-3 : tie.Need-returns-3
-returns-3 c = ?
+unfolding available
+returns-3 c = rw (between firstStream lastStream _ (c .before .if1 .left) (c .if2 .left))
 
 pub is-available-spec : {M : Type 1} → statement M
 is-available-spec =
