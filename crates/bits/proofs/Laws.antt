@@ -6,7 +6,7 @@ use native.Mathlib.Omega.{arith}
 use native.Mathlib.Nat.{add-comm, add-assoc, add-zero, zero-add, add-suc, suc-mul, zero-mul, mul-comm, mod-lt, mod-eq-of-lt, pow-suc, pow-succ', suc-add, mod-one, le-refl}
 use native.Mathlib.Numerals.{add-one, one-add}
 use lib.ListN.{getD, length, take, drop, length-append, length-drop}
-use lib.Seq.{take-at, drop-at, take-add, length-take-le, drop-drop}
+use lib.Seq.{take-at, drop-at, take-add, length-take-le, drop-nil, drop-drop}
 use lib.Dec.{lit<}
 use lib.Arith.{digits-lt}
 use lib.Pow.{high, low, mod-mod-pow, pow-pos, pow-add, shr-shr, mod-pow-add, field}
@@ -169,3 +169,14 @@ cut-more w (suc n) bs =
     (cut-more w n (drop w bs)
     ∙ ap (λ (l : List ℕ). cut w n (drop w bs) ++ (number (take w l) ∷ []))
     (drop-drop (n * w) w bs ∙ ap (λ (k : ℕ). drop k bs) (add-comm w (n * w) ∙ sym (suc-mul n w))))
+
+-- a run without its first n values
+pub run-drop : (w n : ℕ) (vs : List ℕ) → run w (drop n vs) ≡ drop (n * w) (run w vs)
+unfolding run
+run-drop w zero vs = rw zero-mul
+run-drop w (suc n) [] = sym (drop-nil (suc n * w))
+run-drop w (suc n) (v ∷ vs) =
+    run-drop w n vs
+    ∙ ap (drop (n * w)) (sym (drop-at (bitsOf w v) (run w vs) w (length-bitsOf w v)))
+    ∙ drop-drop (n * w) w (bitsOf w v ++ run w vs)
+    ∙ ap (λ (k : ℕ). drop k (bitsOf w v ++ run w vs)) (add-comm w (n * w) ∙ sym (suc-mul n w))

@@ -2,6 +2,7 @@ mod Accepted
 pub mod Again
 mod Body
 mod Bytes
+mod Calls
 mod Checked
 mod Content
 mod Control

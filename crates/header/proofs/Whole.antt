@@ -3,14 +3,15 @@ use Prim.Native.Nat.{ℕ, zero, suc, _+_, _-_, _*_, _^_, _<_}
 use mathlib.Core.Path.{_≡_, sym, ap, ap₂, _∙_}
 use mathlib.Core.List.{List, [], _∷_, _++_, append-nil}
 use native.Mathlib.Omega.{arith}
-use native.Mathlib.Nat.{zero-mul, suc-mul, add-comm, le-of-eq}
+use native.Mathlib.Nat.{le-of-eq}
 use lib.Dec.{lit<}
-use lib.ListN.{length, getD, drop, length-append}
-use lib.Seq.{take-all, drop-nil, drop-drop, drop-at, drop-append-le}
+use lib.ListN.{length, getD, take, drop, length-append, length-drop}
+use lib.Seq.{take-all, take-at, drop-append-le}
 use Rattle.bits.specs.Fields.{Fit, bitsOf, run, cut}
-use Rattle.bits.proofs.Laws.{length-bitsOf, bits-bitsOf, length-cut, fit-append, fit-drop, cut-run, run-cut}
+use Rattle.bits.proofs.Laws.{run-append, run-drop, length-bitsOf, bits-bitsOf, length-cut, fit-append, fit-drop, cut-run, run-cut}
 use Rattle.crc.specs.Crc.{registerFrom, registerOf}
 use Rattle.crc.proofs.Laws.{registerFrom-append, registerFrom-lt, own-bits}
+use Rattle.slices.proofs.Front.{put, front-none, front-part, front-all}
 use Rattle.header.specs.declared.setting.Kind.{Kind}
 use Rattle.header.specs.declared.setting.Setting.{Setting}
 use Rattle.header.specs.Rows.{rowAt}
@@ -18,17 +19,6 @@ use Rattle.header.specs.Layout.{layout}
 use Rattle.header.specs.Header.{headerLength, content, body, header, row}
 use Rattle.header.proofs.LaidOut.{bodyBits, size-layout}
 use Rattle.header.proofs.Rows.{Suits, fit-pack, length-pack, row-pack}
-
--- a run without its first n values
-run-drop : (w n : ℕ) (vs : List ℕ) → run w (drop n vs) ≡ drop (n * w) (run w vs)
-unfolding run
-run-drop w zero vs = rw zero-mul
-run-drop w (suc n) [] = sym (drop-nil (suc n * w))
-run-drop w (suc n) (v ∷ vs) =
-    run-drop w n vs
-    ∙ ap (drop (n * w)) (sym (drop-at (bitsOf w v) (run w vs) w (length-bitsOf w v)))
-    ∙ drop-drop (n * w) w (bitsOf w v ++ run w vs)
-    ∙ ap (λ (k : ℕ). drop k (bitsOf w v ++ run w vs)) (add-comm w (n * w) ∙ sym (suc-mul n w))
 
 -- the CRC behind a body
 pub crcOf : Kind → ℕ → Setting → ℕ
@@ -84,3 +74,20 @@ module _ (kind : Kind) (pid : ℕ) (s : Setting) (suits : Suits (layout kind) (c
 
   pub register-header : registerOf (drop 4 (header kind pid s)) ≡ 0
   register-header = register-behind (header kind pid s) (crcOf kind pid s) run-header ∙ own-bits (crcOf kind pid s) (crc-lt kind pid s)
+
+-- a body and the register of what stands in it from byte 4 on, written one behind the other, are the header
+pub header-parts : (kind : Kind) (pid : ℕ) (s : Setting) (buffer front word : List ℕ) (crc : ℕ)
+    → length buffer ≡ headerLength → length front ≡ 184 → length word ≡ 4 → run 8 front ≡ body kind pid s
+    → crc ≡ registerOf (take 180 (drop 4 (put 0 184 buffer front))) → run 8 word ≡ bitsOf 32 crc
+    → Fit 8 (put 184 4 (put 0 184 buffer front) word)
+    → put 184 4 (put 0 184 buffer front) word ≡ header kind pid s
+unfolding crcOf registerOf
+header-parts kind pid s buffer front word crc l f w b r c bytes =
+    let one = front-part buffer [] buffer front 0 184 (front-none buffer) f in
+    let both = front-all buffer (front ++ word) _ 188 (front-part buffer front _ word 184 4 one w) (omega arith) in
+    let rest : length (drop 4 front) ≡ 180 = length-drop 4 front ∙ omega arith in
+    let message : take 180 (drop 4 (front ++ drop 184 buffer)) ≡ drop 4 front =
+        ap (take 180) (drop-append-le 4 front (drop 184 buffer) (omega arith)) ∙ take-at (drop 4 front) (drop 184 buffer) 180 rest in
+    let same : crc ≡ crcOf kind pid s = r ∙ ap registerOf message ∙ ap (registerFrom (2 ^ 32 - 1)) (run-drop 8 4 front ∙ ap (drop 32) b) in
+    let whole : length (put 184 4 (put 0 184 buffer front) word) ≡ headerLength = ap length both ∙ length-append front word ∙ ap₂ _+_ f w in
+    sym (header-only kind pid s _ bytes whole (ap (run 8) both ∙ run-append 8 front word ∙ ap₂ (λ (x y : List ℕ). x ++ y) b (c ∙ ap (bitsOf 32) same)))

@@ -1,3 +1,10 @@
+-- `write_header` meets its contract: the body, and its CRC behind it. Assumes nothing.
+use mathlib.Core.Path.{_∙_}
+use native.Mathlib.Omega.{arith}
+use borrow.Rule.Slice.PartMut.{same-len-mid, mid-len}
+use Rattle.bits.proofs.Laws.{fit-of}
+use Rattle.slices.proofs.Front.{put}
+use Rattle.header.proofs.Whole.{header-parts}
 use borrow.Author.Needs.{needs}
 use Rattle.header.proofs.writer.write_header.Statement.{statement}
 use Rattle.header.proofs.writer.write_header.Tie as tie
@@ -61,7 +68,19 @@ same-length c = search needs
 
 -- src/writer.rt:122:1
 returns : tie.Need-returns
-returns c = ?
+returns c =
+    let word = c .before .before in
+    let register = word .before .before in
+    let body = register .before .before .before .before .before in
+    let start = body .before .before .before in
+    let buffer = start .args .buffer .now in
+    let front = put 0 184 buffer (body .write-body .last .0) in
+    let whole = same-len-mid 0 184 buffer (body .write-body .last .0) (body .write-body .kept .0) ∙ start .pre .0 .0 in
+    header-parts (start .args .kind) (start .args .pid) (start .args .s) buffer _ _ (register .register .result) (start .pre .0 .0)
+    (body .write-body .kept .0 ∙ mid-len 0 184 buffer (omega (arith, start .pre .0 .0)))
+    (word .write-word .kept .0 ∙ mid-len 184 188 front (omega arith))
+    (body .write-body .ensures) (register .register .ensures) (word .write-word .ensures)
+    (fit-of 8 _ (λ i. c .slice-known3 .given i .fits))
 
 pub write-header-spec : {M : Type 1} → statement M
 write-header-spec =
