@@ -6,6 +6,7 @@ mod Calls
 mod Checked
 mod Content
 mod Control
+mod Cut
 mod Fields
 mod Identifiers
 mod LaidOut
