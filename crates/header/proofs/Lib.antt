@@ -10,6 +10,7 @@ mod Cut
 mod Fields
 mod Identifiers
 mod LaidOut
+mod Packet
 mod Private
 mod Refusals
 pub mod RoundTrip

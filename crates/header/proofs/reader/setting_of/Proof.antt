@@ -8,199 +8,199 @@ use Rattle.header.proofs.reader.read_identifiers.Reads as read-identifi
 use Rattle.header.proofs.reader.word.Reads as word-reads
 use Rattle.slices.proofs.copy.Reads as copy-reads
 
--- src/reader.rt:69:22
+-- src/reader.rt:76:9
 slice-aggregate-read-identifiers : tie.Need-slice-aggregate-read-identifiers
 slice-aggregate-read-identifiers c = search needs
 
--- src/reader.rt:69:34
+-- src/reader.rt:77:9
 slice-aggregate-read-identifiers-2 : tie.Need-slice-aggregate-read-identifiers-2
 slice-aggregate-read-identifiers-2 c = search needs
 
--- src/reader.rt:69:60
+-- src/reader.rt:78:9
 sub-read-identifiers : tie.Need-sub-read-identifiers
 sub-read-identifiers c = search needs
 
--- src/reader.rt:69:60
+-- src/reader.rt:78:9
 part-read-identifiers-start : tie.Need-part-read-identifiers-start
 part-read-identifiers-start c = search needs
 
--- src/reader.rt:69:60
+-- src/reader.rt:78:9
 part-read-identifiers-end : tie.Need-part-read-identifiers-end
 part-read-identifiers-end c = search needs
 
--- src/reader.rt:69:5
+-- src/reader.rt:75:5
 read-identifiers-requires : tie.Need-read-identifiers-requires
 read-identifiers-requires c κs = search needs
 
--- src/reader.rt:71:22
+-- src/reader.rt:82:9
 slice-aggregate-read-run : tie.Need-slice-aggregate-read-run
 slice-aggregate-read-run c = search needs
 
--- src/reader.rt:71:43
+-- src/reader.rt:83:9
 sub-read-run : tie.Need-sub-read-run
 sub-read-run c = search needs
 
--- src/reader.rt:71:43
+-- src/reader.rt:83:9
 part-read-run-start : tie.Need-part-read-run-start
 part-read-run-start c = search needs
 
--- src/reader.rt:71:43
+-- src/reader.rt:83:9
 part-read-run-end : tie.Need-part-read-run-end
 part-read-run-end c = search needs
 
--- src/reader.rt:71:5
+-- src/reader.rt:81:5
 read-run-requires : tie.Need-read-run-requires
 read-run-requires c κs = search needs
 
--- src/reader.rt:73:22
+-- src/reader.rt:88:9
 slice-aggregate-read-run-2 : tie.Need-slice-aggregate-read-run-2
 slice-aggregate-read-run-2 c = search needs
 
--- src/reader.rt:73:47
+-- src/reader.rt:89:9
 sub-read-run-2 : tie.Need-sub-read-run-2
 sub-read-run-2 c = search needs
 
--- src/reader.rt:73:47
+-- src/reader.rt:89:9
 part-read-run-start-2 : tie.Need-part-read-run-start-2
 part-read-run-start-2 c = search needs
 
--- src/reader.rt:73:47
+-- src/reader.rt:89:9
 part-read-run-end-2 : tie.Need-part-read-run-end-2
 part-read-run-end-2 c = search needs
 
--- src/reader.rt:73:5
+-- src/reader.rt:87:5
 read-run-requires-2 : tie.Need-read-run-requires-2
 read-run-requires-2 c κs = search needs
 
--- src/reader.rt:79:26
+-- src/reader.rt:97:26
 enum-told : tie.Need-enum-told
 enum-told c = search needs
 
--- src/reader.rt:79:26
+-- src/reader.rt:97:26
 slice-aggregate-copy : tie.Need-slice-aggregate-copy
 slice-aggregate-copy c = search needs
 
--- src/reader.rt:79:45
+-- src/reader.rt:97:45
 sub-copy : tie.Need-sub-copy
 sub-copy c = search needs
 
--- src/reader.rt:79:45
+-- src/reader.rt:97:45
 part-copy-start : tie.Need-part-copy-start
 part-copy-start c = search needs
 
--- src/reader.rt:79:45
+-- src/reader.rt:97:45
 part-copy-end : tie.Need-part-copy-end
 part-copy-end c = search needs
 
--- src/reader.rt:79:13
+-- src/reader.rt:97:13
 copy-requires : tie.Need-copy-requires
 copy-requires c κs = search needs
 
--- src/reader.rt:82:26
+-- src/reader.rt:100:26
 enum-told-2 : tie.Need-enum-told-2
 enum-told-2 c = search needs
 
--- src/reader.rt:82:26
+-- src/reader.rt:100:26
 slice-aggregate-copy-2 : tie.Need-slice-aggregate-copy-2
 slice-aggregate-copy-2 c = search needs
 
--- src/reader.rt:82:42
+-- src/reader.rt:100:42
 sub-copy-2 : tie.Need-sub-copy-2
 sub-copy-2 c = search needs
 
--- src/reader.rt:82:42
+-- src/reader.rt:100:42
 part-copy-start-2 : tie.Need-part-copy-start-2
 part-copy-start-2 c = search needs
 
--- src/reader.rt:82:42
+-- src/reader.rt:100:42
 part-copy-end-2 : tie.Need-part-copy-end-2
 part-copy-end-2 c = search needs
 
--- src/reader.rt:82:13
+-- src/reader.rt:100:13
 copy-requires-2 : tie.Need-copy-requires-2
 copy-requires-2 c κs = search needs
 
--- src/reader.rt:83:26
+-- src/reader.rt:102:17
 slice-aggregate-copy-3 : tie.Need-slice-aggregate-copy-3
 slice-aggregate-copy-3 c = search needs
 
--- src/reader.rt:83:57
+-- src/reader.rt:103:42
 add-copy : tie.Need-add-copy
 add-copy c = search needs
 
--- src/reader.rt:83:40
+-- src/reader.rt:103:17
 sub-copy-3 : tie.Need-sub-copy-3
 sub-copy-3 c = search needs
 
--- src/reader.rt:83:40
+-- src/reader.rt:103:17
 part-copy-start-3 : tie.Need-part-copy-start-3
 part-copy-start-3 c = search needs
 
--- src/reader.rt:83:40
+-- src/reader.rt:103:17
 part-copy-end-3 : tie.Need-part-copy-end-3
 part-copy-end-3 c = search needs
 
--- src/reader.rt:83:13
+-- src/reader.rt:101:13
 copy-requires-3 : tie.Need-copy-requires-3
 copy-requires-3 c κs = search needs
 
--- src/reader.rt:87:29
+-- src/reader.rt:108:29
 shared-slice-read-t50 : tie.Need-shared-slice-read-t50
 shared-slice-read-t50 c = search needs
 
--- src/reader.rt:88:25
+-- src/reader.rt:109:25
 shared-slice-read-t53 : tie.Need-shared-slice-read-t53
 shared-slice-read-t53 c = search needs
 
--- src/reader.rt:89:31
+-- src/reader.rt:110:31
 shared-slice-read-t56 : tie.Need-shared-slice-read-t56
 shared-slice-read-t56 c = search needs
 
--- src/reader.rt:90:21
+-- src/reader.rt:111:21
 shared-slice-read-t60 : tie.Need-shared-slice-read-t60
 shared-slice-read-t60 c = search needs
 
--- src/reader.rt:91:28
+-- src/reader.rt:112:28
 shared-slice-read-word : tie.Need-shared-slice-read-word
 shared-slice-read-word c = search needs
 
--- src/reader.rt:91:39
+-- src/reader.rt:112:39
 shared-slice-read-word-2 : tie.Need-shared-slice-read-word-2
 shared-slice-read-word-2 c = search needs
 
--- src/reader.rt:91:23
+-- src/reader.rt:112:23
 word-requires : tie.Need-word-requires
 word-requires c κs = search needs
 
--- src/reader.rt:95:37
+-- src/reader.rt:116:37
 add-t16 : tie.Need-add-t16
 add-t16 c = search needs
 
--- src/reader.rt:95:30
+-- src/reader.rt:116:30
 shared-slice-read-t72 : tie.Need-shared-slice-read-t72
 shared-slice-read-t72 c = search needs
 
--- src/reader.rt:99:19
+-- src/reader.rt:120:19
 array-read-t80 : tie.Need-array-read-t80
 array-read-t80 c = search needs
 
--- src/reader.rt:100:29
+-- src/reader.rt:121:29
 array-read-t83 : tie.Need-array-read-t83
 array-read-t83 c = search needs
 
--- src/reader.rt:101:27
+-- src/reader.rt:122:27
 array-read-t86 : tie.Need-array-read-t86
 array-read-t86 c = search needs
 
--- src/reader.rt:102:27
+-- src/reader.rt:123:27
 array-read-t89 : tie.Need-array-read-t89
 array-read-t89 c = search needs
 
--- src/reader.rt:103:39
+-- src/reader.rt:124:39
 array-read-t93 : tie.Need-array-read-t93
 array-read-t93 c = search needs
 
--- src/reader.rt:63:1
+-- src/reader.rt:69:1
 returns : tie.Need-returns
 returns c = ?
 
