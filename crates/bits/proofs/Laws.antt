@@ -6,7 +6,7 @@ use native.Mathlib.Omega.{arith}
 use native.Mathlib.Nat.{add-comm, add-assoc, add-zero, zero-add, add-suc, suc-mul, zero-mul, mul-comm, mod-lt, mod-eq-of-lt, pow-suc, pow-succ', suc-add, mod-one, le-refl}
 use native.Mathlib.Numerals.{add-one, one-add}
 use lib.ListN.{getD, length, take, drop, length-append, length-drop}
-use lib.Seq.{take-at, drop-at, take-add, length-take-le, drop-nil, drop-drop}
+use lib.Seq.{take-append-le, drop-append-le, take-at, drop-at, take-add, length-take-le, drop-nil, drop-drop}
 use lib.Dec.{lit<}
 use lib.Arith.{digits-lt}
 use lib.Pow.{high, low, mod-mod-pow, pow-pos, pow-add, shr-shr, mod-pow-add, field}
@@ -180,3 +180,12 @@ run-drop w (suc n) (v ∷ vs) =
     ∙ ap (drop (n * w)) (sym (drop-at (bitsOf w v) (run w vs) w (length-bitsOf w v)))
     ∙ drop-drop (n * w) w (bitsOf w v ++ run w vs)
     ∙ ap (λ (k : ℕ). drop k (bitsOf w v ++ run w vs)) (add-comm w (n * w) ∙ sym (suc-mul n w))
+
+-- values cut from the front do not show what stands behind
+pub cut-front : (w n : ℕ) (xs ys : List ℕ) → n * w ≤ length xs → cut w n (xs ++ ys) ≡ cut w n xs
+unfolding cut
+cut-front w zero xs ys h = refl
+cut-front w (suc n) xs ys h =
+    ap₂ (λ (x : ℕ) (l : List ℕ). x ∷ l)
+    (ap number (take-append-le w xs ys (first-fits w n xs h)))
+    (ap (cut w n) (drop-append-le w xs ys (first-fits w n xs h)) ∙ cut-front w n (drop w xs) ys (rest-fits w n xs h))

@@ -1,13 +1,13 @@
 -- Fields cut from the bits of bytes, as byte-wise code reads them. Assumes nothing.
-use Prim.Native.Nat.{ℕ, suc, _+_, _*_, _/_, _%_, _^_, _<_}
+use Prim.Native.Nat.{ℕ, suc, _+_, _*_, _/_, _%_, _^_, _≤_, _<_}
 use mathlib.Core.Path.{_≡_, refl, sym, ap, _∙_}
 use mathlib.Core.List.{List, _∷_, _++_, append-assoc}
 use native.Mathlib.Nat.{add-zero}
 use native.Mathlib.Omega.{arith}
-use lib.ListN.{length, getD, take, drop}
-use lib.Seq.{drop-cons, drop-drop, take-at, drop-at}
-use Rattle.bits.specs.Fields.{Fit, bitsOf, number, run}
-use Rattle.bits.proofs.Laws.{fit-getD, bitsOf-split, bitsOf-join, number-bitsOf, length-bitsOf, run-cons, run-drop}
+use lib.ListN.{length, getD, take, drop, length-drop, take-append-drop}
+use lib.Seq.{drop-cons, drop-drop, take-at, drop-at, length-take-le}
+use Rattle.bits.specs.Fields.{Fit, bitsOf, number, run, cut}
+use Rattle.bits.proofs.Laws.{fit-getD, fit-take, fit-drop, run-append, length-run, cut-run, cut-front, bitsOf-split, bitsOf-join, number-bitsOf, length-bitsOf, run-cons, run-drop}
 
 -- of a field's bits, with others behind them, those from `off` on: w of them, of which r stand behind
 field-in : (off w r x : ℕ) (rest : List ℕ) → number (take w (drop off (bitsOf (off + (w + r)) x ++ rest))) ≡ x / 2 ^ r % 2 ^ w
@@ -59,3 +59,26 @@ pub word-at : (p : List ℕ) (at : ℕ) → Fit 8 p → suc at < length p → nu
 word-at p at f h =
     ap (λ (n : ℕ). number (take 16 (drop n (run 8 p)))) (sym (add-zero (at * 8))) ∙ word-field p at 0 16 0 f h refl
     ∙ omega (arith, fit-getD f at, fit-getD f (suc at))
+
+-- ---- runs of fields in a part of whole bytes
+
+-- the bits from a byte on are those of a part that starts there, and others
+part-bits : (p : List ℕ) (at len : ℕ) → drop (at * 8) (run 8 p) ≡ run 8 (take len (drop at p)) ++ run 8 (drop len (drop at p))
+part-bits p at len =
+    sym (run-drop 8 at p) ∙ ap (run 8) (sym (take-append-drop len (drop at p))) ∙ run-append 8 (take len (drop at p)) (drop len (drop at p))
+
+pub length-part : (p : List ℕ) (at len : ℕ) → at + len ≤ length p → length (take len (drop at p)) ≡ len
+length-part p at len h = length-take-le len (drop at p) (rw length-drop (omega arith))
+
+-- values cut from such a part are values of the whole
+pub part-row : (p : List ℕ) (at len w n : ℕ) → at + len ≤ length p → n * w ≤ len * 8
+    → cut w n (run 8 (take len (drop at p))) ≡ cut w n (drop (at * 8) (run 8 p))
+part-row p at len w n h g =
+    let fits : n * w ≤ length (run 8 (take len (drop at p))) = rw (length-run, length-part p at len h) g in
+    sym (ap (cut w n) (part-bits p at len) ∙ cut-front w n (run 8 (take len (drop at p))) (run 8 (drop len (drop at p))) fits)
+
+-- whole bytes
+pub byte-row : (p : List ℕ) (at len : ℕ) → Fit 8 p → at + len ≤ length p → take len (drop at p) ≡ cut 8 len (drop (at * 8) (run 8 p))
+byte-row p at len f h =
+    sym (ap (cut 8 len) (part-bits p at len) ∙ ap (λ (n : ℕ). cut 8 n (run 8 (take len (drop at p)) ++ run 8 (drop len (drop at p)))) (sym (length-part p at len h))
+    ∙ cut-run (fit-take len (fit-drop at f)) (run 8 (drop len (drop at p))))

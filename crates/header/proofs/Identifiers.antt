@@ -87,13 +87,13 @@ apart-next ts os part k at f e room h g s =
     let there : suc (2 * k) * 16 ≡ (at + 2) * 8 = omega arith in
     let first : number (take 16 (drop (2 * k * 16) bits)) ≡ a = rw (here, add-one at) (word-at part at f (omega arith)) in
     let second : number (take 16 (drop (suc (2 * k) * 16) bits)) ≡ b =
-        rw there (word-at part (at + 2) f (omega arith) ∙ ap (λ (i : ℕ). getD part (at + 2) 0 * 256 + getD part i 0) (omega arith)) in
+    rw there (word-at part (at + 2) f (omega arith) ∙ ap (λ (i : ℕ). getD part (at + 2) 0 * 256 + getD part i 0) (omega arith)) in
     let two : cut 16 (2 * (k + 1)) bits ≡ cut 16 (2 * k) bits ++ (a ∷ b ∷ []) =
-        ap (λ (i : ℕ). cut 16 i bits) n ∙ cut-more 16 (suc (2 * k)) bits
-        ∙ ap₂ (λ (l : List ℕ) (x : ℕ). l ++ (x ∷ [])) (cut-more 16 (2 * k) bits ∙ ap (λ (x : ℕ). cut 16 (2 * k) bits ++ (x ∷ [])) first) second
-        ∙ append-assoc (cut 16 (2 * k) bits) (a ∷ []) (b ∷ []) in
+    ap (λ (i : ℕ). cut 16 i bits) n ∙ cut-more 16 (suc (2 * k)) bits
+    ∙ ap₂ (λ (l : List ℕ) (x : ℕ). l ++ (x ∷ [])) (cut-more 16 (2 * k) bits ∙ ap (λ (x : ℕ). cut 16 (2 * k) bits ++ (x ∷ [])) first) second
+    ∙ append-assoc (cut 16 (2 * k) bits) (a ∷ []) (b ∷ []) in
     let more = apart-more k (cut 16 (2 * k) bits) a b (length-cut 16 (2 * k) bits) in
     record {
-        ts-ids = ap (λ (n : ℕ). take n (set ts k a)) (add-one k) ∙ take-suc-set ts k a h ∙ ap (λ (l : List ℕ). l ++ (a ∷ [])) (s .ts-ids) ∙ sym (ap firsts two ∙ more .0);
-        network-ids = ap (λ (n : ℕ). take n (set os k b)) (add-one k) ∙ take-suc-set os k b g ∙ ap (λ (l : List ℕ). l ++ (b ∷ [])) (s .network-ids) ∙ sym (ap seconds two ∙ more .1)
+      ts-ids = ap (λ (n : ℕ). take n (set ts k a)) (add-one k) ∙ take-suc-set ts k a h ∙ ap (λ (l : List ℕ). l ++ (a ∷ [])) (s .ts-ids) ∙ sym (ap firsts two ∙ more .0);
+      network-ids = ap (λ (n : ℕ). take n (set os k b)) (add-one k) ∙ take-suc-set os k b g ∙ ap (λ (l : List ℕ). l ++ (b ∷ [])) (s .network-ids) ∙ sym (ap seconds two ∙ more .1);
     }

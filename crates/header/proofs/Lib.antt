@@ -16,6 +16,7 @@ mod Refusals
 pub mod RoundTrip
 mod Rows
 mod Runs
+mod Said
 mod Start
 mod Streams
 mod Whole

@@ -87,7 +87,7 @@ header-parts kind pid s buffer front word crc l f w b r c bytes =
     let both = front-all buffer (front ++ word) _ 188 (front-part buffer front _ word 184 4 one w) (omega arith) in
     let rest : length (drop 4 front) ≡ 180 = length-drop 4 front ∙ omega arith in
     let message : take 180 (drop 4 (front ++ drop 184 buffer)) ≡ drop 4 front =
-        ap (take 180) (drop-append-le 4 front (drop 184 buffer) (omega arith)) ∙ take-at (drop 4 front) (drop 184 buffer) 180 rest in
+    ap (take 180) (drop-append-le 4 front (drop 184 buffer) (omega arith)) ∙ take-at (drop 4 front) (drop 184 buffer) 180 rest in
     let same : crc ≡ crcOf kind pid s = r ∙ ap registerOf message ∙ ap (registerFrom (2 ^ 32 - 1)) (run-drop 8 4 front ∙ ap (drop 32) b) in
     let whole : length (put 184 4 (put 0 184 buffer front) word) ≡ headerLength = ap length both ∙ length-append front word ∙ ap₂ _+_ f w in
     sym (header-only kind pid s _ bytes whole (ap (run 8) both ∙ run-append 8 front word ∙ ap₂ (λ (x y : List ℕ). x ++ y) b (c ∙ ap (bitsOf 32) same)))

@@ -11,8 +11,10 @@ use crate::setting::STREAMS;
 use crate::setting::Setting;
 ghost use mathlib.Core.Path.{_≡_};
 ghost use Prim.Native.Nat.{_+_, _*_};
-ghost use lib.ListN.{length};
+ghost use lib.ListN.{length, take, drop};
 ghost use Rattle.bits.specs.Fields.{run, cut};
+ghost use Rattle.header.specs.Counters.{lastStream};
+ghost use Rattle.header.specs.Layout.{privateBytes, auxiliaryBytes, byKind};
 ghost use Rattle.header.specs.Refusal.{firstOf};
 ghost use Rattle.header.specs.Header.{headerLength, firsts, seconds, packetChecks, reading, blank};
 
@@ -65,6 +67,46 @@ fn read_identifiers(ts: &mut [u16], os: &mut [u16], part: &[u8])
     }
 }
 
+// The identifiers and statuses of each stream.
+fn read_streams(ts: &mut [u16], os: &mut [u16], statuses: &mut [u8], packet: &[u8])
+    requires { ⌜ length (now packet) ≡ headerLength ⌝ }
+    requires { ⌜ (length (now ts) ≡ lastStream) × (length (now os) ≡ lastStream) × (length (now statuses) ≡ lastStream) ⌝ }
+    ensures { λ _. ⌜ now (ts .exit) ≡ reading Kind.Plain (now (packet .entry)) .«ts_id» ⌝ }
+    ensures { λ _. ⌜ now (os .exit) ≡ reading Kind.Plain (now (packet .entry)) .«original_network_id» ⌝ }
+    ensures { λ _. ⌜ now (statuses .exit) ≡ reading Kind.Plain (now (packet .entry)) .«receive_status» ⌝ }
+{
+    read_identifiers(ts, os, &packet[places::IDENTIFIERS..places::CONTROL]);
+    packed::read_run(statuses, &packet[places::CONTROL..places::NUMBERS], 2);
+}
+
+// The private data: all of them in a plain header, their parts in an extended one. The lent bytes of the other kind stay.
+fn read_private(
+    data: &mut [u8],
+    auxiliary: &mut [u8],
+    bonding: &mut [u8],
+    packet: &[u8],
+    kind: Kind,
+)
+    requires { ⌜ length (now packet) ≡ headerLength ⌝ }
+    requires { ⌜ (length (now «data») ≡ privateBytes) × (length (now auxiliary) ≡ auxiliaryBytes) × (length (now bonding) ≡ 4) ⌝ }
+    ensures { λ _. ⌜ now («data» .exit) ≡ byKind kind (take privateBytes (drop 99 (now (packet .entry)))) (now («data» .entry)) ⌝ }
+    ensures { λ _. ⌜ now (auxiliary .exit) ≡ byKind kind (now (auxiliary .entry)) (take auxiliaryBytes (drop 99 (now (packet .entry)))) ⌝ }
+    ensures { λ _. ⌜ now (bonding .exit) ≡ byKind kind (now (bonding .entry)) (take 4 (drop 127 (now (packet .entry)))) ⌝ }
+{
+    match kind {
+        Kind::Plain => {
+            slices::copy(data, &packet[places::PRIVATE..places::CRC]);
+        }
+        Kind::Extended => {
+            slices::copy(auxiliary, &packet[places::PRIVATE..places::BONDING]);
+            slices::copy(
+                bonding,
+                &packet[places::BONDING..places::BONDING + places::BONDING_BYTES],
+            );
+        }
+    }
+}
+
 // What the packet says, field by field; zeros in the part that the kind does not have.
 pub(crate) fn setting_of(packet: &[u8], kind: Kind) -> Setting
     requires { ⌜ length (now packet) ≡ headerLength ⌝ }
@@ -72,16 +114,12 @@ pub(crate) fn setting_of(packet: &[u8], kind: Kind) -> Setting
 {
     let mut ts_id = [0u16; STREAMS];
     let mut original_network_id = [0u16; STREAMS];
-    read_identifiers(
+    let mut receive_status = [0u8; STREAMS];
+    read_streams(
         &mut ts_id,
         &mut original_network_id,
-        &packet[places::IDENTIFIERS..places::CONTROL],
-    );
-    let mut receive_status = [0u8; STREAMS];
-    packed::read_run(
         &mut receive_status,
-        &packet[places::CONTROL..places::NUMBERS],
-        2,
+        packet,
     );
     let mut relative_ts_number = [0u8; SLOTS];
     packed::read_run(
@@ -92,18 +130,13 @@ pub(crate) fn setting_of(packet: &[u8], kind: Kind) -> Setting
     let mut private_data = [0u8; PRIVATE_BYTES];
     let mut auxiliary = [0u8; AUXILIARY_BYTES];
     let mut bonding = [0u8; places::BONDING_BYTES];
-    match kind {
-        Kind::Plain => {
-            slices::copy(&mut private_data, &packet[places::PRIVATE..places::CRC]);
-        }
-        Kind::Extended => {
-            slices::copy(&mut auxiliary, &packet[places::PRIVATE..places::BONDING]);
-            slices::copy(
-                &mut bonding,
-                &packet[places::BONDING..places::BONDING + places::BONDING_BYTES],
-            );
-        }
-    }
+    read_private(
+        &mut private_data,
+        &mut auxiliary,
+        &mut bonding,
+        packet,
+        kind,
+    );
     Setting {
         continuity_counter: packet[3] % 16,
         version_number: packet[6] / 32,

@@ -112,10 +112,13 @@ write-header-requires c κs =
     let rule = c .before in
     let width = rule .before .before in
     let start = start₄ rule in
-    let l = at-most 16 8190 (start .args .pid) (allowed (width .before .before)) in
-    ((width .before .before .before .before .if1 .left, omega arith),
-        (narrow (start .args .kind) (no-width width),
-            first-none (bonding-none (start .args .kind) (start .args .s) (rule-none (start .args .kind) (start .args .s) (no-rule rule)))))
+    let l = at-most 16 8190 (start .args .pid) (allowed (width .before .before)) in (
+      (width .before .before .before .before .if1 .left, omega arith),
+      (
+        narrow (start .args .kind) (no-width width),
+        first-none (bonding-none (start .args .kind) (start .args .s) (rule-none (start .args .kind) (start .args .s) (no-rule rule))),
+      ),
+    )
 
 -- src/lib.rt:19:1
 same-length : tie.Need-same-length

@@ -99,10 +99,14 @@ loop-again c =
     let start = c .before .before .before .before .before .before .before .before .before .before .before in
     let args = start .args in
     let next =
-        apart-next (at .ts) (at .os) (args .part .now) (at .k) (at .at) (fit-of 8 (args .part .now) (λ i. c .before .before .before .before .before .before .before .before .shared-slice-known .given i .fits))
-        (at .inv .1) (omega (arith, start .pre)) (omega arith) (omega (arith, start .pre)) (at .inv .4) in
-    (omega arith, omega arith, simp length-set (at .inv .2), simp length-set (at .inv .3),
-        rw (c .before .before .before .word .ensures, c .word2 .ensures) next)
+    apart-next (at .ts) (at .os) (args .part .now) (at .k) (at .at) (fit-of 8 (args .part .now) (λ i. c .before .before .before .before .before .before .before .before .shared-slice-known .given i .fits))
+    (at .inv .1) (omega (arith, start .pre)) (omega arith) (omega (arith, start .pre)) (at .inv .4) in (
+      omega arith,
+      omega arith,
+      simp length-set (at .inv .2),
+      simp length-set (at .inv .3),
+      rw (c .before .before .before .word .ensures, c .word2 .ensures) next,
+    )
 
 -- src/reader.rt:47:1
 same-length : tie.Need-same-length Inv-loop μ-loop
@@ -119,9 +123,10 @@ returns c =
     let args = c .before .before .before .before .before .args in
     let pre = c .before .before .before .before .before .pre in
     let n : at .k ≡ length (args .ts .now) = omega arith in
-    let bits = run 8 (args .part .now) in
-    (sym (take-all (at .k) (at .ts) (omega arith)) ∙ at .inv .4 .ts-ids ∙ ap (λ (k : ℕ). firsts (cut 16 (2 * k) bits)) n,
-        sym (take-all (at .k) (at .os) (omega (arith, pre))) ∙ at .inv .4 .network-ids ∙ ap (λ (k : ℕ). seconds (cut 16 (2 * k) bits)) n)
+    let bits = run 8 (args .part .now) in (
+      sym (take-all (at .k) (at .ts) (omega arith)) ∙ at .inv .4 .ts-ids ∙ ap (λ (k : ℕ). firsts (cut 16 (2 * k) bits)) n,
+      sym (take-all (at .k) (at .os) (omega (arith, pre))) ∙ at .inv .4 .network-ids ∙ ap (λ (k : ℕ). seconds (cut 16 (2 * k) bits)) n,
+    )
 
 pub read-identifiers-spec : {M : Type 1} → statement M
 read-identifiers-spec =
