@@ -15,8 +15,9 @@ use Rattle.header.specs.Header.{headerLength, firsts, seconds, row, valu
 use Rattle.header.proofs.Cut.{byte-field, word-field, wordAt, part-row, byte-row}
 use Rattle.header.proofs.LaidOut.{laid-out}
 
--- the lists of a setting that byte-wise code reads
+-- the lists of a setting that byte-wise code reads, and the number of bytes 7 and 8
 pub record Lists : Type 0 where
+  pub word : ℕ
   pub ts-id : List ℕ
   pub network-id : List ℕ
   pub statuses : List ℕ
@@ -27,6 +28,7 @@ pub record Lists : Type 0 where
 
 -- they are what stands in their parts of the packet, and zeros in the part that the kind does not have
 pub record Read (kind : Kind) (p : List ℕ) (l : Lists) : Type 0 where
+  pub word : l .word ≡ wordAt p 7
   pub ts-id : l .ts-id ≡ reading kind p .«ts_id»
   pub network-id : l .network-id ≡ reading kind p .«original_network_id»
   pub statuses : l .statuses ≡ reading kind p .«receive_status»
@@ -43,7 +45,7 @@ together p l =
         «version_number» = getD p 6 0 / 32;
         «slot_allocation_type» = getD p 6 0 / 16 % 2;
         «frame_type» = getD p 6 0 % 16;
-        availability = wordAt p 7 / 2;
+        availability = l .word / 2;
         «ts_id» = l .ts-id;
         «original_network_id» = l .network-id;
         «receive_status» = l .statuses;
@@ -129,7 +131,7 @@ module _ (p : List ℕ) (f : Fit 8 p) (h : length p ≡ headerLength) where
           «version_number» = version kind i;
           «slot_allocation_type» = slot-type kind i;
           «frame_type» = frame-type kind i;
-          availability = streams kind i;
+          availability = (ap (λ (n : ℕ). n / 2) (r .word) ∙ streams kind) i;
           «ts_id» = r .ts-id i;
           «original_network_id» = r .network-id i;
           «receive_status» = r .statuses i;
