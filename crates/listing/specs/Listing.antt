@@ -1,5 +1,6 @@
 -- The listing of a recording: a line for each packet, and one for bytes that are left over.
 use Prim.Native.Nat.{ℕ, zero, suc, _+_, _*_, _/_, _%_}
+use mathlib.Core.Path.{_≡_}
 use mathlib.Core.Bool.{cond}
 use mathlib.Core.List.{List, [], _∷_, _++_}
 use lib.Dec.{eqb}
@@ -64,3 +65,9 @@ tailLine left = cond (eqb left 0) [] (field tailWord space ++ field (decimal lef
 -- the listing of a recording's bytes, of which the first packet has the number `first`
 unfoldable pub listing : ℕ → List ℕ → List ℕ
 listing first bytes = lines first bytes (length bytes / packetLength) ++ tailLine (length bytes % packetLength)
+
+-- A recording that is listed block by block is listed whole, where each block but the last is whole packets.
+abbrev pub ByBlocks : Type 0
+ByBlocks =
+    (first packets : ℕ) (block rest : List ℕ) → length block ≡ packetLength * packets
+    → listing first (block ++ rest) ≡ listing first block ++ listing (first + packets) rest

@@ -15,7 +15,7 @@ lineFeed = 10
 -- the digits of n without zeros in front, of a number that has no more than `most`
 unfoldable pub digitsWithin : ℕ → ℕ → List ℕ
 digitsWithin zero n = []
-digitsWithin (suc most) n = cond (ltb n 10) [] (digitsWithin most (n / 10)) ++ (48 + n % 10 ∷ [])
+digitsWithin (suc most) n = cond (ltb n 10) [] (digitsWithin most (n / 10)) ++ ((48 + n % 10) ∷ [])
 
 -- n in decimal. A number of 64 bits has at most twenty digits
 unfoldable pub decimal : ℕ → List ℕ

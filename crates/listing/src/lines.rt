@@ -4,6 +4,7 @@ use crate::text::put_number;
 use header::setting::Kind;
 ghost use Prim.Native.Nat.{_+_, _*_, _/_, _≤_, _<_, _^_};
 ghost use lib.ListN.{length};
+ghost use Rattle.io.specs.Counts.{Counts};
 ghost use Rattle.listing.specs.Text.{Puts};
 ghost use Rattle.listing.specs.Listing.{refusedFields, headerFields, line, tailLine, listing};
 
@@ -58,6 +59,7 @@ fn put_line(out: &mut [u8], at: usize, number: u64, packet: &[u8]) -> usize
 fn put_tail(out: &mut [u8], at: usize, left: usize) -> usize
     requires { ⌜ at + 96 ≤ length (now out) ⌝ }
     ensures { λ r. ⌜ Puts (now (out .entry)) at (tailLine left) (now (out .exit)) r ⌝ }
+    ensures { λ r. ⌜ r ≤ at + 96 ⌝ }
 {
     if left == 0 {
         return at;
@@ -71,6 +73,7 @@ pub(crate) fn put_listing(out: &mut [u8], bytes: &[u8], first: u64) -> usize
     requires { ⌜ 96 * (length (now bytes) / 188 + 1) ≤ length (now out) ⌝ }
     requires { ⌜ first + length (now bytes) / 188 < 2 ^ 64 ⌝ }
     ensures { λ r. ⌜ Puts (now (out .entry)) 0 (listing first (now (bytes .entry))) (now (out .exit)) r ⌝ }
+    ensures { λ r. ⌜ Counts r (now (out .exit)) ⌝ }
 {
     let mut at = 0;
     let mut from = 0;
