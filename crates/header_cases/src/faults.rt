@@ -18,13 +18,22 @@ fn stream_bit(i: u16) -> u16 {
     1u16 << ((14 - i % 15) as u32)
 }
 
-fn fault_length(x: u16) -> usize
+// 0: another length.
+fn faulty_length(length: usize, k: u16, x: u16) -> usize
+    requires { ⌜ length ≤ 200 ⌝ }
     ensures { λ r. ⌜ r ≤ 200 ⌝ }
 {
+    if k != 0 {
+        return length;
+    }
     if x % 2 == 0 { 187 } else { 189 }
 }
 
-fn fault_pid(x: u16) -> u16 {
+// 1: a header PID that may not be used.
+fn faulty_pid(pid: u16, k: u16, x: u16) -> u16 {
+    if k != 1 {
+        return pid;
+    }
     match x % 4 {
         0 => 15,
         1 => 8191,
@@ -103,7 +112,8 @@ fn plain_absent(mut s: Setting, x: u16, y: u16) -> Setting {
             s.number_of_frames = 1;
         }
         _ => {
-            s.frame_position = FramePosition(1);
+            let position = FramePosition(1);
+            s.frame_position = position;
         }
     }
     s
@@ -143,6 +153,15 @@ fn repeated(mut s: Setting, x: u16, y: u16, differs: u16) -> Setting {
     s
 }
 
+fn faulty_position(frames: u8, x: u16) -> FramePosition {
+    match x % 4 {
+        0 => FramePosition(0),
+        1 => FramePosition(frames),
+        2 => FramePosition(std::num::wrapping_add_u8(frames, 1)),
+        _ => FramePosition(17),
+    }
+}
+
 // 10 to 13: a bonding field.
 fn bonding(mut s: Setting, k: u16, x: u16) -> Setting {
     match k {
@@ -170,23 +189,16 @@ fn bonding(mut s: Setting, k: u16, x: u16) -> Setting {
             };
         }
         _ => {
-            s.frame_position = FramePosition(
-                match x % 4 {
-                    0 => 0,
-                    1 => s.number_of_frames,
-                    2 => std::num::wrapping_add_u8(s.number_of_frames, 1),
-                    _ => 17,
-                },
-            );
+            let position = faulty_position(s.number_of_frames, x);
+            s.frame_position = position;
         }
     }
     s
 }
 
-// What fault k makes of a setting.
+// 2 to 13: a faulty setting.
 fn faulty(kind: Kind, mut s: Setting, k: u16, x: u16, y: u16) -> Setting {
     match k {
-        0 | 1 => s,
         2 | 3 => wide_field(s, x, y),
         4 => absent(kind, s, x, y),
         5 => {
@@ -197,15 +209,21 @@ fn faulty(kind: Kind, mut s: Setting, k: u16, x: u16, y: u16) -> Setting {
         7 => repeated(s, x, y, 0),
         8 => repeated(s, x, y, 1),
         9 => with_number(s, x, (y % 16) as u8),
-        _ => bonding(s, k, x),
+        10..=13 => bonding(s, k, x),
+        _ => s,
     }
 }
 
-fn draw_fault(state: &mut u32, kind: Kind) -> u16 {
-    match kind {
+// No fault has this number.
+const NONE: u16 = 14;
+
+// The number of a fault, or none after the first `count`. It is drawn all the same.
+fn draw_fault(state: &mut u32, kind: Kind, i: u8, count: u8) -> u16 {
+    let k = match kind {
         Kind::Plain => below(state, 10),
         Kind::Extended => below(state, 14),
-    }
+    };
+    if i < count { k } else { NONE }
 }
 
 pub(crate) fn draw_faults(
@@ -222,18 +240,12 @@ pub(crate) fn draw_faults(
     let mut s = setting;
     let mut i: u8 = 0;
     while i < 3 {
-        let k = draw_fault(state, kind);
+        let k = draw_fault(state, kind, i, count);
         let x = draw(state);
         let y = draw(state);
-        if i < count {
-            if k == 0 {
-                length = fault_length(x);
-            }
-            if k == 1 {
-                used_pid = fault_pid(x);
-            }
-            s = faulty(kind, s, k, x, y);
-        }
+        length = faulty_length(length, k, x);
+        used_pid = faulty_pid(used_pid, k, x);
+        s = faulty(kind, s, k, x, y);
         i += 1;
     }
     Lent {

@@ -6,8 +6,13 @@ use header::setting::SLOTS;
 use header::setting::STREAMS;
 use header::setting::Setting;
 use libc::STDOUT_FILENO;
+ghost use mathlib.Core.Path.{_≡_};
+ghost use Prim.Native.Nat.{_≤_};
+ghost use lib.ListN.{length};
 
-const STATUS: usize = 6 + 4 * STREAMS;
+const IDENTIFIERS: usize = 6;
+
+const STATUS: usize = IDENTIFIERS + 4 * STREAMS;
 
 const NUMBERS: usize = STATUS + STREAMS + 1;
 
@@ -36,51 +41,85 @@ pub(crate) fn print_read(reading: Reading) {
     io::write_all(STDOUT_FILENO, b"\n");
 }
 
-fn put_identifiers(bytes: &mut [u8; 252], s: Setting) {
+fn high(x: u16) -> u8 {
+    (x / 256) as u8
+}
+
+fn low(x: u16) -> u8 {
+    (x % 256) as u8
+}
+
+fn put_identifiers(bytes: &mut [u8], s: Setting)
+    requires { ⌜ length (now bytes) ≡ 252 ⌝ }
+{
     let ts = s.ts_id;
     let os = s.original_network_id;
     let mut i = 0;
     while i < STREAMS {
-        let at = 6 + 4 * i;
-        bytes[at] = (ts[i] / 256) as u8;
-        bytes[at + 1] = (ts[i] % 256) as u8;
-        bytes[at + 2] = (os[i] / 256) as u8;
-        bytes[at + 3] = (os[i] % 256) as u8;
+        let at = IDENTIFIERS + 4 * i;
+        bytes[at] = high(ts[i]);
+        bytes[at + 1] = low(ts[i]);
+        bytes[at + 2] = high(os[i]);
+        bytes[at + 3] = low(os[i]);
         i += 1;
     }
 }
 
-fn put_numbers(bytes: &mut [u8; 252], s: Setting) {
-    bytes[0] = s.continuity_counter;
-    bytes[1] = s.version_number;
-    bytes[2] = s.slot_allocation_type;
-    bytes[3] = s.frame_type;
-    bytes[4] = (s.availability / 256) as u8;
-    bytes[5] = (s.availability % 256) as u8;
-    bytes[NUMBERS - 1] = s.emergency_indicator;
-    bytes[BONDING] = s.group_id;
-    bytes[BONDING + 1] = s.number_of_carriers;
-    bytes[BONDING + 2] = s.carrier_sequence;
-    bytes[BONDING + 3] = s.number_of_frames;
-    let position = s.frame_position;
-    bytes[BONDING + 4] = position.0;
+// Copies a list to the bytes from `at` to `end`.
+fn put_list(bytes: &mut [u8], at: usize, end: usize, values: &[u8])
+    requires { ⌜ (at ≤ end) × (end ≤ length (now bytes)) ⌝ }
+{
+    slices::copy(&mut bytes[at..end], values);
 }
 
-fn put_lists(bytes: &mut [u8; 252], s: Setting) {
+fn put_numbers(bytes: &mut [u8], s: Setting)
+    requires { ⌜ length (now bytes) ≡ 252 ⌝ }
+{
+    let start = [
+        s.continuity_counter,
+        s.version_number,
+        s.slot_allocation_type,
+        s.frame_type,
+        high(s.availability),
+        low(s.availability),
+    ];
+    put_list(bytes, 0, IDENTIFIERS, &start);
+    let emergency = [s.emergency_indicator];
+    put_list(bytes, NUMBERS - 1, NUMBERS, &emergency);
+    let position = s.frame_position;
+    let bonding = [
+        s.group_id,
+        s.number_of_carriers,
+        s.carrier_sequence,
+        s.number_of_frames,
+        position.0,
+    ];
+    put_list(bytes, BONDING, BONDING + 5, &bonding);
+}
+
+fn put_streams(bytes: &mut [u8], s: Setting)
+    requires { ⌜ length (now bytes) ≡ 252 ⌝ }
+{
     let status = s.receive_status;
-    slices::copy(&mut bytes[STATUS..NUMBERS - 1], &status);
+    put_list(bytes, STATUS, NUMBERS - 1, &status);
     let numbers = s.relative_ts_number;
-    slices::copy(&mut bytes[NUMBERS..PRIVATE], &numbers);
+    put_list(bytes, NUMBERS, PRIVATE, &numbers);
+}
+
+fn put_private(bytes: &mut [u8], s: Setting)
+    requires { ⌜ length (now bytes) ≡ 252 ⌝ }
+{
     let private_data = s.private_data;
-    slices::copy(&mut bytes[PRIVATE..AUXILIARY], &private_data);
+    put_list(bytes, PRIVATE, AUXILIARY, &private_data);
     let auxiliary = s.auxiliary;
-    slices::copy(&mut bytes[AUXILIARY..BONDING], &auxiliary);
+    put_list(bytes, AUXILIARY, BONDING, &auxiliary);
 }
 
 fn register_of(s: Setting) -> u32 {
     let mut bytes = [0u8; 252];
     put_identifiers(&mut bytes, s);
     put_numbers(&mut bytes, s);
-    put_lists(&mut bytes, s);
+    put_streams(&mut bytes, s);
+    put_private(&mut bytes, s);
     crc::register(&bytes)
 }

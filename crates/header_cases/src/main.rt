@@ -1,6 +1,9 @@
 // Draws 400 settings, writes a header for each and reads it back, and writes a line for each that says what came of it. The
 // words at the top of compare/cases/src/bin/header_cases.rs say how each is drawn; the steps are numbered as there.
 use header::setting::Kind;
+ghost use mathlib.Core.Path.{_≡_};
+ghost use Prim.Native.Nat.{_≤_};
+ghost use lib.ListN.{length};
 
 mod draws;
 mod faults;
@@ -37,12 +40,21 @@ fn draw_pid(state: &mut u32) -> u16 {
     }
 }
 
-// Steps 12 to 14.
-fn write_and_read(c: u64, lent: faults::Lent, kind: Kind, replacement: replaced::Replacement) {
-    let mut buffer = [0xA5u8; 200];
-    let length = lent.length;
+// Step 12: the buffer's first bytes are lent to the writer.
+fn write_front(buffer: &mut [u8], lent: faults::Lent, kind: Kind) -> u8
+    requires { ⌜ (length (now buffer) ≡ 200) × (lent .length ≤ 200) ⌝ }
+{
+    let n = lent.length;
     let setting = lent.setting;
-    let written = header::write(&mut buffer[0..length], lent.pid, kind, setting);
+    header::write(&mut buffer[0..n], lent.pid, kind, setting)
+}
+
+// Steps 12 to 14.
+fn write_and_read(c: u64, lent: faults::Lent, kind: Kind, replacement: replaced::Replacement)
+    requires { ⌜ lent .length ≤ 200 ⌝ }
+{
+    let mut buffer = [0xA5u8; 200];
+    let written = write_front(&mut buffer, lent, kind);
     lines::print_written(c, written, crc::register(&buffer));
     replaced::replace(&mut buffer, c, replacement);
     let reading = header::read(&buffer[0..HEADER_BYTES], lent.pid, kind);

@@ -2,7 +2,6 @@
 use crate::draws::below;
 use crate::draws::byte_below;
 ghost use mathlib.Core.Path.{_≡_};
-ghost use Prim.Native.Nat.{_<_};
 ghost use lib.ListN.{length};
 
 pub(crate) struct Replacement {
@@ -26,6 +25,10 @@ pub(crate) fn draw_replacement(state: &mut u32) -> Replacement {
     Replacement { h, p, w, v, m }
 }
 
+fn wide(x: u8) -> usize {
+    x as usize
+}
+
 // The place of the byte.
 fn place(c: u64, r: Replacement) -> usize {
     if r.w == 0 {
@@ -33,9 +36,9 @@ fn place(c: u64, r: Replacement) -> usize {
     }
     let h = (r.h % 16) as usize;
     if c % 4 < 2 {
-        WITH_CRC[h] as usize
+        wide(WITH_CRC[h])
     } else {
-        WITHOUT_CRC[h] as usize
+        wide(WITHOUT_CRC[h])
     }
 }
 
@@ -46,7 +49,9 @@ fn new_byte(old: u8, r: Replacement) -> u8 {
     old ^ (1u8 << ((r.v % 8) as u32))
 }
 
-fn put_crc(buffer: &mut [u8; 200]) {
+fn put_crc(buffer: &mut [u8])
+    requires { ⌜ length (now buffer) ≡ 200 ⌝ }
+{
     let word = crc::register(&buffer[4..184]);
     buffer[184] = (word / 16777216) as u8;
     buffer[185] = (word / 65536 % 256) as u8;
@@ -54,7 +59,9 @@ fn put_crc(buffer: &mut [u8; 200]) {
     buffer[187] = (word % 256) as u8;
 }
 
-pub(crate) fn replace(buffer: &mut [u8; 200], c: u64, r: Replacement) {
+pub(crate) fn replace(buffer: &mut [u8], c: u64, r: Replacement)
+    requires { ⌜ length (now buffer) ≡ 200 ⌝ }
+{
     if c % 3 != 0 {
         return;
     }

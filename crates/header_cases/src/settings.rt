@@ -93,13 +93,20 @@ fn with_control(state: &mut u32, mut s: Setting) -> Setting {
     s
 }
 
+// n, where stream n is available.
+fn number_of(availability: u16, n: u8) -> u8 {
+    if RelativeNumber(n).is_available(availability) {
+        n
+    } else {
+        0
+    }
+}
+
 fn draw_numbers(state: &mut u32, availability: u16, numbers: &mut [u8]) {
     let mut i = 0;
     while i < numbers.len() {
         let n = byte_below(state, 16);
-        if RelativeNumber(n).is_available(availability) {
-            numbers[i] = n;
-        }
+        numbers[i] = number_of(availability, n);
         i += 1;
     }
 }
@@ -128,7 +135,8 @@ fn with_extension(state: &mut u32, mut s: Setting) -> Setting {
     s.carrier_sequence = 1 + byte_below(state, carriers);
     let frames = 3 + below(state, 2);
     s.number_of_frames = frames as u8;
-    s.frame_position = FramePosition(1 + byte_below(state, frames));
+    let position = FramePosition(1 + byte_below(state, frames));
+    s.frame_position = position;
     s
 }
 
