@@ -1,0 +1,4 @@
+pub mod Putting
+pub mod Decimal
+pub mod Packets
+pub mod Blocks

@@ -1,0 +1,73 @@
+-- The listing of a recording: a line for each packet, and one for bytes that are left over.
+use Prim.Native.Nat.{ℕ, zero, suc, _+_, _*_, _/_, _%_}
+use mathlib.Core.Path.{_≡_}
+use mathlib.Core.Bool.{cond}
+use mathlib.Core.List.{List, [], _∷_, _++_}
+use lib.Dec.{eqb}
+use lib.ListN.{length, take, drop}
+use Rattle.header.specs.declared.setting.Kind.{Kind}
+use Rattle.header.specs.declared.setting.Reading.{Reading}
+use Rattle.header.specs.Rules.{countAvailable}
+use Rattle.header.specs.Header.{readOf}
+use Rattle.listing.specs.Text.{space, lineFeed, decimal, field}
+
+-- the header PID of a recording that is listed
+abbrev pub listedPid : ℕ
+listedPid = 0x1FF0
+
+abbrev pub packetLength : ℕ
+packetLength = 188
+
+-- the words `refused`, `header` and `tail`
+abbrev pub refusedWord : List ℕ
+refusedWord = 114 ∷ 101 ∷ 102 ∷ 117 ∷ 115 ∷ 101 ∷ 100 ∷ []
+
+abbrev pub headerWord : List ℕ
+headerWord = 104 ∷ 101 ∷ 97 ∷ 100 ∷ 101 ∷ 114 ∷ []
+
+abbrev pub tailWord : List ℕ
+tailWord = 116 ∷ 97 ∷ 105 ∷ 108 ∷ []
+
+-- what is said of a packet that is no good header
+unfoldable pub refusedFields : ℕ → List ℕ
+refusedFields refusal = field refusedWord space ++ field (decimal refusal) lineFeed
+
+-- what is said of a header: its counter, its version and how many streams are available
+unfoldable pub headerFields : ℕ → ℕ → ℕ → List ℕ
+headerFields counter version available =
+    field headerWord space
+    ++ (field (decimal counter) space ++ (field (decimal version) space ++ field (decimal available) lineFeed))
+
+-- what is said of a packet that was read
+unfoldable pub readingFields : Reading → List ℕ
+readingFields r =
+    cond (eqb (r .refusal) 0)
+    (headerFields (r .setting .«continuity_counter») (r .setting .«version_number») (countAvailable (r .setting .availability)))
+    (refusedFields (r .refusal))
+
+-- the line of the packet that has this number
+unfoldable pub line : ℕ → List ℕ → List ℕ
+line number packet = field (decimal number) space ++ readingFields (readOf Kind.Plain listedPid packet)
+
+-- packet k of a recording, counted from 0
+abbrev pub packetAt : List ℕ → ℕ → List ℕ
+packetAt bytes k = take packetLength (drop (packetLength * k) bytes)
+
+-- the lines of the first n packets, of which the first has the number `first`
+unfoldable pub lines : ℕ → List ℕ → ℕ → List ℕ
+lines first bytes zero = []
+lines first bytes (suc n) = lines first bytes n ++ line (first + n) (packetAt bytes n)
+
+-- the line for bytes that are left over, where there are any
+unfoldable pub tailLine : ℕ → List ℕ
+tailLine left = cond (eqb left 0) [] (field tailWord space ++ field (decimal left) lineFeed)
+
+-- the listing of a recording's bytes, of which the first packet has the number `first`
+unfoldable pub listing : ℕ → List ℕ → List ℕ
+listing first bytes = lines first bytes (length bytes / packetLength) ++ tailLine (length bytes % packetLength)
+
+-- A recording that is listed block by block is listed whole, where each block but the last is whole packets.
+abbrev pub ByBlocks : Type 0
+ByBlocks =
+    (first packets : ℕ) (block rest : List ℕ) → length block ≡ packetLength * packets
+    → listing first (block ++ rest) ≡ listing first block ++ listing (first + packets) rest

@@ -1,0 +1,88 @@
+// The lines of a listing, put into a lent buffer.
+use crate::text::put_field;
+use crate::text::put_number;
+use header::setting::Kind;
+ghost use Prim.Native.Nat.{_+_, _*_, _/_, _≤_, _<_, _^_};
+ghost use lib.ListN.{length};
+ghost use Rattle.io.specs.Counts.{Counts};
+ghost use Rattle.listing.specs.Text.{Puts};
+ghost use Rattle.listing.specs.Listing.{refusedFields, headerFields, line, tailLine, listing};
+
+// The header PID of a recording that is listed.
+const PID: u16 = 0x1FF0;
+
+const PACKET_BYTES: usize = 188;
+
+fn put_refused(out: &mut [u8], at: usize, refusal: u8) -> usize
+    requires { ⌜ at + 29 ≤ length (now out) ⌝ }
+    ensures { λ r. ⌜ Puts (now (out .entry)) at (refusedFields refusal) (now (out .exit)) r ⌝ }
+    ensures { λ r. ⌜ r ≤ at + 29 ⌝ }
+{
+    let next = put_field(out, at, b"refused", b' ');
+    put_number(out, next, refusal as u64, b'\n')
+}
+
+fn put_header(out: &mut [u8], at: usize, counter: u8, version: u8, available: u32) -> usize
+    requires { ⌜ at + 70 ≤ length (now out) ⌝ }
+    ensures { λ r. ⌜ Puts (now (out .entry)) at (headerFields counter version available) (now (out .exit)) r ⌝ }
+    ensures { λ r. ⌜ r ≤ at + 70 ⌝ }
+{
+    let second = put_field(out, at, b"header", b' ');
+    let third = put_number(out, second, counter as u64, b' ');
+    let fourth = put_number(out, third, version as u64, b' ');
+    put_number(out, fourth, available as u64, b'\n')
+}
+
+// The line of a packet.
+fn put_line(out: &mut [u8], at: usize, number: u64, packet: &[u8]) -> usize
+    requires { ⌜ at + 96 ≤ length (now out) ⌝ }
+    ensures { λ r. ⌜ Puts (now (out .entry)) at (line number (now (packet .entry))) (now (out .exit)) r ⌝ }
+    ensures { λ r. ⌜ r ≤ at + 96 ⌝ }
+{
+    let reading = header::read(packet, PID, Kind::Plain);
+    let next = put_number(out, at, number, b' ');
+    if reading.refusal != 0 {
+        return put_refused(out, next, reading.refusal);
+    }
+    let setting = reading.setting;
+    let available = header::count_available(setting.availability);
+    put_header(
+        out,
+        next,
+        setting.continuity_counter,
+        setting.version_number,
+        available,
+    )
+}
+
+// The line for bytes that are left over, where there are any.
+fn put_tail(out: &mut [u8], at: usize, left: usize) -> usize
+    requires { ⌜ at + 96 ≤ length (now out) ⌝ }
+    ensures { λ r. ⌜ Puts (now (out .entry)) at (tailLine left) (now (out .exit)) r ⌝ }
+    ensures { λ r. ⌜ r ≤ at + 96 ⌝ }
+{
+    if left == 0 {
+        return at;
+    }
+    let next = put_field(out, at, b"tail", b' ');
+    put_number(out, next, left as u64, b'\n')
+}
+
+// The listing of `bytes`, of which the first packet has the number `first`, at the front of a buffer with room for it.
+pub(crate) fn put_listing(out: &mut [u8], bytes: &[u8], first: u64) -> usize
+    requires { ⌜ 96 * (length (now bytes) / 188 + 1) ≤ length (now out) ⌝ }
+    requires { ⌜ first + length (now bytes) / 188 < 2 ^ 64 ⌝ }
+    ensures { λ r. ⌜ Puts (now (out .entry)) 0 (listing first (now (bytes .entry))) (now (out .exit)) r ⌝ }
+    ensures { λ r. ⌜ Counts r (now (out .exit)) ⌝ }
+{
+    let mut at = 0;
+    let mut from = 0;
+    let mut number = first;
+    while PACKET_BYTES <= bytes.len() - from {
+        let end = from + PACKET_BYTES;
+        at = put_line(out, at, number, &bytes[from..end]);
+        from = end;
+        number += 1;
+    }
+    put_tail(out, at, bytes.len() - from)
+}
