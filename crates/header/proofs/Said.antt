@@ -41,23 +41,23 @@ pub record Read (kind : Kind) (p : List ℕ) (l : Lists) : Type 0 where
 abbrev pub together : List ℕ → Lists → Setting
 together p l =
     record {
-        «continuity_counter» = getD p 3 0 % 16;
-        «version_number» = getD p 6 0 / 32;
-        «slot_allocation_type» = getD p 6 0 / 16 % 2;
-        «frame_type» = getD p 6 0 % 16;
-        availability = l .word / 2;
-        «ts_id» = l .ts-id;
-        «original_network_id» = l .network-id;
-        «receive_status» = l .statuses;
-        «emergency_indicator» = getD p 72 0 / 2 % 2;
-        «relative_ts_number» = l .numbers;
-        «private_data» = l .privates;
-        auxiliary = l .auxiliaries;
-        «group_id» = getD (l .bonding) 0 0;
-        «number_of_carriers» = getD (l .bonding) 1 0;
-        «carrier_sequence» = getD (l .bonding) 2 0;
-        «number_of_frames» = getD (l .bonding) 3 0 / 16;
-        «frame_position» = record { 0 = getD (l .bonding) 3 0 % 16 }
+      «continuity_counter» = getD p 3 0 % 16;
+      «version_number» = getD p 6 0 / 32;
+      «slot_allocation_type» = getD p 6 0 / 16 % 2;
+      «frame_type» = getD p 6 0 % 16;
+      availability = l .word / 2;
+      «ts_id» = l .ts-id;
+      «original_network_id» = l .network-id;
+      «receive_status» = l .statuses;
+      «emergency_indicator» = getD p 72 0 / 2 % 2;
+      «relative_ts_number» = l .numbers;
+      «private_data» = l .privates;
+      auxiliary = l .auxiliaries;
+      «group_id» = getD (l .bonding) 0 0;
+      «number_of_carriers» = getD (l .bonding) 1 0;
+      «carrier_sequence» = getD (l .bonding) 2 0;
+      «number_of_frames» = getD (l .bonding) 3 0 / 16;
+      «frame_position» = record { 0 = getD (l .bonding) 3 0 % 16 };
     }
 
 module _ (p : List ℕ) (f : Fit 8 p) (h : length p ≡ headerLength) where
@@ -86,12 +86,13 @@ module _ (p : List ℕ) (f : Fit 8 p) (h : length p ≡ headerLength) where
   bonding-are : (kind : Kind) → Bonding kind (byKind kind (replicate 4 0) (take 4 (drop 127 p)))
   unfolding reading laid-out rowAt place cut
   bonding-are Kind.Plain = (refl, refl, refl, refl, refl)
-  bonding-are Kind.Extended =
-      (bonding-at 0 (omega arith) ∙ sym (byte-field p 127 0 8 0 (omega arith) refl ∙ omega (arith, fit-getD f 127)),
-          bonding-at 1 (omega arith) ∙ sym (byte-field p 128 0 8 0 (omega arith) refl ∙ omega (arith, fit-getD f 128)),
-          bonding-at 2 (omega arith) ∙ sym (byte-field p 129 0 8 0 (omega arith) refl ∙ omega (arith, fit-getD f 129)),
-          ap (λ (n : ℕ). n / 16) (bonding-at 3 (omega arith)) ∙ sym (byte-field p 130 0 4 4 (omega arith) refl ∙ omega (arith, fit-getD f 130)),
-          ap (λ (n : ℕ). n % 16) (bonding-at 3 (omega arith)) ∙ sym (byte-field p 130 4 4 0 (omega arith) refl ∙ omega arith))
+  bonding-are Kind.Extended = (
+    bonding-at 0 (omega arith) ∙ sym (byte-field p 127 0 8 0 (omega arith) refl ∙ omega (arith, fit-getD f 127)),
+    bonding-at 1 (omega arith) ∙ sym (byte-field p 128 0 8 0 (omega arith) refl ∙ omega (arith, fit-getD f 128)),
+    bonding-at 2 (omega arith) ∙ sym (byte-field p 129 0 8 0 (omega arith) refl ∙ omega (arith, fit-getD f 129)),
+    ap (λ (n : ℕ). n / 16) (bonding-at 3 (omega arith)) ∙ sym (byte-field p 130 0 4 4 (omega arith) refl ∙ omega (arith, fit-getD f 130)),
+    ap (λ (n : ℕ). n % 16) (bonding-at 3 (omega arith)) ∙ sym (byte-field p 130 4 4 0 (omega arith) refl ∙ omega arith),
+  )
 
   -- the single fields that both kinds have
   module _ (kind : Kind) where
@@ -127,23 +128,23 @@ module _ (p : List ℕ) (f : Fit 8 p) (h : length p ≡ headerLength) where
   said kind l r =
       let b : Bonding kind (l .bonding) = rw (r .bonding) (bonding-are kind) in
       λ i. record {
-          «continuity_counter» = counter kind i;
-          «version_number» = version kind i;
-          «slot_allocation_type» = slot-type kind i;
-          «frame_type» = frame-type kind i;
-          availability = (ap (λ (n : ℕ). n / 2) (r .word) ∙ streams kind) i;
-          «ts_id» = r .ts-id i;
-          «original_network_id» = r .network-id i;
-          «receive_status» = r .statuses i;
-          «emergency_indicator» = emergency kind i;
-          «relative_ts_number» = (r .numbers ∙ numbers kind) i;
-          «private_data» = (r .privates ∙ privates-are kind) i;
-          auxiliary = (r .auxiliaries ∙ auxiliaries-are kind) i;
-          «group_id» = b .0 i;
-          «number_of_carriers» = b .1 i;
-          «carrier_sequence» = b .2 i;
-          «number_of_frames» = b .3 i;
-          «frame_position» = record { 0 = b .4 i }
+        «continuity_counter» = counter kind i;
+        «version_number» = version kind i;
+        «slot_allocation_type» = slot-type kind i;
+        «frame_type» = frame-type kind i;
+        availability = (ap (λ (n : ℕ). n / 2) (r .word) ∙ streams kind) i;
+        «ts_id» = r .ts-id i;
+        «original_network_id» = r .network-id i;
+        «receive_status» = r .statuses i;
+        «emergency_indicator» = emergency kind i;
+        «relative_ts_number» = (r .numbers ∙ numbers kind) i;
+        «private_data» = (r .privates ∙ privates-are kind) i;
+        auxiliary = (r .auxiliaries ∙ auxiliaries-are kind) i;
+        «group_id» = b .0 i;
+        «number_of_carriers» = b .1 i;
+        «carrier_sequence» = b .2 i;
+        «number_of_frames» = b .3 i;
+        «frame_position» = record { 0 = b .4 i };
       }
 
   -- the lists of each stream, which stand in the same place in both kinds

@@ -162,26 +162,6 @@ pub(crate) fn setting_of(packet: &[u8], kind: Kind) -> Setting
 pub(crate) fn refused(refusal: u8) -> Reading
     ensures { λ r. ⌜ (r .refusal ≡ refusal) × (r .setting ≡ blank) ⌝ }
 {
-    Reading {
-        refusal,
-        setting: Setting {
-            continuity_counter: 0,
-            version_number: 0,
-            slot_allocation_type: 0,
-            frame_type: 0,
-            availability: 0,
-            ts_id: [0u16; STREAMS],
-            original_network_id: [0u16; STREAMS],
-            receive_status: [0u8; STREAMS],
-            emergency_indicator: 0,
-            relative_ts_number: [0u8; SLOTS],
-            private_data: [0u8; PRIVATE_BYTES],
-            auxiliary: [0u8; AUXILIARY_BYTES],
-            group_id: 0,
-            number_of_carriers: 0,
-            carrier_sequence: 0,
-            number_of_frames: 0,
-            frame_position: FramePosition(0),
-        },
-    }
+    let setting = Setting::blank();
+    Reading { refusal, setting }
 }

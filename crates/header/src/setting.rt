@@ -2,6 +2,8 @@
 use crate::counters::FramePosition;
 use crate::counters::RelativeNumber;
 use crate::counters::Slot;
+ghost use mathlib.Core.Path.{_≡_};
+ghost use Rattle.header.specs.Header.{blank};
 
 // How many slots carry packets, and how many streams a header knows.
 pub const SLOTS: usize = Slot::LAST as usize;
@@ -42,6 +44,33 @@ pub struct Setting {
     pub carrier_sequence: u8,
     pub number_of_frames: u8,
     pub frame_position: FramePosition,
+}
+
+impl Setting {
+    // Zeros in every part: what a caller fills in, and what stands beside a refusal.
+    pub fn blank() -> Setting
+        ensures { λ r. ⌜ r ≡ blank ⌝ }
+    {
+        Setting {
+            continuity_counter: 0,
+            version_number: 0,
+            slot_allocation_type: 0,
+            frame_type: 0,
+            availability: 0,
+            ts_id: [0u16; STREAMS],
+            original_network_id: [0u16; STREAMS],
+            receive_status: [0u8; STREAMS],
+            emergency_indicator: 0,
+            relative_ts_number: [0u8; SLOTS],
+            private_data: [0u8; PRIVATE_BYTES],
+            auxiliary: [0u8; AUXILIARY_BYTES],
+            group_id: 0,
+            number_of_carriers: 0,
+            carrier_sequence: 0,
+            number_of_frames: 0,
+            frame_position: FramePosition(0),
+        }
+    }
 }
 
 // What a read answers: refusal 0 and the setting, or the refusal's number and zeros.

@@ -12,28 +12,6 @@ use header::setting::SLOTS;
 use header::setting::STREAMS;
 use header::setting::Setting;
 
-fn blank() -> Setting {
-    Setting {
-        continuity_counter: 0,
-        version_number: 0,
-        slot_allocation_type: 0,
-        frame_type: 1,
-        availability: 0,
-        ts_id: [0u16; STREAMS],
-        original_network_id: [0u16; STREAMS],
-        receive_status: [0u8; STREAMS],
-        emergency_indicator: 0,
-        relative_ts_number: [0u8; SLOTS],
-        private_data: [0u8; PRIVATE_BYTES],
-        auxiliary: [0u8; AUXILIARY_BYTES],
-        group_id: 0,
-        number_of_carriers: 0,
-        carrier_sequence: 0,
-        number_of_frames: 0,
-        frame_position: FramePosition(0),
-    }
-}
-
 fn with_start(state: &mut u32, kind: Kind, mut s: Setting) -> Setting {
     s.continuity_counter = byte_below(state, 16);
     s.version_number = byte_below(state, 8);
@@ -141,7 +119,7 @@ fn with_extension(state: &mut u32, mut s: Setting) -> Setting {
 }
 
 pub(crate) fn draw_setting(state: &mut u32, kind: Kind) -> Setting {
-    let start = with_start(state, kind, blank());
+    let start = with_start(state, kind, Setting::blank());
     let available = with_availability(state, start);
     let identified = with_identifiers(state, available);
     let controlled = with_control(state, identified);

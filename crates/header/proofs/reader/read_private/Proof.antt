@@ -90,10 +90,11 @@ returns c =
     let told = copy .before .before .before in
     let start = told .before .before .before .before .before .before in
     let p = start .args .packet .now in
-    let k = told .enum-told .given .1 in
-    (copy .copy .ensures ∙ copied-all (start .args .«data» .now) (take 85 (drop 99 p)) (start .pre .1 .0 ∙ sym (length-part p 99 85 (omega (arith, start .pre .0))))
-        ∙ by-kind (take 85 (drop 99 p)) (start .args .«data» .now) k,
-        (by-kind (start .args .auxiliary .now) (take 28 (drop 99 p)) k, by-kind (start .args .bonding .now) (take 4 (drop 127 p)) k))
+    let k = told .enum-told .given .1 in (
+      copy .copy .ensures ∙ copied-all (start .args .«data» .now) (take 85 (drop 99 p)) (start .pre .1 .0 ∙ sym (length-part p 99 85 (omega (arith, start .pre .0))))
+          ∙ by-kind (take 85 (drop 99 p)) (start .args .«data» .now) k,
+      (by-kind (start .args .auxiliary .now) (take 28 (drop 99 p)) k, by-kind (start .args .bonding .now) (take 4 (drop 127 p)) k),
+    )
 
 -- src/reader.rt:83:1
 same-length-2 : tie.Need-same-length-2
@@ -111,14 +112,17 @@ returns-2 c =
     let told = auxiliary .before .before .before in
     let start = told .before .before .before .before .before .before in
     let p = start .args .packet .now in
-    let k = told .enum-told2 .given .1 in
-    (by-kind (take 85 (drop 99 p)) (start .args .«data» .now) k,
-        (auxiliary .copy2 .ensures
+    let k = told .enum-told2 .given .1 in (
+      by-kind (take 85 (drop 99 p)) (start .args .«data» .now) k,
+      (
+        auxiliary .copy2 .ensures
             ∙ copied-all (start .args .auxiliary .now) (take 28 (drop 99 p)) (start .pre .1 .1 ∙ sym (length-part p 99 28 (omega (arith, start .pre .0))))
             ∙ by-kind (start .args .auxiliary .now) (take 28 (drop 99 p)) k,
-            bonding .copy3 .ensures
+        bonding .copy3 .ensures
             ∙ copied-all (start .args .bonding .now) (take 4 (drop 127 p)) (start .pre .1 .2 ∙ sym (length-part p 127 4 (omega (arith, start .pre .0))))
-            ∙ by-kind (start .args .bonding .now) (take 4 (drop 127 p)) k))
+            ∙ by-kind (start .args .bonding .now) (take 4 (drop 127 p)) k,
+      ),
+    )
 
 pub read-private-spec : {M : Type 1} → statement M
 read-private-spec =

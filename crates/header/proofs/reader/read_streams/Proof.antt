@@ -66,10 +66,13 @@ returns c =
     let start = known .before .before .before .before in
     let p = start .args .packet .now in
     let bytes = fit-of 8 p (λ i. known .shared-slice-known .given i .fits) in
-    let ids-are = identifiers p bytes (start .pre .0) (length (start .args .ts .now)) (start .pre .1 .0) in
-    (ids .read-identifiers .ensures .0 ∙ ap firsts ids-are,
-        (ids .read-identifiers .ensures .1 ∙ ap seconds ids-are,
-            run .read-run .ensures ∙ status p bytes (start .pre .0) (length (start .args .statuses .now)) (start .pre .1 .2)))
+    let ids-are = identifiers p bytes (start .pre .0) (length (start .args .ts .now)) (start .pre .1 .0) in (
+      ids .read-identifiers .ensures .0 ∙ ap firsts ids-are,
+      (
+        ids .read-identifiers .ensures .1 ∙ ap seconds ids-are,
+        run .read-run .ensures ∙ status p bytes (start .pre .0) (length (start .args .statuses .now)) (start .pre .1 .2),
+      ),
+    )
 
 pub read-streams-spec : {M : Type 1} → statement M
 read-streams-spec =

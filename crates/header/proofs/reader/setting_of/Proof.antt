@@ -136,24 +136,24 @@ returns c =
     let same = same-lists kind p in
     said p (fit-of 8 p (λ i. known .shared-slice-known .given i .fits)) (start .pre) kind
     (record {
-        word = word .word .result;
-        ts-id = streams .read-streams .last .0;
-        network-id = streams .read-streams .last .1 .0;
-        statuses = streams .read-streams .last .1 .1 .0;
-        numbers = run .read-run .last .0;
-        privates = private .read-private .last .0;
-        auxiliaries = private .read-private .last .1 .0;
-        bonding = private .read-private .last .1 .1 .0
+      word = word .word .result;
+      ts-id = streams .read-streams .last .0;
+      network-id = streams .read-streams .last .1 .0;
+      statuses = streams .read-streams .last .1 .1 .0;
+      numbers = run .read-run .last .0;
+      privates = private .read-private .last .0;
+      auxiliaries = private .read-private .last .1 .0;
+      bonding = private .read-private .last .1 .1 .0;
     })
     (record {
-        word = word .word .ensures;
-        ts-id = streams .read-streams .ensures .0 ∙ same .0;
-        network-id = streams .read-streams .ensures .1 .0 ∙ same .1;
-        statuses = streams .read-streams .ensures .1 .1 ∙ same .2;
-        numbers = run .read-run .ensures;
-        privates = private .read-private .ensures .0;
-        auxiliaries = private .read-private .ensures .1 .0;
-        bonding = private .read-private .ensures .1 .1
+      word = word .word .ensures;
+      ts-id = streams .read-streams .ensures .0 ∙ same .0;
+      network-id = streams .read-streams .ensures .1 .0 ∙ same .1;
+      statuses = streams .read-streams .ensures .1 .1 ∙ same .2;
+      numbers = run .read-run .ensures;
+      privates = private .read-private .ensures .0;
+      auxiliaries = private .read-private .ensures .1 .0;
+      bonding = private .read-private .ensures .1 .1;
     })
 
 pub setting-of-spec : {M : Type 1} → statement M
