@@ -1,0 +1,72 @@
+-- The small examples of the scope document: one table, which one statement says to be right.
+use Prim.Native.Nat.{ℕ, _+_}
+use mathlib.Core.Path.{_≡_}
+use mathlib.Core.List.{List, [], _∷_, _++_}
+use lib.ListN.{getD, take, drop, set, replicate}
+use Rattle.header.specs.declared.setting.Kind.{Kind}
+use Rattle.header.specs.declared.setting.Setting.{Setting}
+use Rattle.header.specs.Counters.{lastSlot, lastStream}
+use Rattle.header.specs.Header.{header}
+
+-- an example: its number in the document, what the definitions say, and what the document says
+pub record Example : Type 0 where
+  pub number : ℕ
+  pub said : List ℕ
+  pub written : List ℕ
+
+-- the setting whose header the examples look at: its first fields, its availability, its identifiers, its control fields and its slots
+abbrev pub settingWith : ℕ → ℕ → ℕ → ℕ → ℕ → List ℕ → List ℕ → ℕ → List ℕ → Setting
+settingWith counter version type frame-type availability ts-id statuses emergency numbers =
+    record {
+      «continuity_counter» = counter;
+      «version_number» = version;
+      «slot_allocation_type» = type;
+      «frame_type» = frame-type;
+      availability = availability;
+      «ts_id» = ts-id;
+      «original_network_id» = replicate lastStream 0;
+      «receive_status» = statuses;
+      «emergency_indicator» = emergency;
+      «relative_ts_number» = numbers;
+      «private_data» = replicate 85 0;
+      auxiliary = replicate 28 0;
+      «group_id» = 0;
+      «number_of_carriers» = 0;
+      «carrier_sequence» = 0;
+      «number_of_frames» = 0;
+      «frame_position» = record { 0 = 0 };
+    }
+
+-- counter 9, version 5, type 0, frame type 1; streams 1, 2 and 15 available; stream 15's TS_id 0xABCD; statuses of streams 1 and 2; slots 1, 2 and 52
+abbrev pub first : Setting
+first =
+    settingWith 9 5 0 1 0x6001 (set (replicate lastStream 0) 14 0xABCD) (2 ∷ 1 ∷ replicate 13 0) 0 (3 ∷ 12 ∷ replicate 49 0 ++ (9 ∷ []))
+
+-- the same with stream 15's status 3, and emergency 0 or 1
+abbrev pub second : ℕ → Setting
+second emergency = settingWith 9 5 0 1 0x6001 (replicate lastStream 0) (replicate 14 0 ++ (3 ∷ [])) emergency (replicate lastSlot 0)
+
+-- n bytes of the header of a setting, from byte `at` on
+abbrev pub bytes : Setting → ℕ → ℕ → List ℕ
+bytes s at n = take n (drop at (header Kind.Plain 0x1FF0 s))
+
+-- past the table's end
+abbrev pub none : Example
+none = record { number = 0; said = []; written = [] }
+
+-- the table
+unfoldable pub examples : List Example
+examples =
+    record { number = 1; said = bytes first 6 1; written = 0xA1 ∷ [] }
+    ∷ record { number = 2; said = bytes first 7 2; written = 0xC0 ∷ 0x03 ∷ [] }
+    ∷ record { number = 3; said = bytes first 4 2; written = 0xFA ∷ 0x86 ∷ [] }
+    ∷ record { number = 4; said = bytes first 1 3; written = 0x1F ∷ 0xF0 ∷ 0x19 ∷ [] }
+    ∷ record { number = 5; said = bytes first 65 2; written = 0xAB ∷ 0xCD ∷ [] }
+    ∷ record { number = 6; said = bytes first 69 1; written = 0x90 ∷ [] }
+    ∷ record { number = 7; said = bytes (second 0) 72 1 ++ bytes (second 1) 72 1; written = 0x0D ∷ 0x0F ∷ [] }
+    ∷ record { number = 8; said = bytes first 73 1 ++ bytes first 98 1; written = 0x3C ∷ 0x09 ∷ [] }
+    ∷ []
+
+-- what the definitions say is what the document says, example by example
+abbrev pub ExamplesHold : Type 0
+ExamplesHold = (k : ℕ) → getD examples k none .said ≡ getD examples k none .written

@@ -1,0 +1,2 @@
+-- The small examples of the scope document.
+pub mod Examples
