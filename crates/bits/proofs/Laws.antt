@@ -1,15 +1,15 @@
 -- Laws of packed fields, over the width. Assumes nothing.
-use Prim.Native.Nat.{ℕ, zero, suc, _+_, _-_, _*_, _/_, _%_, _^_, _≤_, _<_, min}
+use Prim.Native.Nat.{ℕ, zero, suc, _+_, _*_, _/_, _%_, _^_, _≤_, _<_}
 use mathlib.Core.Path.{_≡_, refl, sym, ap, ap₂, _∙_, subst}
 use mathlib.Core.List.{List, [], _∷_, _++_, append-assoc, append-nil}
 use native.Mathlib.Omega.{arith}
-use native.Mathlib.Nat.{add-comm, add-assoc, add-zero, zero-add, add-suc, suc-mul, zero-mul, mul-comm, mod-lt, mod-eq-of-lt, pow-suc, pow-succ', suc-add, mod-one, le-refl}
+use native.Mathlib.Nat.{add-comm, zero-add, add-suc, suc-mul, zero-mul, mod-lt, mod-eq-of-lt, pow-succ', suc-add, mod-one}
 use native.Mathlib.Numerals.{add-one, one-add}
 use lib.ListN.{getD, length, take, drop, length-append, length-drop}
 use lib.Seq.{take-append-le, drop-append-le, take-at, drop-at, take-add, length-take-le, drop-nil, drop-drop}
 use lib.Dec.{lit<}
 use lib.Arith.{digits-lt}
-use lib.Pow.{high, low, mod-mod-pow, pow-pos, pow-add, shr-shr, mod-pow-add, field}
+use lib.Pow.{high, low, mod-mod-pow, pow-pos, shr-shr, mod-pow-add, field}
 use Rattle.bits.specs.Fields.{Fit, none, more, bitsOf, number, run, cut}
 
 -- ---- one field

@@ -1,11 +1,11 @@
 -- Fields of a few bits as whole bytes: what byte-wise code needs of the bit-wise definition. Assumes nothing.
-use Prim.Native.Nat.{ℕ, zero, suc, _+_, _-_, _*_, _/_, _%_, _^_, _≤_, _<_}
-use mathlib.Core.Path.{_≡_, refl, sym, ap, ap₂, _∙_}
-use mathlib.Core.List.{List, [], _∷_, _++_, append-assoc, append-nil}
+use Prim.Native.Nat.{ℕ, _+_, _*_, _/_, _%_, _^_, _≤_, _<_}
+use mathlib.Core.Path.{_≡_, sym, ap, ap₂, _∙_}
+use mathlib.Core.List.{List, _++_, append-assoc, append-nil}
 use native.Mathlib.Omega.{arith}
-use lib.ListN.{length, take, drop, drop-of-length-le}
+use lib.ListN.{length, drop-of-length-le}
 use lib.Seq.{sets, sets-eq}
-use Rattle.bits.specs.Fields.{bitsOf, run}
+use Rattle.bits.specs.Fields.{bitsOf}
 use Rattle.bits.proofs.Laws.{bitsOf-split, bitsOf-join, bitsOf-mod}
 
 -- what one store after another leaves where they fill the whole list

@@ -1,9 +1,9 @@
 -- The identifiers of each stream, one stream a turn: what the loops that write and read them need. Assumes nothing.
-use Prim.Native.Nat.{ℕ, zero, suc, _+_, _*_, _/_, _%_, _^_, _≤_, _<_}
+use Prim.Native.Nat.{ℕ, zero, suc, _+_, _*_, _/_, _%_, _≤_, _<_}
 use mathlib.Core.Path.{_≡_, refl, sym, ap, ap₂, _∙_}
-use mathlib.Core.List.{List, [], _∷_, _++_, append-assoc, append-nil}
+use mathlib.Core.List.{List, [], _∷_, _++_, append-assoc}
 use native.Mathlib.Omega.{arith}
-use native.Mathlib.Numerals.{add-one, add-two, add-three, add-four}
+use native.Mathlib.Numerals.{add-one, add-two, add-three}
 use lib.ListN.{length, take, drop, getD, set, length-append}
 use lib.Seq.{sets-eq, take-at, length-take-le, take-suc-set}
 use Rattle.bits.specs.Fields.{Fit, bitsOf, number, run, cut}

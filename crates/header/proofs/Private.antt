@@ -1,14 +1,12 @@
 -- The private data, as byte-wise code writes them. Assumes nothing.
 use Prim.Native.Nat.{ℕ, _+_, _*_, _^_, _≤_, _<_}
 use mathlib.Core.Path.{_≡_, refl, sym, ap, ap₂, _∙_}
-use mathlib.Core.Bool.{not}
 use mathlib.Core.List.{List, [], _∷_, _++_, append-assoc, append-nil}
 use native.Mathlib.Omega.{arith}
-use native.Mathlib.Nat.{le-refl}
 use lib.ListN.{length, take, drop, replicate, length-drop, drop-of-length-le}
 use lib.Seq.{take-all, length-take-le}
 use Rattle.bits.specs.Fields.{bitsOf, run}
-use Rattle.bits.proofs.Laws.{run-append, run-one, run-cons, bitsOf-join}
+use Rattle.bits.proofs.Laws.{run-append}
 use Rattle.slices.specs.Slices.{copied}
 use Rattle.slices.proofs.Front.{put, front-none, front-part, front-length, front-all}
 use Rattle.header.specs.declared.setting.Kind.{Kind}

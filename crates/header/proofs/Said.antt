@@ -11,7 +11,7 @@ use Rattle.header.specs.declared.setting.Kind.{Kind}
 use Rattle.header.specs.declared.setting.Setting.{Setting}
 use Rattle.header.specs.Rows.{place, rowAt}
 use Rattle.header.specs.Layout.{byKind, privateBytes, auxiliaryBytes}
-use Rattle.header.specs.Header.{headerLength, firsts, seconds, row, value, reading}
+use Rattle.header.specs.Header.{headerLength, row, reading}
 use Rattle.header.proofs.Cut.{byte-field, word-field, wordAt, part-row, byte-row}
 use Rattle.header.proofs.LaidOut.{laid-out}
 

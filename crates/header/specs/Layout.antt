@@ -1,5 +1,5 @@
 -- The header's layout: 01's table, row under row. The rows are numbered from 0.
-use Prim.Native.Nat.{ℕ, _+_, _*_}
+use Prim.Native.Nat.{ℕ, _*_}
 use mathlib.Core.List.{List, [], _∷_, _++_}
 use Rattle.header.specs.declared.setting.Kind.{Kind}
 use Rattle.header.specs.Counters.{lastSlot, lastStream}

@@ -1,5 +1,5 @@
 -- Laws of `anyBelow`: what a loop that tests every index needs. Assumes nothing.
-use Prim.Native.Nat.{ℕ, zero, suc, _+_, _≤_, _<_}
+use Prim.Native.Nat.{ℕ, zero, suc, _+_, _<_}
 use mathlib.Core.Path.{_≡_, refl, sym, ap, _∙_}
 use mathlib.Core.Bool.{Bool, true, false, _||_, or-true, true-or, true≢false}
 use native.Mathlib.Numerals.{add-one}

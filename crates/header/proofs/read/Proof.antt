@@ -1,26 +1,17 @@
 -- `read` meets its contract, check by check. Assumes nothing.
 use Prim.Native.Nat.{ℕ}
 use mathlib.Core.Path.{_≡_, refl, sym, ap, _∙_}
-use mathlib.Core.Bool.{true}
 use mathlib.Core.List.{List, _++_}
 use native.Mathlib.Omega.{arith}
 use borrow.Author.Tests.{not-true, not-false}
-use lib.ListN.{length}
 use Rattle.header.specs.Refusal.{Check, firstOf}
-use Rattle.header.specs.Rules.{pidAllowed, ruleChecks}
+use Rattle.header.specs.Rules.{ruleChecks}
 use Rattle.header.specs.Header.{reading, packetChecks, readRefusal}
 use Rattle.header.proofs.Calls.{wrong-length, wrong-pid, right-call, refused, accepted}
 use Rattle.header.proofs.Refusals.{onward, at-once, packet-none}
 use borrow.Author.Needs.{needs}
 use Rattle.header.proofs.read.Statement.{statement}
 use Rattle.header.proofs.read.Tie as tie
-use Rattle.header.proofs.read.Reads as reads
-use Rattle.header.proofs.read.Lts as lts
-use Rattle.header.proofs.reader.packet_refusal.Reads as packet-refusal-reads
-use Rattle.header.proofs.reader.refused.Reads as refused-reads
-use Rattle.header.proofs.reader.setting_of.Reads as setting-of-reads
-use Rattle.header.proofs.rules.pid_allowed.Reads as pid-allowed-reads
-use Rattle.header.proofs.rules.rule_refusal.Reads as rule-refusal-reads
 
 -- from the place after a check that did not hold to the function's start
 abbrev start₁ : tie.Else1 → tie.Start
@@ -58,11 +49,9 @@ ruled c =
     let s = start₃ (c .before .before) in
     ap (λ r. firstOf (ruleChecks (s .args .kind) r)) (sym (c .before .setting-of .ensures)) ∙ sym (c .rule-refusal .ensures)
 
--- src/lib.rt:46:9
 refused-requires : tie.Need-refused-requires
 refused-requires c κs = search needs
 
--- src/lib.rt:46:9
 returns : tie.Need-returns
 unfolding readRefusal
 returns c =
@@ -70,15 +59,12 @@ returns c =
     refused (s .args .kind) (s .args .pid) (s .args .packet .now) (wrong-length (s .args .pid) _ (packets s ++ rules s) (c .before .if1 .taken)) (omega arith)
     (c .refused .result) (c .refused .ensures .0) (c .refused .ensures .1)
 
--- src/lib.rt:48:9
 pid-allowed-requires : tie.Need-pid-allowed-requires
 pid-allowed-requires c κs = search needs
 
--- src/lib.rt:49:9
 refused-requires-2 : tie.Need-refused-requires-2
 refused-requires-2 c κs = search needs
 
--- src/lib.rt:49:9
 returns-2 : tie.Need-returns-2
 unfolding readRefusal
 returns-2 c =
@@ -87,15 +73,12 @@ returns-2 c =
     (wrong-pid (s .args .pid) _ (packets s ++ rules s) (c .before .before .before .if1 .left) (sym (c .before .before .pid-allowed .ensures) ∙ not-true _ (c .before .if2 .taken))) (omega arith)
     (c .refused2 .result) (c .refused2 .ensures .0) (c .refused2 .ensures .1)
 
--- src/lib.rt:51:9
 packet-refusal-requires : tie.Need-packet-refusal-requires
 packet-refusal-requires c κs = search needs
 
--- src/lib.rt:53:9
 refused-requires-3 : tie.Need-refused-requires-3
 refused-requires-3 c κs = search needs
 
--- src/lib.rt:53:9
 returns-3 : tie.Need-returns-3
 returns-3 c =
     let s = start₂ (c .before .before .before) in
@@ -104,26 +87,21 @@ returns-3 c =
     refused (s .args .kind) (s .args .pid) (s .args .packet .now) (past₂ (c .before .before .before) ∙ at-once (packets s) (rules s) (λ z. no (n ∙ z)) ∙ sym n) no
     (c .refused3 .result) (c .refused3 .ensures .0) (c .refused3 .ensures .1)
 
--- src/lib.rt:55:9
 setting-of-requires : tie.Need-setting-of-requires
 setting-of-requires c κs = search needs
 
--- src/lib.rt:56:9
 rule-refusal-requires : tie.Need-rule-refusal-requires
 rule-refusal-requires c κs = search needs
 
--- src/lib.rt:58:9
 refused-requires-4 : tie.Need-refused-requires-4
 refused-requires-4 c κs = search needs
 
--- src/lib.rt:58:9
 returns-4 : tie.Need-returns-4
 returns-4 c =
     let s = start₃ (c .before .before .before .before) in
     refused (s .args .kind) (s .args .pid) (s .args .packet .now) (past₃ (c .before .before .before .before) ∙ ruled (c .before .before)) (c .before .if4 .taken)
     (c .refused4 .result) (c .refused4 .ensures .0) (c .refused4 .ensures .1)
 
--- src/lib.rt:42:1
 returns-5 : tie.Need-returns-5
 returns-5 c =
     let s = start₃ (c .before .before .before) in

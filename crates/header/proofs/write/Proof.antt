@@ -6,7 +6,6 @@ use mathlib.Core.List.{List, _++_}
 use native.Mathlib.Omega.{arith}
 use borrow.Author.Tests.{not-true, not-false}
 use lib.ListN.{length}
-use Rattle.header.specs.Counters.{lastStream}
 use Rattle.header.specs.Refusal.{Check, firstOf}
 use Rattle.header.specs.Rules.{pidAllowed, widthChecks, ruleChecks}
 use Rattle.header.specs.Header.{writeRefusal}
@@ -17,12 +16,6 @@ use Rattle.header.proofs.Refusals.{onward, at-once, first-none, width-n
 use borrow.Author.Needs.{needs}
 use Rattle.header.proofs.write.Statement.{statement}
 use Rattle.header.proofs.write.Tie as tie
-use Rattle.header.proofs.write.Reads as reads
-use Rattle.header.proofs.write.Lts as lts
-use Rattle.header.proofs.rules.pid_allowed.Reads as pid-allowed-reads
-use Rattle.header.proofs.rules.rule_refusal.Reads as rule-refusal-reads
-use Rattle.header.proofs.rules.width_refusal.Reads as width-refusal-reads
-use Rattle.header.proofs.writer.write_header.Reads as write-header-reads
 
 -- from the place after a check that did not hold to the function's start
 abbrev start₁ : tie.Else1 → tie.Start
@@ -63,7 +56,6 @@ past₃ c = past₂ (c .before .before) ∙ onward (rules (start₃ c)) (no-widt
 no-rule : (c : tie.Else4) → firstOf (rules (start₄ c)) ≡ 0
 no-rule c = sym (c .before .rule-refusal .ensures) ∙ c .if4 .left
 
--- src/lib.rt:24:9
 returns : tie.Need-returns
 unfolding writeRefusal
 returns c =
@@ -71,11 +63,9 @@ returns c =
     let e = wrong-length (start .args .pid) _ (widths start ++ rules start) (c .if1 .taken) in
     (sym e, left (start .args .kind) (start .args .pid) (start .args .s) (start .args .buffer .now) e (omega arith))
 
--- src/lib.rt:26:9
 pid-allowed-requires : tie.Need-pid-allowed-requires
 pid-allowed-requires c κs = search needs
 
--- src/lib.rt:27:9
 returns-2 : tie.Need-returns-2
 unfolding writeRefusal
 returns-2 c =
@@ -83,11 +73,9 @@ returns-2 c =
     let e = wrong-pid (start .args .pid) _ (widths start ++ rules start) (c .before .before .if1 .left) (sym (c .before .pid-allowed .ensures) ∙ not-true _ (c .if2 .taken)) in
     (sym e, left (start .args .kind) (start .args .pid) (start .args .s) (start .args .buffer .now) e (omega arith))
 
--- src/lib.rt:29:9
 width-refusal-requires : tie.Need-width-refusal-requires
 width-refusal-requires c κs = search needs
 
--- src/lib.rt:31:9
 returns-3 : tie.Need-returns-3
 returns-3 c =
     let start = start₂ (c .before .before) in
@@ -95,18 +83,15 @@ returns-3 c =
     let e = past₂ (c .before .before) ∙ at-once (widths start) (rules start) (λ z. c .if3 .taken (n ∙ z)) ∙ sym n in
     (sym e, left (start .args .kind) (start .args .pid) (start .args .s) (start .args .buffer .now) e (c .if3 .taken))
 
--- src/lib.rt:33:9
 rule-refusal-requires : tie.Need-rule-refusal-requires
 rule-refusal-requires c κs = search needs
 
--- src/lib.rt:35:9
 returns-4 : tie.Need-returns-4
 returns-4 c =
     let start = start₃ (c .before .before) in
     let e = past₃ (c .before .before) ∙ sym (c .before .rule-refusal .ensures) in
     (sym e, left (start .args .kind) (start .args .pid) (start .args .s) (start .args .buffer .now) e (c .if4 .taken))
 
--- src/lib.rt:37:5
 write-header-requires : tie.Need-write-header-requires
 write-header-requires c κs =
     let rule = c .before in
@@ -120,11 +105,9 @@ write-header-requires c κs =
       ),
     )
 
--- src/lib.rt:19:1
 same-length : tie.Need-same-length
 same-length c = search needs
 
--- src/lib.rt:19:1
 returns-5 : tie.Need-returns-5
 returns-5 c =
     let write = c .before .before in

@@ -1,17 +1,17 @@
 -- `copy` meets its contract: after i turns the first i elements of `src` stand over the front of `dst`. Assumes nothing.
-use Prim.Native.Nat.{ℕ, _+_, _-_, _≤_, _<_, min}
-use mathlib.Core.Path.{_≡_, refl, sym, ap, ap₂, _∙_}
+use Prim.Native.Nat.{ℕ, _-_, _≤_, _<_, min}
+use mathlib.Core.Path.{_≡_, refl, _∙_}
 use mathlib.Core.Logic.{⊎-elim}
-use mathlib.Core.List.{List, [], _∷_, _++_}
+use mathlib.Core.List.{List, _++_}
 use native.Mathlib.Omega.{arith}
 use native.Mathlib.Decide.{decLe}
 use native.Mathlib.Nat.{le-refl}
 use native.Mathlib.Numerals.{add-one}
 use borrow.Author.Needs.{needs}
-use lib.ListN.{length, take, drop, set, getD, drop-of-length-le, length-set}
+use lib.ListN.{length, take, drop, getD, drop-of-length-le, length-set}
 use lib.Seq.{take-suc, take-all, take-length}
 use Rattle.slices.specs.Slices.{copied}
-use Rattle.slices.proofs.Front.{Front, front-none, front-more, front-length}
+use Rattle.slices.proofs.Front.{Front, front-none, front-more}
 use Rattle.slices.proofs.copy.Statement.{statement}
 use Rattle.slices.proofs.copy.Tie as tie
 

@@ -1,5 +1,5 @@
 -- `read_run` meets its contract: after i turns the first i values are cut. Assumes nothing.
-use Prim.Native.Nat.{ℕ, _+_, _-_, _*_, _/_, _%_, _^_, _≤_, _<_}
+use Prim.Native.Nat.{ℕ, _+_, _-_, _/_, _^_, _≤_, _<_}
 use mathlib.Core.Path.{_≡_, refl, sym, ap, _∙_}
 use mathlib.Core.Logic.{⊎-elim}
 use native.Mathlib.Omega.{arith}
@@ -12,8 +12,6 @@ use Rattle.bits.specs.Fields.{run, cut}
 use Rattle.header.proofs.Runs.{Taken, taken-none, taken-in, taken-out, byte-is-there, limit-is, limit-small}
 use Rattle.header.proofs.packed.read_run.Statement.{statement}
 use Rattle.header.proofs.packed.read_run.Tie as tie
-use Rattle.header.proofs.packed.read_run.Reads as reads
-use Rattle.header.proofs.packed.read_run.Lts as lts
 
 abbrev Inv-loop : tie.InvT-loop
 Inv-loop values₀ part width limit held₀ bits₀ at₀ i₀ values held bits at i =
@@ -22,16 +20,13 @@ Inv-loop values₀ part width limit held₀ bits₀ at₀ i₀ values held bits 
 abbrev μ-loop : tie.MeasureT-loop
 μ-loop values₀ part width limit held₀ bits₀ at₀ i₀ values held bits at i = length values₀ - i
 
--- src/packed.rt:40:17
 shl-limit : tie.Need-shl-limit Inv-loop μ-loop
 shl-limit c = search needs
 
--- src/packed.rt:45:5
 loop-holds : tie.Need-loop-holds Inv-loop μ-loop
 loop-holds c =
     (omega arith, omega arith, refl, taken-none (c .args .values .now) (c .args .part .now) (c .args .width))
 
--- src/packed.rt:47:20
 mul-held : tie.Need-mul-held Inv-loop μ-loop
 mul-held c = search needs
 
@@ -43,23 +38,18 @@ there c =
     byte-is-there (length (args .values .now)) (args .width) (at .at) (at .bits) (at .i) (length (args .part .now)) (omega arith) (at .inv .3 .count)
     (c .if1 .taken) (c .before .before .before .pre .1)
 
--- src/packed.rt:47:41
 shared-slice-read-held : tie.Need-shared-slice-read-held Inv-loop μ-loop
 shared-slice-read-held c = there (c .before)
 
--- src/packed.rt:47:41
 cast-held : tie.Need-cast-held Inv-loop μ-loop
 cast-held c = omega (arith, c .shared-slice-known .given (c .before .before .before .loop .at))
 
--- src/packed.rt:47:20
 add-held : tie.Need-add-held Inv-loop μ-loop
 add-held c = omega (arith, c .shared-slice-known .given (c .before .before .before .loop .at))
 
--- src/packed.rt:48:13
 add-bits : tie.Need-add-bits Inv-loop μ-loop
 add-bits c = search needs
 
--- src/packed.rt:49:13
 add-at : tie.Need-add-at Inv-loop μ-loop
 add-at c = let r = there (c .before) in let l = c .before .before .before .before .good .1 .0 in omega arith
 
@@ -82,21 +72,17 @@ filled c =
     (λ w. rw (w .1, w .2, w .3) (omega arith, omega arith, at .inv .3))
     (c .if1 .came)
 
--- src/packed.rt:51:9
 sub-bits : tie.Need-sub-bits Inv-loop μ-loop
 sub-bits c = let f = filled (c .before) in omega arith
 
--- src/packed.rt:52:23
 shr-values : tie.Need-shr-values Inv-loop μ-loop
 shr-values c = let f = filled (c .before .before) in omega arith
 
--- src/packed.rt:52:22
 rem-values : tie.Need-rem-values Inv-loop μ-loop
 rem-values c =
     let args = c .before .before .before .before .before .args in
     rw (limit-is (args .width) (c .before .before .before .before .before .pre .0)) (pow-pos (args .width))
 
--- src/packed.rt:52:21
 cast-values : tie.Need-cast-values Inv-loop μ-loop
 cast-values c =
     let args = c .before .before .before .before .before .args in
@@ -105,19 +91,15 @@ cast-values c =
     let below = mod-lt (c .before .before .if1 .held / 2 ^ (c .before .before .if1 .bits - args .width)) (pow-pos (args .width)) in
     rw (limit-is (args .width) (pre .0)) (omega arith)
 
--- src/packed.rt:52:9
 slice-write-values : tie.Need-slice-write-values Inv-loop μ-loop
 slice-write-values c = search needs
 
--- src/packed.rt:53:9
 add-i : tie.Need-add-i Inv-loop μ-loop
 add-i c = search needs
 
--- src/packed.rt:45:5
 loop-less : tie.Need-loop-less Inv-loop μ-loop
 loop-less c = search needs
 
--- src/packed.rt:45:5
 loop-again : tie.Need-loop-again Inv-loop μ-loop
 loop-again c =
     let at = c .before .before .before .before .loop in
@@ -130,11 +112,9 @@ loop-again c =
       rw (limit-is (args .width) (pre .0)) (taken-out (at .values) (args .part .now) (args .width) _ _ _ (at .i) (f .2) (f .0) (omega arith)),
     )
 
--- src/packed.rt:35:1
 same-length : tie.Need-same-length Inv-loop μ-loop
 same-length c = search needs
 
--- src/packed.rt:35:1
 returns : tie.Need-returns Inv-loop μ-loop
 returns c =
     let at = c .before .loop in

@@ -1,11 +1,9 @@
 -- `write_run` meets its contract: after i turns the first i values are packed. Assumes nothing.
 use Prim.Native.Nat.{ℕ, _+_, _-_, _*_, _/_, _%_, _^_, _≤_, _<_}
-use mathlib.Core.Path.{_≡_, refl, sym, ap, ap₂, _∙_, subst}
+use mathlib.Core.Path.{_≡_, refl, sym, ap, _∙_}
 use mathlib.Core.Logic.{⊎-elim}
-use mathlib.Core.List.{List, [], _∷_, _++_}
+use mathlib.Core.List.{List, _++_}
 use native.Mathlib.Omega.{arith}
-use native.Mathlib.Nat.{mul-le-mul-right, suc-mul}
-use native.Mathlib.Numerals.{add-one}
 use borrow.Author.Needs.{needs}
 use lib.ListN.{length, take, getD, length-set}
 use lib.Seq.{take-all, take-length}
@@ -14,8 +12,6 @@ use Rattle.bits.proofs.Laws.{fit-getD}
 use Rattle.header.proofs.Runs.{Packed, packed-none, packed-in, packed-out, no-wrap, moved-fits, byte-has-room}
 use Rattle.header.proofs.packed.write_run.Statement.{statement}
 use Rattle.header.proofs.packed.write_run.Tie as tie
-use Rattle.header.proofs.packed.write_run.Reads as reads
-use Rattle.header.proofs.packed.write_run.Lts as lts
 
 abbrev Inv-loop : tie.InvT-loop
 Inv-loop part₀ values width held₀ bits₀ at₀ i₀ part held bits at i =
@@ -24,7 +20,6 @@ Inv-loop part₀ values width held₀ bits₀ at₀ i₀ part held bits at i =
 abbrev μ-loop : tie.MeasureT-loop
 μ-loop part₀ values width held₀ bits₀ at₀ i₀ part held bits at i = length values - i
 
--- src/packed.rt:21:5
 loop-holds : tie.Need-loop-holds Inv-loop μ-loop
 loop-holds c = (omega arith, omega arith, refl, packed-none (c .args .part .now) (c .args .values .now) (c .args .width))
 
@@ -52,52 +47,40 @@ room c =
     let e : length (args .part .now) ≡ length (args .values .now) * args .width / 8 = c .before .before .before .before .pre .1 .1 in
     omega arith
 
--- src/packed.rt:22:17
 shl-held : tie.Need-shl-held Inv-loop μ-loop
 shl-held c = search needs
 
--- src/packed.rt:22:42
 shared-slice-read-held : tie.Need-shared-slice-read-held Inv-loop μ-loop
 shared-slice-read-held c = search needs
 
--- src/packed.rt:22:42
 cast-held : tie.Need-cast-held Inv-loop μ-loop
 cast-held c = omega (arith, c .shared-slice-known .given (c .before .before .loop .i))
 
--- src/packed.rt:22:16
 add-held : tie.Need-add-held Inv-loop μ-loop
 add-held c =
     record { fits = moved-fits (c .before .before .before .args .width) (c .before .before .loop .held) _ (c .before .before .before .pre .0) (c .shared-slice-known .given (c .before .before .loop .i) .fits) }
 
--- src/packed.rt:23:9
 add-bits : tie.Need-add-bits Inv-loop μ-loop
 add-bits c = search needs
 
--- src/packed.rt:26:26
 shr-part : tie.Need-shr-part Inv-loop μ-loop
 shr-part c = search needs
 
--- src/packed.rt:26:24
 cast-part : tie.Need-cast-part Inv-loop μ-loop
 cast-part c = search needs
 
--- src/packed.rt:26:13
 slice-write-part : tie.Need-slice-write-part Inv-loop μ-loop
 slice-write-part c = room c
 
--- src/packed.rt:27:13
 add-at : tie.Need-add-at Inv-loop μ-loop
 add-at c = let r = room c in let l = c .before .before .before .before .good .0 .0 in omega arith
 
--- src/packed.rt:29:9
 add-i : tie.Need-add-i Inv-loop μ-loop
 add-i c = search needs
 
--- src/packed.rt:21:5
 loop-less : tie.Need-loop-less Inv-loop μ-loop
 loop-less c = search needs
 
--- src/packed.rt:21:5
 loop-again : tie.Need-loop-again Inv-loop μ-loop
 loop-again c =
     let at = c .before .before .before .loop in
@@ -115,11 +98,9 @@ loop-again c =
     (λ w. rw (w .1, w .2, w .3) (omega arith, w .0 .left, at .inv .2, taken-in))
     (c .if1 .came)
 
--- src/packed.rt:11:1
 same-length : tie.Need-same-length Inv-loop μ-loop
 same-length c = search needs
 
--- src/packed.rt:11:1
 returns : tie.Need-returns Inv-loop μ-loop
 returns c =
     let at = c .before .loop in

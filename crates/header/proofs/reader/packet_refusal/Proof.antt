@@ -17,10 +17,6 @@ use Rattle.header.proofs.Refusals.{Past, answers, passed}
 use borrow.Author.Needs.{needs}
 use Rattle.header.proofs.reader.packet_refusal.Statement.{statement}
 use Rattle.header.proofs.reader.packet_refusal.Tie as tie
-use Rattle.header.proofs.reader.packet_refusal.Reads as reads
-use Rattle.header.proofs.reader.packet_refusal.Lts as lts
-use Rattle.crc.proofs.register.Reads as register-reads
-use Rattle.header.proofs.reader.word.Reads as word-reads
 
 -- the packet, its bytes and its length, and the checks on it
 abbrev packet : tie.After-shared-slice-known → List ℕ
@@ -80,30 +76,24 @@ remainder c =
     let l = k .before .pre in
     sym (c .register .ensures ∙ ap registerOf (take-all 184 (drop 4 (packet k)) (rw length-drop (omega arith))))
 
--- src/reader.rt:25:8
 shared-slice-read-if1 : tie.Need-shared-slice-read-if1
 shared-slice-read-if1 c = search needs
 
--- src/reader.rt:26:9
 returns : tie.Need-returns
 unfolding packetChecks
 returns c =
     let k = c .before .before in
     sym (answers 3 _ (differs syncByte (sync-byte (packet k) (bytes k) (k .before .pre)) (c .if1 .taken)))
 
--- src/reader.rt:28:13
 shared-slice-read-word : tie.Need-shared-slice-read-word
 shared-slice-read-word c = search needs
 
--- src/reader.rt:28:24
 shared-slice-read-word-2 : tie.Need-shared-slice-read-word-2
 shared-slice-read-word-2 c = search needs
 
--- src/reader.rt:28:8
 word-requires : tie.Need-word-requires
 word-requires c κs = search needs
 
--- src/reader.rt:29:9
 returns-2 : tie.Need-returns-2
 unfolding packetChecks
 returns-2 c =
@@ -112,69 +102,55 @@ returns-2 c =
     (past₁ (c .before .before .before .before)
     ∙ answers 4 _ (differs (k .before .args .pid) (header-pid (packet k) (bytes k) (k .before .pre) ∙ ap (λ (n : ℕ). n % 8192) (sym (c .before .word .ensures))) (c .if2 .taken)))
 
--- src/reader.rt:31:8
 shared-slice-read-if3 : tie.Need-shared-slice-read-if3
 shared-slice-read-if3 c = search needs
 
--- src/reader.rt:32:9
 returns-3 : tie.Need-returns-3
 unfolding packetChecks
 returns-3 c =
     let k = known₂ (c .before .before) in
     sym (past₂ (c .before .before) ∙ answers 5 _ (first-differs 0 _ (zeros (packet k) (bytes k) (k .before .pre)) (c .if3 .taken)))
 
--- src/reader.rt:34:8
 shared-slice-read-if4 : tie.Need-shared-slice-read-if4
 shared-slice-read-if4 c = search needs
 
--- src/reader.rt:35:9
 returns-4 : tie.Need-returns-4
 unfolding packetChecks
 returns-4 c =
     let k = known₃ (c .before .before) in
     sym (past₂ (c .before .before .before .before) ∙ answers 5 _ (second-differs 1 (eqb (startValue (packet k) 1) 0) (one (packet k) (bytes k) (k .before .pre)) (c .if4 .taken)))
 
--- src/reader.rt:37:13
 shared-slice-read-word-3 : tie.Need-shared-slice-read-word-3
 shared-slice-read-word-3 c = search needs
 
--- src/reader.rt:37:24
 shared-slice-read-word-4 : tie.Need-shared-slice-read-word-4
 shared-slice-read-word-4 c = search needs
 
--- src/reader.rt:37:8
 word-requires-2 : tie.Need-word-requires-2
 word-requires-2 c κs = search needs
 
--- src/reader.rt:38:9
 returns-5 : tie.Need-returns-5
 unfolding packetChecks
 returns-5 c =
     let k = known₄ (c .before .before .before .before) in
     sym (past₃ (c .before .before .before .before) ∙ answers 6 _ (differs tsmfSync (tsmf-sync (packet k) (bytes k) (k .before .pre) ∙ ap (λ (n : ℕ). n % 8192) (sym (c .before .word2 .ensures))) (c .if5 .taken)))
 
--- src/reader.rt:40:22
 sub-register : tie.Need-sub-register
 sub-register c = search needs
 
--- src/reader.rt:40:22
 part-register-start : tie.Need-part-register-start
 part-register-start c = search needs
 
--- src/reader.rt:40:22
 part-register-end : tie.Need-part-register-end
 part-register-end c = search needs
 
--- src/reader.rt:40:8
 register-requires : tie.Need-register-requires
 register-requires c κs = search needs
 
--- src/reader.rt:41:9
 returns-6 : tie.Need-returns-6
 unfolding packetChecks
 returns-6 c = sym (past₄ (c .before .before .before) ∙ answers 7 _ (differs 0 (remainder (c .before)) (c .if6 .taken)))
 
--- src/reader.rt:21:1
 returns-7 : tie.Need-returns-7
 unfolding packetChecks firstOf
 returns-7 c = sym (past₄ (c .before .before .before) ∙ passed 7 [] (agrees 0 (remainder (c .before)) (c .if6 .left)))

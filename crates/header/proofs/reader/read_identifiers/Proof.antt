@@ -1,9 +1,9 @@
 -- `read_identifiers` meets its contract: after k turns the identifiers of the first k streams are read. Assumes nothing.
-use Prim.Native.Nat.{ℕ, _+_, _-_, _*_, _≤_, _<_}
-use mathlib.Core.Path.{_≡_, refl, sym, ap, ap₂, _∙_}
+use Prim.Native.Nat.{ℕ, _-_, _*_, _≤_}
+use mathlib.Core.Path.{_≡_, refl, sym, ap, _∙_}
 use native.Mathlib.Omega.{arith}
 use borrow.Author.Needs.{needs}
-use lib.ListN.{length, take, getD, set, length-set}
+use lib.ListN.{length, length-set}
 use lib.Seq.{take-all}
 use Rattle.bits.specs.Fields.{run, cut}
 use Rattle.bits.proofs.Laws.{fit-of}
@@ -11,9 +11,6 @@ use Rattle.header.specs.Header.{firsts, seconds}
 use Rattle.header.proofs.Identifiers.{Apart, apart-none, apart-next}
 use Rattle.header.proofs.reader.read_identifiers.Statement.{statement}
 use Rattle.header.proofs.reader.read_identifiers.Tie as tie
-use Rattle.header.proofs.reader.read_identifiers.Reads as reads
-use Rattle.header.proofs.reader.read_identifiers.Lts as lts
-use Rattle.header.proofs.reader.word.Reads as word-reads
 
 abbrev Inv-loop : tie.InvT-loop
 Inv-loop ts₀ os₀ part k₀ at₀ ts os k at =
@@ -22,77 +19,59 @@ Inv-loop ts₀ os₀ part k₀ at₀ ts os k at =
 abbrev μ-loop : tie.MeasureT-loop
 μ-loop ts₀ os₀ part k₀ at₀ ts os k at = length ts₀ - k
 
--- src/reader.rt:54:5
 loop-holds : tie.Need-loop-holds Inv-loop μ-loop
 loop-holds c =
     let args = c .before .before .before .args in
     (omega arith, omega arith, refl, refl, apart-none (args .ts .now) (args .os .now) (args .part .now))
 
--- src/reader.rt:55:22
 shared-slice-read-word : tie.Need-shared-slice-read-word Inv-loop μ-loop
 shared-slice-read-word c = search needs
 
--- src/reader.rt:55:37
 add-word : tie.Need-add-word Inv-loop μ-loop
 add-word c = search needs
 
--- src/reader.rt:55:32
 shared-slice-read-word-2 : tie.Need-shared-slice-read-word-2 Inv-loop μ-loop
 shared-slice-read-word-2 c = search needs
 
--- src/reader.rt:55:17
 word-requires : tie.Need-word-requires Inv-loop μ-loop
 word-requires c κs = search needs
 
--- src/reader.rt:55:9
 mul-ts : tie.Need-mul-ts Inv-loop μ-loop
 mul-ts c = search needs
 
--- src/reader.rt:55:9
 slice-write-ts : tie.Need-slice-write-ts Inv-loop μ-loop
 slice-write-ts c = search needs
 
--- src/reader.rt:56:27
 add-word-2 : tie.Need-add-word-2 Inv-loop μ-loop
 add-word-2 c = search needs
 
--- src/reader.rt:56:22
 shared-slice-read-word-3 : tie.Need-shared-slice-read-word-3 Inv-loop μ-loop
 shared-slice-read-word-3 c = search needs
 
--- src/reader.rt:56:41
 add-word-3 : tie.Need-add-word-3 Inv-loop μ-loop
 add-word-3 c = search needs
 
--- src/reader.rt:56:36
 shared-slice-read-word-4 : tie.Need-shared-slice-read-word-4 Inv-loop μ-loop
 shared-slice-read-word-4 c = search needs
 
--- src/reader.rt:56:17
 word-requires-2 : tie.Need-word-requires-2 Inv-loop μ-loop
 word-requires-2 c κs = search needs
 
--- src/reader.rt:56:9
 mul-os : tie.Need-mul-os Inv-loop μ-loop
 mul-os c = search needs
 
--- src/reader.rt:56:9
 slice-write-os : tie.Need-slice-write-os Inv-loop μ-loop
 slice-write-os c = search needs
 
--- src/reader.rt:57:9
 add-at : tie.Need-add-at Inv-loop μ-loop
 add-at c = search needs
 
--- src/reader.rt:58:9
 add-k : tie.Need-add-k Inv-loop μ-loop
 add-k c = search needs
 
--- src/reader.rt:54:5
 loop-less : tie.Need-loop-less Inv-loop μ-loop
 loop-less c = search needs
 
--- src/reader.rt:54:5
 loop-again : tie.Need-loop-again Inv-loop μ-loop
 loop-again c =
     let at = c .before .before .before .before .before .before .before .loop in
@@ -108,15 +87,12 @@ loop-again c =
       rw (c .before .before .before .word .ensures, c .word2 .ensures) next,
     )
 
--- src/reader.rt:47:1
 same-length : tie.Need-same-length Inv-loop μ-loop
 same-length c = c .before .loop .inv .2
 
--- src/reader.rt:47:1
 same-length-2 : tie.Need-same-length-2 Inv-loop μ-loop
 same-length-2 c = c .before .loop .inv .3
 
--- src/reader.rt:47:1
 returns : tie.Need-returns Inv-loop μ-loop
 returns c =
     let at = c .before .loop in

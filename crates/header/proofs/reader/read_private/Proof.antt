@@ -11,79 +11,59 @@ use Rattle.header.proofs.Private.{copied-all}
 use borrow.Author.Needs.{needs}
 use Rattle.header.proofs.reader.read_private.Statement.{statement}
 use Rattle.header.proofs.reader.read_private.Tie as tie
-use Rattle.header.proofs.reader.read_private.Reads as reads
-use Rattle.header.proofs.reader.read_private.Lts as lts
-use Rattle.slices.proofs.copy.Reads as copy-reads
 
 -- what a kind has in its place, where the kind is known
 by-kind : (a b : List ℕ) {kind known : Kind} → kind ≡ known → byKind known a b ≡ byKind kind a b
 by-kind a b e = ap (λ (k : Kind). byKind k a b) (sym e)
 
--- src/reader.rt:98:26
 enum-told : tie.Need-enum-told
 enum-told c = search needs
 
--- src/reader.rt:98:32
 sub-copy : tie.Need-sub-copy
 sub-copy c = search needs
 
--- src/reader.rt:98:32
 part-copy-start : tie.Need-part-copy-start
 part-copy-start c = search needs
 
--- src/reader.rt:98:32
 part-copy-end : tie.Need-part-copy-end
 part-copy-end c = search needs
 
--- src/reader.rt:98:13
 copy-requires : tie.Need-copy-requires
 copy-requires c κs = search needs
 
--- src/reader.rt:101:26
 enum-told-2 : tie.Need-enum-told-2
 enum-told-2 c = search needs
 
--- src/reader.rt:101:37
 sub-copy-2 : tie.Need-sub-copy-2
 sub-copy-2 c = search needs
 
--- src/reader.rt:101:37
 part-copy-start-2 : tie.Need-part-copy-start-2
 part-copy-start-2 c = search needs
 
--- src/reader.rt:101:37
 part-copy-end-2 : tie.Need-part-copy-end-2
 part-copy-end-2 c = search needs
 
--- src/reader.rt:101:13
 copy-requires-2 : tie.Need-copy-requires-2
 copy-requires-2 c κs = search needs
 
--- src/reader.rt:104:42
 add-copy : tie.Need-add-copy
 add-copy c = search needs
 
--- src/reader.rt:104:17
 sub-copy-3 : tie.Need-sub-copy-3
 sub-copy-3 c = search needs
 
--- src/reader.rt:104:17
 part-copy-start-3 : tie.Need-part-copy-start-3
 part-copy-start-3 c = search needs
 
--- src/reader.rt:104:17
 part-copy-end-3 : tie.Need-part-copy-end-3
 part-copy-end-3 c = search needs
 
--- src/reader.rt:102:13
 copy-requires-3 : tie.Need-copy-requires-3
 copy-requires-3 c κs = search needs
 
--- src/reader.rt:83:1
 same-length : tie.Need-same-length
 same-length c = search needs
 
--- src/reader.rt:83:1
 returns : tie.Need-returns
 returns c =
     let copy = c .before .before in
@@ -96,15 +76,12 @@ returns c =
       (by-kind (start .args .auxiliary .now) (take 28 (drop 99 p)) k, by-kind (start .args .bonding .now) (take 4 (drop 127 p)) k),
     )
 
--- src/reader.rt:83:1
 same-length-2 : tie.Need-same-length-2
 same-length-2 c = search needs
 
--- src/reader.rt:83:1
 same-length-3 : tie.Need-same-length-3
 same-length-3 c = search needs
 
--- src/reader.rt:83:1
 returns-2 : tie.Need-returns-2
 returns-2 c =
     let bonding = c .before .before in

@@ -7,56 +7,40 @@ use Rattle.header.proofs.Said.{identifiers, status}
 use borrow.Author.Needs.{needs}
 use Rattle.header.proofs.reader.read_streams.Statement.{statement}
 use Rattle.header.proofs.reader.read_streams.Tie as tie
-use Rattle.header.proofs.reader.read_streams.Reads as reads
-use Rattle.header.proofs.reader.read_streams.Lts as lts
-use Rattle.header.proofs.packed.read_run.Reads as read-run-reads
-use Rattle.header.proofs.reader.read_identifiers.Reads as read-identifiers-reads
 
--- src/reader.rt:78:30
 sub-read-identifiers : tie.Need-sub-read-identifiers
 sub-read-identifiers c = search needs
 
--- src/reader.rt:78:30
 part-read-identifiers-start : tie.Need-part-read-identifiers-start
 part-read-identifiers-start c = search needs
 
--- src/reader.rt:78:30
 part-read-identifiers-end : tie.Need-part-read-identifiers-end
 part-read-identifiers-end c = search needs
 
--- src/reader.rt:78:5
 read-identifiers-requires : tie.Need-read-identifiers-requires
 read-identifiers-requires c κs = search needs
 
--- src/reader.rt:79:32
 sub-read-run : tie.Need-sub-read-run
 sub-read-run c = search needs
 
--- src/reader.rt:79:32
 part-read-run-start : tie.Need-part-read-run-start
 part-read-run-start c = search needs
 
--- src/reader.rt:79:32
 part-read-run-end : tie.Need-part-read-run-end
 part-read-run-end c = search needs
 
--- src/reader.rt:79:5
 read-run-requires : tie.Need-read-run-requires
 read-run-requires c κs = search needs
 
--- src/reader.rt:71:1
 same-length : tie.Need-same-length
 same-length c = search needs
 
--- src/reader.rt:71:1
 same-length-2 : tie.Need-same-length-2
 same-length-2 c = search needs
 
--- src/reader.rt:71:1
 same-length-3 : tie.Need-same-length-3
 same-length-3 c = search needs
 
--- src/reader.rt:71:1
 returns : tie.Need-returns
 unfolding reading
 returns c =

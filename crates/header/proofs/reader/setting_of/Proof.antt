@@ -1,128 +1,92 @@
 -- `setting_of` meets its contract. Assumes nothing.
-use Prim.Native.Nat.{ℕ, _/_}
-use mathlib.Core.Path.{_≡_, sym, ap, _∙_}
+use mathlib.Core.Path.{_∙_}
 use Rattle.bits.proofs.Laws.{fit-of}
-use Rattle.header.specs.declared.setting.Setting.{Setting}
-use Rattle.header.proofs.Said.{Lists, Read, together, said, same-lists}
+use Rattle.header.proofs.Said.{said, same-lists}
 use borrow.Author.Needs.{needs}
 use Rattle.header.proofs.reader.setting_of.Statement.{statement}
 use Rattle.header.proofs.reader.setting_of.Tie as tie
-use Rattle.header.proofs.reader.setting_of.Reads as reads
-use Rattle.header.proofs.reader.setting_of.Lts as lts
-use Rattle.header.proofs.packed.read_run.Reads as read-run-reads
-use Rattle.header.proofs.reader.read_private.Reads as read-private-reads
-use Rattle.header.proofs.reader.read_streams.Reads as read-streams-reads
-use Rattle.header.proofs.reader.word.Reads as word-reads
 
--- src/reader.rt:119:9
 slice-aggregate-read-streams : tie.Need-slice-aggregate-read-streams
 slice-aggregate-read-streams c = search needs
 
--- src/reader.rt:120:9
 slice-aggregate-read-streams-2 : tie.Need-slice-aggregate-read-streams-2
 slice-aggregate-read-streams-2 c = search needs
 
--- src/reader.rt:121:9
 slice-aggregate-read-streams-3 : tie.Need-slice-aggregate-read-streams-3
 slice-aggregate-read-streams-3 c = search needs
 
--- src/reader.rt:118:5
 read-streams-requires : tie.Need-read-streams-requires
 read-streams-requires c κs = search needs
 
--- src/reader.rt:126:9
 slice-aggregate-read-run : tie.Need-slice-aggregate-read-run
 slice-aggregate-read-run c = search needs
 
--- src/reader.rt:127:9
 sub-read-run : tie.Need-sub-read-run
 sub-read-run c = search needs
 
--- src/reader.rt:127:9
 part-read-run-start : tie.Need-part-read-run-start
 part-read-run-start c = search needs
 
--- src/reader.rt:127:9
 part-read-run-end : tie.Need-part-read-run-end
 part-read-run-end c = search needs
 
--- src/reader.rt:125:5
 read-run-requires : tie.Need-read-run-requires
 read-run-requires c κs = search needs
 
--- src/reader.rt:134:9
 slice-aggregate-read-private : tie.Need-slice-aggregate-read-private
 slice-aggregate-read-private c = search needs
 
--- src/reader.rt:135:9
 slice-aggregate-read-private-2 : tie.Need-slice-aggregate-read-private-2
 slice-aggregate-read-private-2 c = search needs
 
--- src/reader.rt:136:9
 slice-aggregate-read-private-3 : tie.Need-slice-aggregate-read-private-3
 slice-aggregate-read-private-3 c = search needs
 
--- src/reader.rt:133:5
 read-private-requires : tie.Need-read-private-requires
 read-private-requires c κs = search needs
 
--- src/reader.rt:141:29
 shared-slice-read-t30 : tie.Need-shared-slice-read-t30
 shared-slice-read-t30 c = search needs
 
--- src/reader.rt:142:25
 shared-slice-read-t33 : tie.Need-shared-slice-read-t33
 shared-slice-read-t33 c = search needs
 
--- src/reader.rt:143:31
 shared-slice-read-t36 : tie.Need-shared-slice-read-t36
 shared-slice-read-t36 c = search needs
 
--- src/reader.rt:144:21
 shared-slice-read-t40 : tie.Need-shared-slice-read-t40
 shared-slice-read-t40 c = search needs
 
--- src/reader.rt:145:28
 shared-slice-read-word : tie.Need-shared-slice-read-word
 shared-slice-read-word c = search needs
 
--- src/reader.rt:145:39
 shared-slice-read-word-2 : tie.Need-shared-slice-read-word-2
 shared-slice-read-word-2 c = search needs
 
--- src/reader.rt:145:23
 word-requires : tie.Need-word-requires
 word-requires c κs = search needs
 
--- src/reader.rt:149:37
 add-t20 : tie.Need-add-t20
 add-t20 c = search needs
 
--- src/reader.rt:149:30
 shared-slice-read-t52 : tie.Need-shared-slice-read-t52
 shared-slice-read-t52 c = search needs
 
--- src/reader.rt:153:19
 array-read-t60 : tie.Need-array-read-t60
 array-read-t60 c = search needs
 
--- src/reader.rt:154:29
 array-read-t63 : tie.Need-array-read-t63
 array-read-t63 c = search needs
 
--- src/reader.rt:155:27
 array-read-t66 : tie.Need-array-read-t66
 array-read-t66 c = search needs
 
--- src/reader.rt:156:27
 array-read-t69 : tie.Need-array-read-t69
 array-read-t69 c = search needs
 
--- src/reader.rt:157:39
 array-read-t73 : tie.Need-array-read-t73
 array-read-t73 c = search needs
 
--- src/reader.rt:111:1
 returns : tie.Need-returns
 returns c =
     let word = c .before in

@@ -11,13 +11,6 @@ use Rattle.header.proofs.Body.{body-parts}
 use borrow.Author.Needs.{needs}
 use Rattle.header.proofs.writer.write_body.Statement.{statement}
 use Rattle.header.proofs.writer.write_body.Tie as tie
-use Rattle.header.proofs.writer.write_body.Reads as reads
-use Rattle.header.proofs.writer.write_body.Lts as lts
-use Rattle.header.proofs.packed.write_run.Reads as write-run-reads
-use Rattle.header.proofs.writer.write_control.Reads as write-control-reads
-use Rattle.header.proofs.writer.write_identifiers.Reads as write-identifiers-reads
-use Rattle.header.proofs.writer.write_private.Reads as write-private-reads
-use Rattle.header.proofs.writer.write_start.Reads as write-start-reads
 
 -- the places after each part, from the later to the earlier
 abbrev start : tie.After-write-start → tie.Start
@@ -76,82 +69,63 @@ after₄ c = put 73 26 (after₃ (controlled c)) (c .write-run .last .0)
 whole₄ : (c : tie.After-write-run) → length (after₄ c) ≡ 184
 whole₄ c = same-len-mid 73 26 (after₃ (controlled c)) (c .write-run .last .0) (c .write-run .kept .0) ∙ whole₃ (controlled c)
 
--- src/writer.rt:100:17
 sub-write-start : tie.Need-sub-write-start
 sub-write-start c = search needs
 
--- src/writer.rt:100:17
 part-write-start-start : tie.Need-part-write-start-start
 part-write-start-start c = search needs
 
--- src/writer.rt:100:17
 part-write-start-end : tie.Need-part-write-start-end
 part-write-start-end c = search needs
 
--- src/writer.rt:100:5
 write-start-requires : tie.Need-write-start-requires
 write-start-requires c κs = search needs
 
--- src/writer.rt:103:23
 sub-write-identifiers : tie.Need-sub-write-identifiers
 sub-write-identifiers c = search needs
 
--- src/writer.rt:103:23
 part-write-identifiers-start : tie.Need-part-write-identifiers-start
 part-write-identifiers-start c = search needs
 
--- src/writer.rt:103:23
 part-write-identifiers-end : tie.Need-part-write-identifiers-end
 part-write-identifiers-end c = search needs
 
--- src/writer.rt:103:56
 slice-aggregate-write-identifiers : tie.Need-slice-aggregate-write-identifiers
 slice-aggregate-write-identifiers c = search needs
 
--- src/writer.rt:103:64
 slice-aggregate-write-identifiers-2 : tie.Need-slice-aggregate-write-identifiers-2
 slice-aggregate-write-identifiers-2 c = search needs
 
--- src/writer.rt:103:5
 write-identifiers-requires : tie.Need-write-identifiers-requires
 write-identifiers-requires c κs =
     let s = start (c .before .before .before .before .before .before .before) in
     let n = streams s .0 in
     (mid-len 9 69 (after₁ (c .before .before .before .before .before .before .before)) (omega (arith, whole₁ (c .before .before .before .before .before .before .before))) ∙ omega arith, streams s .1 ∙ sym (streams s .0))
 
--- src/writer.rt:104:19
 sub-write-control : tie.Need-sub-write-control
 sub-write-control c = search needs
 
--- src/writer.rt:104:19
 part-write-control-start : tie.Need-part-write-control-start
 part-write-control-start c = search needs
 
--- src/writer.rt:104:19
 part-write-control-end : tie.Need-part-write-control-end
 part-write-control-end c = search needs
 
--- src/writer.rt:104:5
 write-control-requires : tie.Need-write-control-requires
 write-control-requires c κs = search needs
 
--- src/writer.rt:106:23
 sub-write-run : tie.Need-sub-write-run
 sub-write-run c = search needs
 
--- src/writer.rt:106:23
 part-write-run-start : tie.Need-part-write-run-start
 part-write-run-start c = search needs
 
--- src/writer.rt:106:23
 part-write-run-end : tie.Need-part-write-run-end
 part-write-run-end c = search needs
 
--- src/writer.rt:106:52
 slice-aggregate-write-run : tie.Need-slice-aggregate-write-run
 slice-aggregate-write-run c = sym (slots (start (started (identified (c .before .before .before .before .before)))))
 
--- src/writer.rt:106:5
 write-run-requires : tie.Need-write-run-requires
 write-run-requires c κs =
     let control = c .before .before .before .before .before in
@@ -159,27 +133,21 @@ write-run-requires c κs =
     let n = slots s in
     (omega arith, (s .pre .1 .0 .numbers, mid-len 73 99 (after₃ control) (omega (arith, whole₃ control)) ∙ omega arith))
 
--- src/writer.rt:107:19
 sub-write-private : tie.Need-sub-write-private
 sub-write-private c = search needs
 
--- src/writer.rt:107:19
 part-write-private-start : tie.Need-part-write-private-start
 part-write-private-start c = search needs
 
--- src/writer.rt:107:19
 part-write-private-end : tie.Need-part-write-private-end
 part-write-private-end c = search needs
 
--- src/writer.rt:107:5
 write-private-requires : tie.Need-write-private-requires
 write-private-requires c κs = search needs
 
--- src/writer.rt:94:1
 same-length : tie.Need-same-length
 same-length c = search needs
 
--- src/writer.rt:94:1
 returns : tie.Need-returns
 returns c =
     let private = c .before .before in

@@ -10,10 +10,7 @@ use Rattle.header.proofs.Refusals.{none-first}
 use borrow.Author.Needs.{needs}
 use Rattle.header.proofs.writer.write_bonding.Statement.{statement}
 use Rattle.header.proofs.writer.write_bonding.Tie as tie
-use Rattle.header.proofs.writer.write_bonding.Reads as reads
-use Rattle.header.proofs.writer.write_bonding.Lts as lts
 
--- src/writer.rt:72:5
 small : (c : tie.Start) → Bonded (c .args .s)
 unfolding bondingChecks
 small c = bonded (none-first (bondingChecks Kind.Extended (c .args .s)) refl (c .pre .1))
@@ -21,31 +18,24 @@ small c = bonded (none-first (bondingChecks Kind.Extended (c .args .s)) refl (c 
 slice-write-part : tie.Need-slice-write-part
 slice-write-part c = search needs
 
--- src/writer.rt:73:5
 slice-write-part-2 : tie.Need-slice-write-part-2
 slice-write-part-2 c = search needs
 
--- src/writer.rt:74:5
 slice-write-part-3 : tie.Need-slice-write-part-3
 slice-write-part-3 c = search needs
 
--- src/writer.rt:75:15
 mul-part : tie.Need-mul-part
 mul-part c = let b = small (c .before .before) in omega arith
 
--- src/writer.rt:75:15
 add-part : tie.Need-add-part
 add-part c = let b = small (c .before .before .before) in omega arith
 
--- src/writer.rt:75:5
 slice-write-part-4 : tie.Need-slice-write-part-4
 slice-write-part-4 c = search needs
 
--- src/writer.rt:66:1
 same-length : tie.Need-same-length
 same-length c = search needs
 
--- src/writer.rt:66:1
 returns : tie.Need-returns
 returns c =
     let start = c .before .before .before in

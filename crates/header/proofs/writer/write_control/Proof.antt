@@ -1,73 +1,57 @@
 -- `write_control` meets its contract: whole bytes of statuses, and the last byte behind them. Assumes nothing.
-use Prim.Native.Nat.{_*_, _/_, _%_}
-use mathlib.Core.Path.{_≡_, sym, _∙_}
+use Prim.Native.Nat.{_*_, _%_}
+use mathlib.Core.Path.{_≡_, _∙_}
 use native.Mathlib.Omega.{arith}
-use lib.ListN.{length, take}
+use lib.ListN.{length}
 use lib.Seq.{length-take-le}
 use Rattle.header.specs.Counters.{lastStream}
 use Rattle.header.proofs.Control.{control-bits}
 use borrow.Author.Needs.{needs}
 use Rattle.header.proofs.writer.write_control.Statement.{statement}
 use Rattle.header.proofs.writer.write_control.Tie as tie
-use Rattle.header.proofs.writer.write_control.Reads as reads
-use Rattle.header.proofs.writer.write_control.Lts as lts
-use Rattle.header.proofs.packed.write_run.Reads as write-run-reads
 
--- src/writer.rt:57:34
 statuses : (c : tie.Start) → length (c .args .s .«receive_status») ≡ lastStream
 statuses c = search needs
 
 sub-write-run : tie.Need-sub-write-run
 sub-write-run c = search needs
 
--- src/writer.rt:57:34
 part-write-run-start : tie.Need-part-write-run-start
 part-write-run-start c = search needs
 
--- src/writer.rt:57:34
 part-write-run-end : tie.Need-part-write-run-end
 part-write-run-end c = search needs
 
--- src/writer.rt:57:62
 slice-aggregate-write-run : tie.Need-slice-aggregate-write-run
 slice-aggregate-write-run c = search needs
 
--- src/writer.rt:57:9
 write-run-requires : tie.Need-write-run-requires
 write-run-requires c κs =
     let start = c .before .before .before .before in
     let n = statuses start in
     (omega arith, (start .pre .1 .statuses, length-take-le 3 (start .args .part .now) (omega (arith, start .pre)) ∙ omega arith))
 
--- src/writer.rt:58:27
 mul-part : tie.Need-mul-part
 mul-part c = search needs
 
--- src/writer.rt:58:26
 cast-part : tie.Need-cast-part
 cast-part c = search needs
 
--- src/writer.rt:58:50
 mul-part-2 : tie.Need-mul-part-2
 mul-part-2 c = search needs
 
--- src/writer.rt:58:26
 add-part : tie.Need-add-part
 add-part c = search needs
 
--- src/writer.rt:58:26
 add-part-2 : tie.Need-add-part-2
 add-part-2 c = search needs
 
--- src/writer.rt:58:5
 slice-write-part : tie.Need-slice-write-part
 slice-write-part c = search needs
 
--- src/writer.rt:51:1
 same-length : tie.Need-same-length
 same-length c = search needs
 
--- src/writer.rt:51:1
 returns : tie.Need-returns
 returns c =
     let start = c .before .before .before .before .before .before .before .before in

@@ -1,95 +1,68 @@
 -- `write_extended` meets its contract: three parts, one behind the other. Assumes nothing.
-use Prim.Native.Nat.{ℕ}
-use mathlib.Core.Path.{_≡_, refl, sym, ap, ap₂, _∙_}
-use mathlib.Core.List.{List, [], _++_}
+use mathlib.Core.Path.{_≡_, refl, sym, _∙_}
 use native.Mathlib.Omega.{arith}
-use lib.ListN.{length, take, drop, replicate}
+use lib.ListN.{length, take}
 use lib.Seq.{length-take-le}
-use Rattle.bits.specs.Fields.{run}
-use Rattle.slices.proofs.Front.{front-none, front-part, front-all}
 use Rattle.header.specs.declared.setting.Kind.{Kind}
 use Rattle.header.specs.Layout.{auxiliaryBytes}
 use Rattle.header.specs.Rules.{bondingChecks}
-use Rattle.header.specs.Bytes.{bondingBytes}
 use Rattle.header.proofs.Private.{copied-all, extended-parts}
 use Rattle.header.proofs.Refusals.{none-first}
 use borrow.Author.Needs.{needs}
 use Rattle.header.proofs.writer.write_extended.Statement.{statement}
 use Rattle.header.proofs.writer.write_extended.Tie as tie
-use Rattle.header.proofs.writer.write_extended.Reads as reads
-use Rattle.header.proofs.writer.write_extended.Lts as lts
-use Rattle.header.proofs.writer.write_bonding.Reads as write-bonding-reads
-use Rattle.slices.proofs.copy.Reads as copy-reads
-use Rattle.slices.proofs.fill.Reads as fill-reads
 
--- src/writer.rt:85:18
 auxiliaries : (c : tie.Start) → length (c .args .s .auxiliary) ≡ auxiliaryBytes
 auxiliaries c = search needs
 
 sub-copy : tie.Need-sub-copy
 sub-copy c = search needs
 
--- src/writer.rt:85:18
 part-copy-start : tie.Need-part-copy-start
 part-copy-start c = search needs
 
--- src/writer.rt:85:18
 part-copy-end : tie.Need-part-copy-end
 part-copy-end c = search needs
 
--- src/writer.rt:85:49
 slice-aggregate-copy : tie.Need-slice-aggregate-copy
 slice-aggregate-copy c = search needs
 
--- src/writer.rt:85:5
 copy-requires : tie.Need-copy-requires
 copy-requires c κs = search needs
 
--- src/writer.rt:87:36
 add-write-bonding : tie.Need-add-write-bonding
 add-write-bonding c = search needs
 
--- src/writer.rt:87:9
 sub-write-bonding : tie.Need-sub-write-bonding
 sub-write-bonding c = search needs
 
--- src/writer.rt:87:9
 part-write-bonding-start : tie.Need-part-write-bonding-start
 part-write-bonding-start c = search needs
 
--- src/writer.rt:87:9
 part-write-bonding-end : tie.Need-part-write-bonding-end
 part-write-bonding-end c = search needs
 
--- src/writer.rt:86:5
 write-bonding-requires : tie.Need-write-bonding-requires
 write-bonding-requires c κs = search needs
 
--- src/writer.rt:91:19
 add-fill : tie.Need-add-fill
 add-fill c = search needs
 
--- src/writer.rt:91:9
 sub-fill : tie.Need-sub-fill
 sub-fill c = search needs
 
--- src/writer.rt:91:9
 part-fill-start : tie.Need-part-fill-start
 part-fill-start c = search needs
 
--- src/writer.rt:91:9
 part-fill-end : tie.Need-part-fill-end
 part-fill-end c = search needs
 
--- src/writer.rt:90:5
 fill-requires : tie.Need-fill-requires
 fill-requires c κs = search needs
 
--- src/writer.rt:79:1
 same-length : tie.Need-same-length
 same-length c = search needs
 
--- src/writer.rt:79:1
 returns : tie.Need-returns
 unfolding bondingChecks
 returns c =

@@ -8,65 +8,46 @@ use Rattle.header.proofs.Whole.{header-parts}
 use borrow.Author.Needs.{needs}
 use Rattle.header.proofs.writer.write_header.Statement.{statement}
 use Rattle.header.proofs.writer.write_header.Tie as tie
-use Rattle.header.proofs.writer.write_header.Reads as reads
-use Rattle.header.proofs.writer.write_header.Lts as lts
-use Rattle.crc.proofs.register.Reads as register-reads
-use Rattle.header.proofs.writer.write_body.Reads as write-body-reads
-use Rattle.header.proofs.writer.write_word.Reads as write-word-reads
 
--- src/writer.rt:128:16
 sub-write-body : tie.Need-sub-write-body
 sub-write-body c = search needs
 
--- src/writer.rt:128:16
 part-write-body-start : tie.Need-part-write-body-start
 part-write-body-start c = search needs
 
--- src/writer.rt:128:16
 part-write-body-end : tie.Need-part-write-body-end
 part-write-body-end c = search needs
 
--- src/writer.rt:128:5
 write-body-requires : tie.Need-write-body-requires
 write-body-requires c κs = search needs
 
--- src/writer.rt:129:30
 sub-register : tie.Need-sub-register
 sub-register c = search needs
 
--- src/writer.rt:129:30
 part-register-start : tie.Need-part-register-start
 part-register-start c = search needs
 
--- src/writer.rt:129:30
 part-register-end : tie.Need-part-register-end
 part-register-end c = search needs
 
--- src/writer.rt:129:9
 register-requires : tie.Need-register-requires
 register-requires c κs = search needs
 
--- src/writer.rt:130:16
 sub-write-word : tie.Need-sub-write-word
 sub-write-word c = search needs
 
--- src/writer.rt:130:16
 part-write-word-start : tie.Need-part-write-word-start
 part-write-word-start c = search needs
 
--- src/writer.rt:130:16
 part-write-word-end : tie.Need-part-write-word-end
 part-write-word-end c = search needs
 
--- src/writer.rt:130:5
 write-word-requires : tie.Need-write-word-requires
 write-word-requires c κs = search needs
 
--- src/writer.rt:122:1
 same-length : tie.Need-same-length
 same-length c = search needs
 
--- src/writer.rt:122:1
 returns : tie.Need-returns
 returns c =
     let word = c .before .before in

@@ -13,41 +13,30 @@ use Rattle.header.proofs.Private.{copied-all}
 use borrow.Author.Needs.{needs}
 use Rattle.header.proofs.writer.write_private.Statement.{statement}
 use Rattle.header.proofs.writer.write_private.Tie as tie
-use Rattle.header.proofs.writer.write_private.Reads as reads
-use Rattle.header.proofs.writer.write_private.Lts as lts
-use Rattle.header.proofs.writer.write_extended.Reads as write-extended-reads
-use Rattle.slices.proofs.copy.Reads as copy-reads
 
--- src/writer.rt:103:17
 privates : (c : tie.Start) → length (c .args .s .«private_data») ≡ privateBytes
 privates c = search needs
 
 enum-told : tie.Need-enum-told
 enum-told c = search needs
 
--- src/writer.rt:104:32
 slice-aggregate-copy : tie.Need-slice-aggregate-copy
 slice-aggregate-copy c = search needs
 
--- src/writer.rt:104:13
 copy-requires : tie.Need-copy-requires
 copy-requires c κs = search needs
 
--- src/writer.rt:107:28
 enum-told-2 : tie.Need-enum-told-2
 enum-told-2 c = search needs
 
--- src/writer.rt:107:13
 write-extended-requires : tie.Need-write-extended-requires
 write-extended-requires c κs =
     let start = c .before .before .before .before in
     (start .pre .0, subst (λ (k : Kind). firstOf (bondingChecks k (start .args .s)) ≡ 0) (c .before .enum-told2 .given .1) (start .pre .1))
 
--- src/writer.rt:96:1
 same-length : tie.Need-same-length
 same-length c = search needs
 
--- src/writer.rt:96:1
 returns : tie.Need-returns
 unfolding pack privateRows privateContent
 returns c =
@@ -58,11 +47,9 @@ returns c =
     ap (run 8) (copied .copy .ensures ∙ copied-all (start .args .part .now) (s .«private_data») (start .pre .0 ∙ sym (privates start)))
     ∙ sym (ap (λ (k : Kind). pack (privateRows k) (privateContent k s)) (told .enum-told .given .1) ∙ append-nil (run 8 (s .«private_data»)))
 
--- src/writer.rt:96:1
 same-length-2 : tie.Need-same-length-2
 same-length-2 c = search needs
 
--- src/writer.rt:96:1
 returns-2 : tie.Need-returns-2
 returns-2 c =
     let call = c .before .before in

@@ -2,10 +2,7 @@ use mathlib.Core.Path.{refl}
 use Rattle.header.specs.Header.{blank}
 use Rattle.header.proofs.setting.Setting.blank.Statement.{statement}
 use Rattle.header.proofs.setting.Setting.blank.Tie as tie
-use Rattle.header.proofs.setting.Setting.blank.Reads as reads
-use Rattle.header.proofs.setting.Setting.blank.Lts as lts
 
--- src/reader.rt:108:1
 returns : tie.Need-returns
 unfolding blank
 returns c = refl
