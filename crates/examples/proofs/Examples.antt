@@ -6,6 +6,7 @@ use mathlib.Core.List.{List, [], _∷_}
 use lib.Dec.{eqb}
 use lib.ListN.{getD}
 use borrow.Author.Tests.{eqb-true}
+use Rattle.slices.proofs.Any.{both}
 use Rattle.bits.specs.Fields.{bitsOf, number, run, cut}
 use Rattle.crc.specs.Crc.{registerFrom}
 use Rattle.header.specs.Rows.{pack}
@@ -23,10 +24,6 @@ same (x ∷ xs) (y ∷ ys) = eqb x y && same xs ys
 all-right : List Example → Bool
 all-right [] = true
 all-right (e ∷ es) = same (e .said) (e .written) && all-right es
-
-both : (a b : Bool) → a && b ≡ true → (a ≡ true) × (b ≡ true)
-both true b e = (refl, e)
-both false b e = absurd (false≢true e)
 
 same-is : (xs ys : List ℕ) → same xs ys ≡ true → xs ≡ ys
 unfolding same

@@ -10,6 +10,7 @@ use borrow.Author.Tests.{lt-leb, eqb-true, not-false}
 use Rattle.bits.specs.Fields.{run}
 use Rattle.bits.proofs.Laws.{fit-run, fit-getD, length-run}
 use Rattle.crc.specs.Crc.{registerOf}
+use Rattle.slices.proofs.Any.{both}
 use Rattle.header.specs.declared.setting.Kind.{Kind}
 use Rattle.header.specs.declared.setting.Setting.{Setting}
 use Rattle.header.specs.Rows.{place, rowAt}
@@ -20,7 +21,7 @@ use Rattle.header.specs.Demands.{MeetsRules, NoneHolds, none, more}
 use Rattle.header.proofs.Rows.{size, rowOf, Fills, row-fills}
 use Rattle.header.proofs.LaidOut.{laid-out, size-layout}
 use Rattle.header.proofs.Fields.{some-fit}
-use Rattle.header.proofs.Refusals.{both, numbered, none-first, none-at, none-append, none-behind}
+use Rattle.header.proofs.Refusals.{numbered, none-first, none-at, none-append, none-behind}
 use Rattle.header.proofs.Content.{fills-replicate}
 
 numbered-bonding : (kind : Kind) (s : Setting) → numbered (bondingChecks kind s) ≡ true

@@ -12,14 +12,14 @@ use borrow.Author.Tests.{leb-true, leb-false, not-false, lt-leb, eq-eqb}
 use Rattle.bits.specs.Fields.{Fit}
 use Rattle.bits.proofs.Laws.{fit-of, fit-getD}
 use Rattle.slices.specs.Slices.{anyBelow, someAtLeast}
-use Rattle.slices.proofs.Any.{any-each}
+use Rattle.slices.proofs.Any.{both, any-each}
 use Rattle.header.specs.declared.setting.Kind.{Kind}
 use Rattle.header.specs.declared.setting.Setting.{Setting}
 use Rattle.header.specs.Counters.{lastStream, within}
 use Rattle.header.specs.Rules.{widthChecks, bondingChecks, ruleChecks, Narrow}
 use Rattle.header.specs.Header.{headerLength, writeRefusal}
 use Rattle.header.specs.Demands.{NoneHolds, more, MeetsRules}
-use Rattle.header.proofs.Refusals.{both, first-none, none-at, none-behind}
+use Rattle.header.proofs.Refusals.{first-none, none-at, none-behind}
 
 any-no : (test : ℕ → Bool) (n : ℕ) → ((i : ℕ) → i < n → test i ≡ false) → anyBelow n test ≡ false
 unfolding anyBelow

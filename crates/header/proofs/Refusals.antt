@@ -1,12 +1,13 @@
 -- Laws of the first check that holds. Assumes nothing.
 use Prim.Native.Nat.{ℕ, zero, suc, _≤_}
 use mathlib.Core.Path.{_≡_, refl, _∙_}
-use mathlib.Core.Bool.{Bool, true, false, cond, _&&_, false≢true}
+use mathlib.Core.Bool.{Bool, true, false, cond, _&&_}
 use mathlib.Core.List.{List, [], _∷_, _++_}
 use native.Mathlib.Omega.{arith}
 use lib.Dec.{leb}
 use lib.ListN.{getD, drop}
 use borrow.Author.Tests.{leb-true}
+use Rattle.slices.proofs.Any.{both}
 use Rattle.header.specs.declared.setting.Kind.{Kind}
 use Rattle.header.specs.declared.setting.Setting.{Setting}
 use Rattle.header.specs.Refusal.{Check, firstOf}
@@ -41,10 +42,6 @@ first-none (more e rest) = rw e (first-none rest)
 abbrev pub numbered : List Check → Bool
 numbered [] = true
 numbered (c ∷ cs) = leb 1 (c .0) && numbered cs
-
-pub both : (a b : Bool) → a && b ≡ true → (a ≡ true) × (b ≡ true)
-both true b e = (refl, e)
-both false b e = absurd (false≢true e)
 
 one-more : (n : ℕ) (b : Bool) (cs : List Check) → 1 ≤ n → cond b n (firstOf cs) ≡ 0 → (firstOf cs ≡ 0 → NoneHolds cs) → NoneHolds ((n, b) ∷ cs)
 one-more n true cs h e rest = absurd (omega arith)

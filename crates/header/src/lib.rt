@@ -67,5 +67,5 @@ pub fn read(packet: &[u8], pid: u16, kind: Kind) -> Reading
 pub fn count_available(availability: u16) -> u32
     ensures { λ r. ⌜ r ≡ countAvailable availability ⌝ }
 {
-    u16::count_ones(availability % 32768)
+    u16::count_ones(availability % setting::AVAILABILITIES)
 }

@@ -1,6 +1,7 @@
 // What a setting has to obey, each rule with its refusal's number, in the table's order.
 use crate::counters::FramePosition;
 use crate::counters::RelativeNumber;
+use crate::setting::AVAILABILITIES;
 use crate::setting::Kind;
 use crate::setting::Setting;
 ghost use mathlib.Core.Path.{_≡_};
@@ -81,7 +82,7 @@ pub(crate) fn width_refusal(kind: Kind, s: Setting) -> u8
     if 16 <= s.frame_type {
         return 17;
     }
-    if 32768 <= s.availability {
+    if AVAILABILITIES <= s.availability {
         return 17;
     }
     let receive_status = s.receive_status;

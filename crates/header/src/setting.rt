@@ -10,6 +10,9 @@ pub const SLOTS: usize = Slot::LAST as usize;
 
 pub const STREAMS: usize = RelativeNumber::LAST as usize;
 
+// One more than the largest availability, which has a bit for each stream.
+pub const AVAILABILITIES: u16 = 1 << RelativeNumber::LAST;
+
 // The bytes of the private data; in an extended header the first are auxiliary information.
 pub const PRIVATE_BYTES: usize = 85;
 

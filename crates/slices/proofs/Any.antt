@@ -1,7 +1,7 @@
 -- Laws of `anyBelow`: what a loop that tests every index needs. Assumes nothing.
 use Prim.Native.Nat.{ℕ, zero, suc, _+_, _<_}
 use mathlib.Core.Path.{_≡_, refl, sym, ap, _∙_}
-use mathlib.Core.Bool.{Bool, true, false, _||_, or-true, true-or, true≢false}
+use mathlib.Core.Bool.{Bool, true, false, _&&_, _||_, or-true, true-or, true≢false, false≢true}
 use native.Mathlib.Numerals.{add-one}
 use native.Mathlib.Decide.{ℕ-discrete}
 use native.Mathlib.Omega.{arith}
@@ -34,3 +34,8 @@ module _ (test : ℕ → Bool) where
       fails : (b : Bool) → test i ≡ b → b ≡ false
       fails false e = refl
       fails true e = absurd (true≢false (sym (any-found n i h e) ∙ a))
+
+-- of two tests that hold together each holds
+pub both : (a b : Bool) → a && b ≡ true → (a ≡ true) × (b ≡ true)
+both true b e = (refl, e)
+both false b e = absurd (false≢true e)
