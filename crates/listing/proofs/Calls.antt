@@ -55,3 +55,13 @@ module _ (first : ℕ) (bytes buffer : List ℕ) (r : Listed) where
         λ i. record { refusal = (f ∙ sym e) i; length = (long ∙ sym whole) i },
         (rw e (rw zero-add at (p .is)), counts _ _ l),
       )
+
+-- a call whose numbers fit and that has room lists
+module _ (first : ℕ) (bytes buffer : List ℕ) (fits : first + packetsIn (length bytes) ≤ 2 ^ 64) (room : roomFor (length bytes) ≤ length buffer) where
+  pub lists-length : listed first bytes (length buffer) .length ≡ length (listing first bytes)
+  unfolding listed
+  lists-length = rw (right-call first (length bytes) (length buffer) fits room)
+
+  pub lists-over : listedOver first bytes buffer ≡ overFront (listing first bytes) buffer
+  unfolding listedOver
+  lists-over = rw (right-call first (length bytes) (length buffer) fits room)
