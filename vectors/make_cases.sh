@@ -1,5 +1,5 @@
 #!/bin/sh
-# Writes the stdin and stdout files of the programs that are compared with the independent program of compare/.
+# Writes the inputs and expected outputs of the programs that are compared with the independent program of compare/.
 # Run by hand, with cargo. The files are the same in every run.
 set -eu
 cd "$(dirname "$0")/.."
@@ -9,13 +9,16 @@ trap 'rm -r "$made"' EXIT
 compare/target/release/lister_cases "$made"
 compare/target/release/header_cases "$made"
 
-# put CASE CRATE
-put() {
-    cp "$made/$1.in" "crates/$2/stdin"
-    cp "$made/$1.out" "crates/$2/stdout"
-}
-put example lister
-put many lister_many
-put tail1 lister_tail
-put empty lister_empty
+# The lister runs once: the example on its standard input, the other cases by name, and all outputs one behind another.
+lister=crates/lister
+cases='many tail1 empty'
+mkdir -p "$lister/data"
+cp "$made/example.in" "$lister/stdin"
+cp "$made/example.out" "$lister/stdout"
+echo - > "$lister/args"
+for case in $cases; do
+    cp "$made/$case.in" "$lister/data/$case"
+    cat "$made/$case.out" >> "$lister/stdout"
+    echo "$case" >> "$lister/args"
+done
 cp "$made/headers.out" crates/header_cases/stdout

@@ -2,3 +2,4 @@ pub mod Putting
 pub mod Decimal
 pub mod Packets
 pub mod Blocks
+pub mod Calls

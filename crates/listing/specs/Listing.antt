@@ -1,14 +1,16 @@
 -- The listing of a recording: a line for each packet, and one for bytes that are left over.
-use Prim.Native.Nat.{ℕ, zero, suc, _+_, _*_, _/_, _%_}
+use Prim.Native.Nat.{ℕ, zero, suc, _+_, _*_, _/_, _%_, _^_}
 use mathlib.Core.Path.{_≡_}
 use mathlib.Core.Bool.{cond}
 use mathlib.Core.List.{List, [], _∷_, _++_}
-use lib.Dec.{eqb}
+use lib.Dec.{eqb, ltb}
 use lib.ListN.{length, take, drop}
 use Rattle.header.specs.declared.setting.Kind.{Kind}
 use Rattle.header.specs.declared.setting.Reading.{Reading}
+use Rattle.header.specs.Refusal.{Check, firstOf}
 use Rattle.header.specs.Rules.{countAvailable}
 use Rattle.header.specs.Header.{readOf}
+use Rattle.listing.specs.declared.Listed.{Listed}
 use Rattle.listing.specs.Text.{space, lineFeed, decimal, field}
 
 -- the header PID of a recording that is listed
@@ -17,6 +19,18 @@ listedPid = 0x1FF0
 
 abbrev pub packetLength : ℕ
 packetLength = 188
+
+-- the whole packets among so many bytes
+abbrev pub packetsIn : ℕ → ℕ
+packetsIn lent = lent / packetLength
+
+-- the bytes that a line may take
+abbrev pub lineRoom : ℕ
+lineRoom = 96
+
+-- the bytes that the listing of so many bytes may take: a line for each packet, and one for bytes that are left over
+abbrev pub roomFor : ℕ → ℕ
+roomFor lent = lineRoom * (packetsIn lent + 1)
 
 -- the words `refused`, `header` and `tail`
 abbrev pub refusedWord : List ℕ
@@ -64,7 +78,32 @@ tailLine left = cond (eqb left 0) [] (field tailWord space ++ field (decimal lef
 
 -- the listing of a recording's bytes, of which the first packet has the number `first`
 unfoldable pub listing : ℕ → List ℕ → List ℕ
-listing first bytes = lines first bytes (length bytes / packetLength) ++ tailLine (length bytes % packetLength)
+listing first bytes = lines first bytes (packetsIn (length bytes)) ++ tailLine (length bytes % packetLength)
+
+-- the checks of a call: the packets' numbers fit 64 bits, and the buffer has room
+unfoldable pub listChecks : ℕ → ℕ → ℕ → List Check
+listChecks first lent room = (17, ltb (2 ^ 64) (first + packetsIn lent)) ∷ (15, ltb room (roomFor lent)) ∷ []
+
+-- the refusal of a call that lists `lent` bytes into a buffer of `room` bytes, or 0
+unfoldable pub listRefusal : ℕ → ℕ → ℕ → ℕ
+listRefusal first lent room = firstOf (listChecks first lent room)
+
+-- what a call answers: the refusal, and the listing's length or 0
+unfoldable pub listed : ℕ → List ℕ → ℕ → Listed
+listed first bytes room =
+    record {
+      refusal = listRefusal first (length bytes) room;
+      length = cond (eqb (listRefusal first (length bytes) room) 0) (length (listing first bytes)) 0;
+    }
+
+-- a text over the front of a buffer, whose other bytes stay
+unfoldable pub overFront : List ℕ → List ℕ → List ℕ
+overFront text buffer = text ++ drop (length text) buffer
+
+-- what the buffer holds after a call: the listing over its front, or what it held
+unfoldable pub listedOver : ℕ → List ℕ → List ℕ → List ℕ
+listedOver first bytes buffer =
+    cond (eqb (listRefusal first (length bytes) (length buffer)) 0) (overFront (listing first bytes) buffer) buffer
 
 -- A recording that is listed block by block is listed whole, where each block but the last is whole packets.
 abbrev pub ByBlocks : Type 0

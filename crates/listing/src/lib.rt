@@ -1,36 +1,47 @@
 // The listing of a recording of packets: for each packet a line that says what it is, read as a plain header.
-use libc::STDIN_FILENO;
-use libc::STDOUT_FILENO;
-ghost use Prim.Native.Nat.{_+_, _<_, _^_};
+ghost use mathlib.Core.Path.{_≡_};
+ghost use lib.ListN.{length};
+ghost use Rattle.io.specs.Counts.{Counts};
+ghost use Rattle.listing.specs.Listing.{listed, listedOver};
 
 mod lines;
 mod text;
 
-// The packets of a block, its bytes, and room for its lines: input is read and output written a block at a time.
-const BLOCK_PACKETS: u64 = 174;
+// The bytes of a packet, and those that a line may take: a line for each packet and one more is room enough.
+pub const PACKET_BYTES: usize = 188;
 
-const BLOCK_BYTES: usize = 32712;
+pub const LINE_BYTES: usize = 96;
 
-const TEXT_BYTES: usize = 16800;
-
-// Lists one block of the input, of which the first packet has this number. Answers whether more may follow.
-fn list_block(first: u64) -> bool
-    requires { ⌜ first + 174 < 2 ^ 64 ⌝ }
-{
-    let mut block = [0u8; BLOCK_BYTES];
-    let got = io::read_full(STDIN_FILENO, &mut block);
-    let mut out = [0u8; TEXT_BYTES];
-    let end = lines::put_listing(&mut out, &block[..got], first);
-    if !io::write_all(STDOUT_FILENO, &out[..end]) {
-        return false;
-    }
-    got == BLOCK_BYTES
+// The refusal's number and length 0, or refusal 0 and the bytes of the listing.
+pub struct Listed {
+    pub refusal: u8,
+    pub length: usize,
 }
 
-// Lists the standard input to the standard output. A loop that is proved has to end: the numbers of packets do.
-pub fn list_input() {
-    let mut number: u64 = 0;
-    while number < u64::MAX - BLOCK_PACKETS && list_block(number) {
-        number += BLOCK_PACKETS;
+fn refused(refusal: u8) -> Listed
+    ensures { λ r. ⌜ r .refusal ≡ refusal ⌝ }
+    ensures { λ r. ⌜ r .length ≡ 0 ⌝ }
+{
+    Listed {
+        refusal,
+        length: 0,
     }
+}
+
+// Puts the listing of `bytes`, of which the first packet has the number `first`, at the front of `out`. A refusal
+// leaves `out` as it was.
+pub fn list(out: &mut [u8], bytes: &[u8], first: u64) -> Listed
+    ensures { λ r. ⌜ r ≡ listed first (now (bytes .entry)) (length (now (out .entry))) ⌝ }
+    ensures { λ _. ⌜ now (out .exit) ≡ listedOver first (now (bytes .entry)) (now (out .entry)) ⌝ }
+    ensures { λ r. ⌜ Counts (r .length) (now (out .exit)) ⌝ }
+{
+    let packets = bytes.len() / PACKET_BYTES;
+    if packets > 0 && u64::MAX - first < packets as u64 - 1 {
+        return refused(17);
+    }
+    if out.len() < LINE_BYTES * (packets + 1) {
+        return refused(15);
+    }
+    let length = lines::put_listing(out, bytes, first);
+    Listed { refusal: 0, length }
 }

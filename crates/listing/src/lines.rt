@@ -1,17 +1,15 @@
 // The lines of a listing, put into a lent buffer.
+use crate::PACKET_BYTES;
 use crate::text::put_field;
 use crate::text::put_number;
 use header::setting::Kind;
-ghost use Prim.Native.Nat.{_+_, _*_, _/_, _≤_, _<_, _^_};
+ghost use Prim.Native.Nat.{_+_, _≤_, _^_};
 ghost use lib.ListN.{length};
-ghost use Rattle.io.specs.Counts.{Counts};
 ghost use Rattle.listing.specs.Text.{Puts};
-ghost use Rattle.listing.specs.Listing.{refusedFields, headerFields, line, tailLine, listing};
+ghost use Rattle.listing.specs.Listing.{lineRoom, roomFor, packetsIn, refusedFields, headerFields, line, tailLine, listing};
 
 // The header PID of a recording that is listed.
 const PID: u16 = 0x1FF0;
-
-const PACKET_BYTES: usize = 188;
 
 fn put_refused(out: &mut [u8], at: usize, refusal: u8) -> usize
     requires { ⌜ at + 29 ≤ length (now out) ⌝ }
@@ -35,9 +33,9 @@ fn put_header(out: &mut [u8], at: usize, counter: u8, version: u8, available: u3
 
 // The line of a packet.
 fn put_line(out: &mut [u8], at: usize, number: u64, packet: &[u8]) -> usize
-    requires { ⌜ at + 96 ≤ length (now out) ⌝ }
+    requires { ⌜ at + lineRoom ≤ length (now out) ⌝ }
     ensures { λ r. ⌜ Puts (now (out .entry)) at (line number (now (packet .entry))) (now (out .exit)) r ⌝ }
-    ensures { λ r. ⌜ r ≤ at + 96 ⌝ }
+    ensures { λ r. ⌜ r ≤ at + lineRoom ⌝ }
 {
     let reading = header::read(packet, PID, Kind::Plain);
     let next = put_number(out, at, number, b' ');
@@ -57,9 +55,9 @@ fn put_line(out: &mut [u8], at: usize, number: u64, packet: &[u8]) -> usize
 
 // The line for bytes that are left over, where there are any.
 fn put_tail(out: &mut [u8], at: usize, left: usize) -> usize
-    requires { ⌜ at + 96 ≤ length (now out) ⌝ }
+    requires { ⌜ at + lineRoom ≤ length (now out) ⌝ }
     ensures { λ r. ⌜ Puts (now (out .entry)) at (tailLine left) (now (out .exit)) r ⌝ }
-    ensures { λ r. ⌜ r ≤ at + 96 ⌝ }
+    ensures { λ r. ⌜ r ≤ at + lineRoom ⌝ }
 {
     if left == 0 {
         return at;
@@ -70,19 +68,19 @@ fn put_tail(out: &mut [u8], at: usize, left: usize) -> usize
 
 // The listing of `bytes`, of which the first packet has the number `first`, at the front of a buffer with room for it.
 pub(crate) fn put_listing(out: &mut [u8], bytes: &[u8], first: u64) -> usize
-    requires { ⌜ 96 * (length (now bytes) / 188 + 1) ≤ length (now out) ⌝ }
-    requires { ⌜ first + length (now bytes) / 188 < 2 ^ 64 ⌝ }
+    requires { ⌜ roomFor (length (now bytes)) ≤ length (now out) ⌝ }
+    requires { ⌜ first + packetsIn (length (now bytes)) ≤ 2 ^ 64 ⌝ }
     ensures { λ r. ⌜ Puts (now (out .entry)) 0 (listing first (now (bytes .entry))) (now (out .exit)) r ⌝ }
-    ensures { λ r. ⌜ Counts r (now (out .exit)) ⌝ }
+    ensures { λ r. ⌜ r ≤ length (now (out .exit)) ⌝ }
 {
     let mut at = 0;
     let mut from = 0;
-    let mut number = first;
+    let mut passed: u64 = 0;
     while PACKET_BYTES <= bytes.len() - from {
         let end = from + PACKET_BYTES;
-        at = put_line(out, at, number, &bytes[from..end]);
+        at = put_line(out, at, first + passed, &bytes[from..end]);
         from = end;
-        number += 1;
+        passed += 1;
     }
     put_tail(out, at, bytes.len() - from)
 }

@@ -3,8 +3,10 @@
 mod damage;
 mod many;
 mod packets;
+mod recording;
 
 use crate::generator::Generator;
+pub use recording::{write_recording, FRAME_PACKETS};
 use reference::list;
 
 pub struct Case {

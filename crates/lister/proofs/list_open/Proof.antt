@@ -1,14 +1,14 @@
--- `list_input` is safe and ends: each turn raises the number, which has an end. Assumes nothing.
+-- `list_open` is safe and ends: each turn raises the number, which has an end. Assumes nothing.
 use Prim.Native.Nat.{_-_, _^_}
 use native.Mathlib.Omega.{arith}
-use Rattle.listing.proofs.list_input.Statement.{statement}
-use Rattle.listing.proofs.list_input.Tie as tie
+use Rattle.lister.proofs.list_open.Statement.{statement}
+use Rattle.lister.proofs.list_open.Tie as tie
 
 abbrev Inv-loop : tie.InvT-loop
-Inv-loop number₀ number = Unit {0}
+Inv-loop fd name step number₀ number = Unit {0}
 
 abbrev μ-loop : tie.MeasureT-loop
-μ-loop number₀ number = 2 ^ 64 - number
+μ-loop fd name step number₀ number = 2 ^ 64 - number
 
 loop-holds : tie.Need-loop-holds Inv-loop μ-loop
 loop-holds c = tt
@@ -34,8 +34,8 @@ returns c = tt
 returns-2 : tie.Need-returns-2 Inv-loop μ-loop
 returns-2 c = tt
 
-pub list-input-spec : {M : Type 1} → statement M
-list-input-spec =
+pub list-open-spec : {M : Type 1} → statement M
+list-open-spec =
     tie.close
     (tie.spec
     Inv-loop
