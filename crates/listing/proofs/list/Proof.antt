@@ -25,7 +25,8 @@ returns c =
     let a = c .before .before .before .before .before .args in
     let e = c .refused .ensures in
     let large : 2 ^ 64 < a .first + packetsIn (length (a .bytes .now)) = omega (arith, ltb-true) in
-    stopped (a .first) (a .bytes .now) (a .out .now) (c .refused .result) (large-number (a .first) (length (a .bytes .now)) (length (a .out .now)) large) (λ z. omega arith) (e .0) (e .1)
+    stopped (a .first) (a .bytes .now) (a .out .now) (c .refused .result)
+    (large-number (a .first) (length (a .bytes .now)) (length (a .out .now)) large) (λ z. omega arith) (e .0) (e .1)
 
 -- the numbers fit where the first check was passed
 fit : (c : tie.Joined1) → c .before .before .before .args .first + packetsIn (length (c .before .before .before .args .bytes .now)) ≤ 2 ^ 64
