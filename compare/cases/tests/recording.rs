@@ -15,8 +15,13 @@ fn every_frame_starts_with_a_header() {
     assert_eq!(text.lines().count() as u64, packets);
     for (number, line) in (0..).zip(text.lines()) {
         if number % FRAME_PACKETS == 0 {
-            let counter = number / FRAME_PACKETS % 16;
-            assert!(line.starts_with(&format!("{number} header {counter} ")));
+            let frame = number / FRAME_PACKETS;
+            let [counter, version] = [frame % 16, frame / 16 % 8];
+            let streams = frame.count_ones();
+            assert_eq!(
+                line,
+                format!("{number} header {counter} {version} {streams}")
+            );
         } else {
             assert_eq!(line, format!("{number} refused 4"));
         }

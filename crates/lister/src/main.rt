@@ -41,7 +41,7 @@ fn read_block(fd: i32, name: &[u8], block: &mut [u8]) -> usize
     done
 }
 
-// The listing of a block over the front of a buffer, which is refused nothing. Answers its length.
+// The listing of a block over the front of a buffer, where no check refuses it. Answers its length.
 fn put_block(out: &mut [u8], block: &[u8], first: u64) -> usize
     requires { ⌜ roomFor (length (now block)) ≤ length (now out) ⌝ }
     requires { ⌜ first + packetsIn (length (now block)) ≤ 2 ^ 64 ⌝ }

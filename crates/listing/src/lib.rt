@@ -22,10 +22,7 @@ fn refused(refusal: u8) -> Listed
     ensures { λ r. ⌜ r .refusal ≡ refusal ⌝ }
     ensures { λ r. ⌜ r .length ≡ 0 ⌝ }
 {
-    Listed {
-        refusal,
-        length: 0,
-    }
+    Listed { refusal, length: 0 }
 }
 
 // Puts the listing of `bytes`, of which the first packet has the number `first`, at the front of `out`. A refusal

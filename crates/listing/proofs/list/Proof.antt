@@ -25,7 +25,8 @@ returns c =
     let a = c .before .before .before .before .before .args in
     let e = c .refused .ensures in
     let large : 2 ^ 64 < a .first + packetsIn (length (a .bytes .now)) = omega (arith, ltb-true) in
-    stopped (a .first) (a .bytes .now) (a .out .now) (c .refused .result) (large-number (a .first) (length (a .bytes .now)) (length (a .out .now)) large) (λ z. omega arith) (e .0) (e .1)
+    stopped (a .first) (a .bytes .now) (a .out .now) (c .refused .result)
+    (large-number (a .first) (length (a .bytes .now)) (length (a .out .now)) large) (λ z. omega arith) (e .0) (e .1)
 
 -- the numbers fit where the first check was passed
 fit : (c : tie.Joined1) → c .before .before .before .args .first + packetsIn (length (c .before .before .before .args .bytes .now)) ≤ 2 ^ 64
@@ -45,7 +46,7 @@ returns-2 c =
     let a = c .before .before .before .before .before .args in
     let e = c .refused2 .ensures in
     stopped (a .first) (a .bytes .now) (a .out .now) (c .refused2 .result)
-        (little-room (a .first) (length (a .bytes .now)) (length (a .out .now)) (fit (c .before .before)) (omega arith)) (λ z. omega arith) (e .0) (e .1)
+    (little-room (a .first) (length (a .bytes .now)) (length (a .out .now)) (fit (c .before .before)) (omega arith)) (λ z. omega arith) (e .0) (e .1)
 
 put-listing-requires : tie.Need-put-listing-requires
 put-listing-requires c κs = (omega arith, fit (c .before .before))
@@ -58,7 +59,7 @@ returns-3 c =
     let a = c .before .before .before .before .before .before .before .before .args in
     let put = c .before .before .put-listing .ensures in
     done (a .first) (a .bytes .now) (a .out .now) _
-        (right-call (a .first) (length (a .bytes .now)) (length (a .out .now)) (fit (c .before .before .before .before .before)) (omega arith)) refl (put .0) (put .1)
+    (right-call (a .first) (length (a .bytes .now)) (length (a .out .now)) (fit (c .before .before .before .before .before)) (omega arith)) refl (put .0) (put .1)
 
 pub list-spec : {M : Type 1} → statement M
 list-spec =
