@@ -12,7 +12,7 @@ use Rattle.crc.specs.Crc.{registerFrom}
 use Rattle.header.specs.Rows.{pack}
 use Rattle.header.specs.Layout.{startRows, identifierRows, controlRows, numberRows, privateRows, layout}
 use Rattle.header.specs.Header.{paired, startContent, identifierContent, controlContent, numberContent, privateContent, content, body, header}
-use Rattle.examples.specs.Examples.{Example, none, examples, ExamplesHold}
+use Rattle.examples.specs.Examples.{Example, beyond, examples, ExamplesHold}
 
 -- whether two lists of numbers are the same
 same : List ℕ → List ℕ → Bool
@@ -34,7 +34,7 @@ same-is (x ∷ xs) (y ∷ ys) e =
     let p = both (eqb x y) (same xs ys) e in
     ap₂ (λ (a : ℕ) (l : List ℕ). a ∷ l) (eqb-true x y (p .0)) (same-is xs ys (p .1))
 
-each : (es : List Example) → all-right es ≡ true → (k : ℕ) → getD es k none .said ≡ getD es k none .written
+each : (es : List Example) → all-right es ≡ true → (k : ℕ) → getD es k beyond .said ≡ getD es k beyond .written
 unfolding all-right
 each [] e k = refl
 each (x ∷ es) e zero = same-is (x .said) (x .written) (both (same (x .said) (x .written)) (all-right es) e .0)

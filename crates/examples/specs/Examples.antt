@@ -51,8 +51,8 @@ abbrev pub bytes : Setting → ℕ → ℕ → List ℕ
 bytes s at n = take n (drop at (header Kind.Plain 0x1FF0 s))
 
 -- past the table's end
-abbrev pub none : Example
-none = record { number = 0; said = []; written = [] }
+abbrev pub beyond : Example
+beyond = record { number = 0; said = []; written = [] }
 
 -- the table
 unfoldable pub examples : List Example
@@ -69,4 +69,4 @@ examples =
 
 -- what the definitions say is what the document says, example by example
 abbrev pub ExamplesHold : Type 0
-ExamplesHold = (k : ℕ) → getD examples k none .said ≡ getD examples k none .written
+ExamplesHold = (k : ℕ) → getD examples k beyond .said ≡ getD examples k beyond .written
