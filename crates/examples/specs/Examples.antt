@@ -3,9 +3,9 @@ use Prim.Native.Nat.{ℕ, _+_}
 use mathlib.Core.Path.{_≡_}
 use mathlib.Core.List.{List, [], _∷_, _++_}
 use lib.ListN.{getD, take, drop, set, replicate}
-use Rattle.header.specs.declared.setting.Kind.{Kind}
-use Rattle.header.specs.declared.setting.Setting.{Setting}
-use Rattle.header.specs.Counters.{lastSlot, lastStream}
+use Rattle.setting.specs.declared.Kind.{Kind}
+use Rattle.setting.specs.declared.Setting.{Setting}
+use Rattle.setting.specs.Counters.{lastSlot, lastStream}
 use Rattle.header.specs.Header.{header}
 
 -- an example: its number in the document, what the definitions say, and what the document says

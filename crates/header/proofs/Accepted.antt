@@ -11,17 +11,19 @@ use Rattle.bits.specs.Fields.{run}
 use Rattle.bits.proofs.Laws.{fit-run, fit-getD, length-run}
 use Rattle.crc.specs.Crc.{registerOf}
 use Rattle.slices.proofs.Any.{both}
-use Rattle.header.specs.declared.setting.Kind.{Kind}
-use Rattle.header.specs.declared.setting.Setting.{Setting}
+use Rattle.setting.specs.declared.Kind.{Kind}
+use Rattle.setting.specs.declared.Setting.{Setting}
+use Rattle.setting.specs.Setting.{privateBytes, auxiliaryBytes}
+use Rattle.setting.specs.Refusal.{NoneHolds, none, more}
+use Rattle.setting.specs.Rules.{pidAllowed, absentChecks, widthChecks, bondingChecks, ruleChecks}
+use Rattle.setting.proofs.Fields.{some-fit}
+use Rattle.setting.proofs.Refusals.{numbered, none-first, none-at, none-append, none-behind}
 use Rattle.header.specs.Rows.{place, rowAt}
-use Rattle.header.specs.Layout.{syncByte, tsmfSync, privateBytes, auxiliaryBytes, layout}
-use Rattle.header.specs.Rules.{pidAllowed, absentChecks, widthChecks, bondingChecks, ruleChecks}
+use Rattle.header.specs.Layout.{syncByte, tsmfSync, layout}
 use Rattle.header.specs.Header.{headerLength, row, value, reading, callChecks, packetChecks, readRefusal}
-use Rattle.header.specs.Demands.{MeetsRules, NoneHolds, none, more}
+use Rattle.header.specs.Demands.{MeetsRules}
 use Rattle.header.proofs.Rows.{size, rowOf, Fills, row-fills}
 use Rattle.header.proofs.LaidOut.{laid-out, size-layout}
-use Rattle.header.proofs.Fields.{some-fit}
-use Rattle.header.proofs.Refusals.{numbered, none-first, none-at, none-append, none-behind}
 use Rattle.header.proofs.Content.{fills-replicate}
 
 numbered-bonding : (kind : Kind) (s : Setting) → numbered (bondingChecks kind s) ≡ true

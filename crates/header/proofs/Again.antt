@@ -9,14 +9,14 @@ use lib.Pow.{ones-lt}
 use Rattle.bits.specs.Fields.{Fit, bitsOf, number, run}
 use Rattle.bits.proofs.Laws.{fit-run, fit-drop, length-run, bitsOf-number, number-lt}
 use Rattle.crc.proofs.Laws.{own-bits-only}
-use Rattle.header.specs.declared.setting.Kind.{Kind}
-use Rattle.header.specs.Counters.{lastStream}
+use Rattle.setting.specs.declared.Kind.{Kind}
+use Rattle.setting.specs.Counters.{lastStream}
 use Rattle.header.specs.Layout.{layout, reservedRows}
 use Rattle.header.specs.Header.{headerLength, one, paired, firsts, seconds, content, body, header, row, value, reading}
 use Rattle.header.specs.Demands.{Among, here, there, allOnes, SameButReserved, ReservedOnes, WrittenAgain}
 use Rattle.header.proofs.Rows.{rowOf, Fills, Suits, Each, next, done, each-at, pack-rows}
 use Rattle.header.proofs.LaidOut.{laid-out, bodyBits, size-layout, length-content}
-use Rattle.header.proofs.Fields.{not-refused}
+use Rattle.header.proofs.Calls.{not-refused}
 use Rattle.header.proofs.Content.{fills-replicate}
 use Rattle.header.proofs.Whole.{crcOf, crc-lt, header-only, register-behind, row-header}
 use Rattle.header.proofs.Accepted.{Shown, shown, long, row-filled, meets}

@@ -7,8 +7,8 @@ use lib.ListN.{length}
 use Rattle.bits.specs.Fields.{bitsOf, run}
 use Rattle.bits.proofs.Laws.{run-append}
 use Rattle.slices.proofs.Front.{put, front-none, front-part, front-all}
-use Rattle.header.specs.declared.setting.Kind.{Kind}
-use Rattle.header.specs.declared.setting.Setting.{Setting}
+use Rattle.setting.specs.declared.Kind.{Kind}
+use Rattle.setting.specs.declared.Setting.{Setting}
 use Rattle.header.specs.Rows.{Row, pack}
 use Rattle.header.specs.Layout.{startRows, identifierRows, controlRows, numberRows, privateRows, layout}
 use Rattle.header.specs.Header.{paired, startContent, identifierContent, controlContent, numberContent, privateContent, content, body}

@@ -6,13 +6,15 @@ use mathlib.Core.List.{List, _++_}
 use lib.Dec.{eqb}
 use lib.ListN.{length}
 use borrow.Author.Tests.{eq-eqb, ne-eqb}
-use Rattle.header.specs.declared.setting.Kind.{Kind}
-use Rattle.header.specs.declared.setting.Setting.{Setting}
-use Rattle.header.specs.declared.setting.Reading.{Reading}
-use Rattle.header.specs.Refusal.{Check, firstOf}
-use Rattle.header.specs.Rules.{pidAllowed}
-use Rattle.header.specs.Header.{headerLength, header, reading, blank, callChecks, writeRefusal, written, readRefusal, readOf}
-use Rattle.header.proofs.Refusals.{answers, passed}
+use Rattle.setting.specs.declared.Kind.{Kind}
+use Rattle.setting.specs.declared.Setting.{Setting}
+use Rattle.setting.specs.Setting.{blank}
+use Rattle.setting.specs.Refusal.{Check, firstOf, more}
+use Rattle.setting.specs.Rules.{pidAllowed}
+use Rattle.setting.proofs.Refusals.{answers, passed, first-none}
+use Rattle.header.specs.declared.Reading.{Reading}
+use Rattle.header.specs.Header.{headerLength, header, reading, callChecks, writeRefusal, written, readRefusal, readOf}
+use Rattle.header.specs.Demands.{MeetsRules}
 
 module _ (pid lent : ℕ) (rest : List Check) where
   -- 1
@@ -49,3 +51,8 @@ module _ (kind : Kind) (pid : ℕ) (p : List ℕ) where
   accepted e r f g =
       let said : cond (eqb (readRefusal kind pid p) 0) (reading kind p) blank ≡ reading kind p = rw e in
       λ i. record { refusal = (f ∙ sym e) i; setting = (g ∙ sym said) i }
+
+-- a setting that meets the rules is not refused
+pub not-refused : (kind : Kind) (pid lent : ℕ) (s : Setting) → MeetsRules kind pid s → lent ≡ headerLength → writeRefusal kind pid s lent ≡ 0
+unfolding writeRefusal
+not-refused kind pid lent s m e = first-none (more (ap not (eq-eqb lent headerLength e)) (more (ap not (m .pid-allowed)) (m .fields)))

@@ -6,17 +6,18 @@ use native.Mathlib.Omega.{arith}
 use lib.Dec.{lit<}
 use lib.ListN.{length, getD, replicate, length-replicate}
 use Rattle.bits.specs.Fields.{Fit, none, more}
-use Rattle.header.specs.declared.setting.Kind.{Kind}
-use Rattle.header.specs.declared.setting.Setting.{Setting}
-use Rattle.header.specs.Counters.{lastStream}
+use Rattle.setting.specs.declared.Kind.{Kind}
+use Rattle.setting.specs.declared.Setting.{Setting}
+use Rattle.setting.specs.Counters.{lastStream}
+use Rattle.setting.specs.Setting.{Array, OfItsTypes}
+use Rattle.setting.specs.Rules.{widthChecks, ruleChecks}
+use Rattle.setting.proofs.Fields.{at-most, bonded, bonding-none, narrow}
+use Rattle.setting.proofs.Refusals.{none-before, none-behind}
 use Rattle.header.specs.Layout.{reservedByte, reservedBytes, layout}
-use Rattle.header.specs.Rules.{widthChecks, ruleChecks}
 use Rattle.header.specs.Header.{one, paired, content}
-use Rattle.header.specs.Demands.{Array, OfItsTypes, MeetsRules}
+use Rattle.header.specs.Demands.{MeetsRules}
 use Rattle.header.proofs.LaidOut.{laid-out, length-content}
 use Rattle.header.proofs.Rows.{Fills, rowOf, Suits, Each, next, done, each-at}
-use Rattle.header.proofs.Fields.{at-most, bonded, bonding-none, narrow}
-use Rattle.header.proofs.Refusals.{none-before, none-behind}
 
 fills-one : {w v : ℕ} → v < 2 ^ w → Array 1 w (one v)
 fills-one h = (refl, more h none)

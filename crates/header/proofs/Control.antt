@@ -9,7 +9,7 @@ use lib.Seq.{drop-cons, set-at}
 use lib.ListN.{drop-of-length-le}
 use Rattle.bits.specs.Fields.{bitsOf, run}
 use Rattle.bits.proofs.Laws.{run-append, run-one, bitsOf-join, bitsOf-mod}
-use Rattle.header.specs.declared.setting.Setting.{Setting}
+use Rattle.setting.specs.declared.Setting.{Setting}
 use Rattle.header.specs.Rows.{pack}
 use Rattle.header.specs.Layout.{controlRows}
 use Rattle.header.specs.Header.{controlContent}

@@ -9,9 +9,11 @@ use lib.Dec.{eqb}
 use lib.ListN.{length, getD}
 use Rattle.bits.specs.Fields.{Fit, cut}
 use Rattle.bits.proofs.Laws.{fit-getD}
+use Rattle.setting.specs.Refusal.{firstOf, NoneHolds}
+use Rattle.setting.proofs.Refusals.{none-first}
 use Rattle.header.specs.Rows.{place, rowAt}
 use Rattle.header.specs.Layout.{startRows}
-use Rattle.header.specs.Header.{headerLength, startValue}
+use Rattle.header.specs.Header.{headerLength, startValue, packetChecks}
 use Rattle.header.proofs.Cut.{byte-field, word-field, wordAt}
 
 -- a test by the number that a field is seen to have
@@ -51,3 +53,7 @@ module _ (p : List ℕ) (f : Fit 8 p) (l : length p ≡ headerLength) where
   pub tsmf-sync : startValue p 6 ≡ wordAt p 4 % 8192
   unfolding startRows rowAt place cut
   tsmf-sync = word-field p 4 3 13 0 f (omega arith) refl ∙ omega arith
+
+pub packet-none : (pid : ℕ) (p : List ℕ) → firstOf (packetChecks pid p) ≡ 0 → NoneHolds (packetChecks pid p)
+unfolding packetChecks
+packet-none pid p e = none-first (packetChecks pid p) refl e

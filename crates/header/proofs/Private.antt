@@ -9,16 +9,16 @@ use Rattle.bits.specs.Fields.{bitsOf, run}
 use Rattle.bits.proofs.Laws.{run-append}
 use Rattle.slices.specs.Slices.{copied}
 use Rattle.slices.proofs.Front.{put, front-none, front-part, front-length, front-all}
-use Rattle.header.specs.declared.setting.Kind.{Kind}
-use Rattle.header.specs.declared.setting.Setting.{Setting}
+use Rattle.setting.specs.declared.Kind.{Kind}
+use Rattle.setting.specs.declared.Setting.{Setting}
+use Rattle.setting.specs.Refusal.{NoneHolds}
+use Rattle.setting.specs.Rules.{bondingChecks}
+use Rattle.setting.proofs.Fields.{bonded}
 use Rattle.header.specs.Rows.{pack}
 use Rattle.header.specs.Layout.{privateRows}
-use Rattle.header.specs.Rules.{bondingChecks}
 use Rattle.header.specs.Bytes.{bondingBytes}
 use Rattle.header.specs.Header.{privateContent}
-use Rattle.header.specs.Demands.{NoneHolds}
 use Rattle.header.proofs.Bytes.{joined}
-use Rattle.header.proofs.Fields.{bonded}
 
 -- a copy over a list of the same length is what was copied
 pub copied-all : (into from : List ℕ) → length into ≡ length from → copied into from ≡ from

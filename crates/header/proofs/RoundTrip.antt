@@ -12,17 +12,20 @@ use borrow.Author.Tests.{leb-false, eq-eqb}
 use Rattle.bits.specs.Fields.{Fit}
 use Rattle.slices.specs.Slices.{someAtLeast}
 use Rattle.crc.specs.Crc.{registerOf}
-use Rattle.header.specs.declared.setting.Kind.{Kind}
-use Rattle.header.specs.declared.setting.Setting.{Setting}
-use Rattle.header.specs.declared.setting.Reading.{Reading}
+use Rattle.setting.specs.declared.Kind.{Kind}
+use Rattle.setting.specs.declared.Setting.{Setting}
+use Rattle.setting.specs.Setting.{privateBytes, auxiliaryBytes, blank, OfItsTypes}
+use Rattle.setting.specs.Refusal.{NoneHolds, none, more}
+use Rattle.setting.specs.Rules.{widthChecks, absentChecks, ruleChecks}
+use Rattle.setting.proofs.Fields.{fit-some}
+use Rattle.setting.proofs.Refusals.{first-none, none-at, none-append, none-behind}
+use Rattle.header.specs.declared.Reading.{Reading}
 use Rattle.header.specs.Rows.{place, rowAt}
-use Rattle.header.specs.Layout.{layout, privateBytes, auxiliaryBytes}
-use Rattle.header.specs.Rules.{widthChecks, absentChecks, ruleChecks}
-use Rattle.header.specs.Header.{paired, firsts, seconds, content, headerLength, header, row, value, reading, blank, packetChecks, written, readRefusal, readOf}
-use Rattle.header.specs.Demands.{OfItsTypes, MeetsRules, NoneHolds, none, more, WrittenAndReadBack}
+use Rattle.header.specs.Layout.{layout}
+use Rattle.header.specs.Header.{paired, firsts, seconds, content, headerLength, header, row, value, reading, packetChecks, written, readRefusal, readOf}
+use Rattle.header.specs.Demands.{MeetsRules, WrittenAndReadBack}
 use Rattle.header.proofs.LaidOut.{laid-out}
-use Rattle.header.proofs.Fields.{not-refused, fit-some}
-use Rattle.header.proofs.Refusals.{first-none, none-at, none-append, none-behind}
+use Rattle.header.proofs.Calls.{not-refused}
 use Rattle.header.proofs.Content.{suits}
 use Rattle.header.proofs.Whole.{length-header, row-header, register-header}
 

@@ -10,8 +10,8 @@ use lib.ListN.{length, getD, take, drop, length-append, length-drop}
 use lib.Seq.{take-add, drop-drop, drop-at}
 use Rattle.bits.specs.Fields.{Fit, none, run, cut}
 use Rattle.bits.proofs.Laws.{length-run, length-cut, fit-run, fit-cut, fit-append, fit-drop, cut-run, run-cut}
+use Rattle.setting.specs.Setting.{Array}
 use Rattle.header.specs.Rows.{Row, pack, place, rowAt}
-use Rattle.header.specs.Demands.{Array}
 
 -- the bits of all rows
 abbrev pub size : List Row → ℕ

@@ -7,10 +7,11 @@ use lib.ListN.{length, getD, take, drop, replicate}
 use lib.Seq.{getD-take, getD-drop}
 use Rattle.bits.specs.Fields.{Fit, run, cut}
 use Rattle.bits.proofs.Laws.{fit-getD}
-use Rattle.header.specs.declared.setting.Kind.{Kind}
-use Rattle.header.specs.declared.setting.Setting.{Setting}
+use Rattle.setting.specs.declared.Kind.{Kind}
+use Rattle.setting.specs.declared.Setting.{Setting}
+use Rattle.setting.specs.Setting.{privateBytes, auxiliaryBytes}
+use Rattle.setting.specs.Rules.{byKind}
 use Rattle.header.specs.Rows.{place, rowAt}
-use Rattle.header.specs.Layout.{byKind, privateBytes, auxiliaryBytes}
 use Rattle.header.specs.Header.{headerLength, row, reading}
 use Rattle.header.proofs.Cut.{byte-field, word-field, wordAt, part-row, byte-row}
 use Rattle.header.proofs.LaidOut.{laid-out}

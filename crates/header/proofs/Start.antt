@@ -6,10 +6,10 @@ use native.Mathlib.Omega.{arith}
 use lib.Dec.{lit<}
 use Rattle.bits.specs.Fields.{bitsOf, run}
 use Rattle.bits.proofs.Laws.{bitsOf-join}
-use Rattle.header.specs.declared.setting.Setting.{Setting}
+use Rattle.setting.specs.declared.Setting.{Setting}
+use Rattle.setting.specs.Rules.{Narrow}
 use Rattle.header.specs.Rows.{pack}
 use Rattle.header.specs.Layout.{startRows}
-use Rattle.header.specs.Rules.{Narrow}
 use Rattle.header.specs.Header.{startContent}
 use Rattle.header.proofs.Bytes.{two-bytes, joined, split}
 

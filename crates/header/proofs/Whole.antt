@@ -12,8 +12,8 @@ use Rattle.bits.proofs.Laws.{run-append, run-drop, length-bitsOf, bits-bitsOf, 
 use Rattle.crc.specs.Crc.{registerFrom, registerOf}
 use Rattle.crc.proofs.Laws.{registerFrom-append, registerFrom-lt, own-bits}
 use Rattle.slices.proofs.Front.{put, front-none, front-part, front-all}
-use Rattle.header.specs.declared.setting.Kind.{Kind}
-use Rattle.header.specs.declared.setting.Setting.{Setting}
+use Rattle.setting.specs.declared.Kind.{Kind}
+use Rattle.setting.specs.declared.Setting.{Setting}
 use Rattle.header.specs.Rows.{rowAt}
 use Rattle.header.specs.Layout.{layout}
 use Rattle.header.specs.Header.{headerLength, content, body, header, row}

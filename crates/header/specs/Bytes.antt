@@ -1,7 +1,7 @@
 -- Parts of the header as whole bytes, as the code writes them.
 use Prim.Native.Nat.{ℕ, _+_, _*_}
 use mathlib.Core.List.{List, [], _∷_}
-use Rattle.header.specs.declared.setting.Setting.{Setting}
+use Rattle.setting.specs.declared.Setting.{Setting}
 
 -- bytes 127 to 130 of an extended header: the two halves of byte 130 are number_of_frames and frame_position
 abbrev pub bondingBytes : Setting → List ℕ

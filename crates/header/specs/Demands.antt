@@ -1,37 +1,18 @@
 -- What demand 2 says of headers, as statements over what the calls answer and leave. The proofs stand apart.
 use Prim.Native.Nat.{ℕ, _-_, _<_, _^_}
 use mathlib.Core.Path.{_≡_}
-use mathlib.Core.Bool.{Bool, true, false}
-use mathlib.Core.List.{List, [], _∷_, _++_}
+use mathlib.Core.Bool.{true}
+use mathlib.Core.List.{List, _∷_, _++_}
 use lib.ListN.{length, getD, replicate}
 use Rattle.bits.specs.Fields.{Fit}
-use Rattle.header.specs.declared.setting.Kind.{Kind}
-use Rattle.header.specs.declared.setting.Setting.{Setting}
-use Rattle.header.specs.Counters.{lastSlot, lastStream}
-use Rattle.header.specs.Refusal.{Check}
+use Rattle.setting.specs.declared.Kind.{Kind}
+use Rattle.setting.specs.declared.Setting.{Setting}
+use Rattle.setting.specs.Setting.{OfItsTypes}
+use Rattle.setting.specs.Refusal.{NoneHolds}
+use Rattle.setting.specs.Rules.{pidAllowed, widthChecks, ruleChecks}
 use Rattle.header.specs.Rows.{Row}
-use Rattle.header.specs.Layout.{privateBytes, auxiliaryBytes, layout, reservedRows}
-use Rattle.header.specs.Rules.{pidAllowed, widthChecks, ruleChecks}
+use Rattle.header.specs.Layout.{layout, reservedRows}
 use Rattle.header.specs.Header.{headerLength, header, row, reading, writeRefusal, written, readRefusal, readOf}
-
--- a list of n values of w bits each: what an array of the code can hold
-abbrev pub Array : ℕ → ℕ → List ℕ → Type 0
-Array n w vs = (length vs ≡ n) × Fit w vs
-
--- what the code's types say of a setting, and nothing more
-pub record OfItsTypes (s : Setting) : Type 0 where
-  pub ts-id : Array lastStream 16 (s .«ts_id»)
-  pub network-id : Array lastStream 16 (s .«original_network_id»)
-  pub statuses : Array lastStream 8 (s .«receive_status»)
-  pub numbers : Array lastSlot 8 (s .«relative_ts_number»)
-  pub privates : Array privateBytes 8 (s .«private_data»)
-  pub auxiliaries : Array auxiliaryBytes 8 (s .auxiliary)
-  pub group : s .«group_id» < 2 ^ 8
-
--- no condition of the checks holds
-pub data NoneHolds : List Check → Type 0 where
-  none : NoneHolds []
-  more : {n : ℕ} {b : Bool} {cs : List Check} → b ≡ false → NoneHolds cs → NoneHolds ((n, b) ∷ cs)
 
 -- the rules that a setting meets which is to be written with this PID as this kind
 pub record MeetsRules (kind : Kind) (pid : ℕ) (s : Setting) : Type 0 where

@@ -6,14 +6,14 @@ use lib.Dec.{eqb}
 use lib.ListN.{length, getD, drop, replicate}
 use Rattle.bits.specs.Fields.{bitsOf, run, cut}
 use Rattle.crc.specs.Crc.{registerFrom, registerOf}
-use Rattle.header.specs.declared.setting.Kind.{Kind}
-use Rattle.header.specs.declared.setting.Setting.{Setting}
-use Rattle.header.specs.declared.setting.Reading.{Reading}
-use Rattle.header.specs.Counters.{lastSlot, lastStream}
-use Rattle.header.specs.Refusal.{Check, firstOf}
+use Rattle.setting.specs.declared.Kind.{Kind}
+use Rattle.setting.specs.declared.Setting.{Setting}
+use Rattle.setting.specs.Setting.{privateBytes, auxiliaryBytes, blank}
+use Rattle.setting.specs.Refusal.{Check, firstOf}
+use Rattle.setting.specs.Rules.{byKind, pidAllowed, widthChecks, ruleChecks}
+use Rattle.header.specs.declared.Reading.{Reading}
 use Rattle.header.specs.Rows.{pack, rowAt}
-use Rattle.header.specs.Layout.{syncByte, tsmfSync, reservedByte, privateBytes, auxiliaryBytes, reservedBytes, byKind, startRows, layout}
-use Rattle.header.specs.Rules.{pidAllowed, widthChecks, ruleChecks}
+use Rattle.header.specs.Layout.{syncByte, tsmfSync, reservedByte, reservedBytes, startRows, layout}
 
 -- a header is 188 bytes
 abbrev pub headerLength : ℕ
@@ -102,29 +102,6 @@ reading kind p =
       «carrier_sequence» = byKind kind 0 (value kind p 20);
       «number_of_frames» = byKind kind 0 (value kind p 21);
       «frame_position» = record { 0 = byKind kind 0 (value kind p 22) };
-    }
-
--- zeros in every part
-unfoldable pub blank : Setting
-blank =
-    record {
-      «continuity_counter» = 0;
-      «version_number» = 0;
-      «slot_allocation_type» = 0;
-      «frame_type» = 0;
-      availability = 0;
-      «ts_id» = replicate lastStream 0;
-      «original_network_id» = replicate lastStream 0;
-      «receive_status» = replicate lastStream 0;
-      «emergency_indicator» = 0;
-      «relative_ts_number» = replicate lastSlot 0;
-      «private_data» = replicate privateBytes 0;
-      auxiliary = replicate auxiliaryBytes 0;
-      «group_id» = 0;
-      «number_of_carriers» = 0;
-      «carrier_sequence» = 0;
-      «number_of_frames» = 0;
-      «frame_position» = record { 0 = 0 };
     }
 
 -- what is asked of every call's PID and of the packet or buffer that it is lent

@@ -1,8 +1,10 @@
 -- The header's layout: 01's table, row under row. The rows are numbered from 0.
 use Prim.Native.Nat.{ℕ, _*_}
 use mathlib.Core.List.{List, [], _∷_, _++_}
-use Rattle.header.specs.declared.setting.Kind.{Kind}
-use Rattle.header.specs.Counters.{lastSlot, lastStream}
+use Rattle.setting.specs.declared.Kind.{Kind}
+use Rattle.setting.specs.Counters.{lastSlot, lastStream}
+use Rattle.setting.specs.Setting.{privateBytes, auxiliaryBytes}
+use Rattle.setting.specs.Rules.{byKind}
 use Rattle.header.specs.Rows.{Row}
 
 -- sync_byte, TSMF_sync, and the value of a reserved byte
@@ -15,20 +17,9 @@ tsmfSync = 0x1A86
 abbrev pub reservedByte : ℕ
 reservedByte = 0xFF
 
--- how many bytes of private data there are; in an extended header the first are auxiliary and the last reserved
-abbrev pub privateBytes : ℕ
-privateBytes = 85
-
-abbrev pub auxiliaryBytes : ℕ
-auxiliaryBytes = 28
-
+-- how many of an extended header's bytes of private data are reserved: the last
 abbrev pub reservedBytes : ℕ
 reservedBytes = 53
-
--- what a plain and an extended header have in its place
-abbrev pub byKind : {A : Type 0} → Kind → A → A → A
-byKind Kind.Plain p e = p
-byKind Kind.Extended p e = e
 
 -- packet_header, TSMF_sync, version_number and slot_information: bytes 0 to 8
 unfoldable pub startRows : List Row

@@ -1,9 +1,6 @@
 -- The TSMF header of J.183: what it is, and what reading and writing it answer.
-pub mod Counters
-pub mod Refusal
 pub mod Rows
 pub mod Layout
-pub mod Rules
 pub mod Header
 pub mod Bytes
 pub mod Demands

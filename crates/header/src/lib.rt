@@ -1,19 +1,21 @@
-// The TSMF header of J.183: its setting, writer and reader.
+// The TSMF header of J.183: its writer and reader.
 use setting::Kind;
-use setting::Reading;
 use setting::Setting;
+use setting::rules;
 ghost use mathlib.Core.Path.{_≡_};
 ghost use lib.ListN.{length};
-ghost use Rattle.header.specs.Rules.{countAvailable};
 ghost use Rattle.header.specs.Header.{writeRefusal, written, readOf};
 
-pub mod counters;
 mod packed;
 mod places;
 mod reader;
-mod rules;
-pub mod setting;
 mod writer;
+
+// What a read answers: refusal 0 and the setting, or the refusal's number and zeros.
+pub struct Reading {
+    pub refusal: u8,
+    pub setting: Setting,
+}
 
 // Writes the setting's header into the lent 188 bytes. Answers 0, or the refusal's number and leaves the buffer as it was.
 pub fn write(buffer: &mut [u8], pid: u16, kind: Kind, s: Setting) -> u8
@@ -61,11 +63,4 @@ pub fn read(packet: &[u8], pid: u16, kind: Kind) -> Reading
         refusal: 0,
         setting,
     }
-}
-
-// How many of the fifteen streams are available: the ones of the field.
-pub fn count_available(availability: u16) -> u32
-    ensures { λ r. ⌜ r ≡ countAvailable availability ⌝ }
-{
-    u16::count_ones(availability % setting::AVAILABILITIES)
 }

@@ -1,8 +1,8 @@
 // Where the header's parts start, in bytes: J.183's formulas over the counts.
-use crate::setting::AUXILIARY_BYTES;
-use crate::setting::PRIVATE_BYTES;
-use crate::setting::SLOTS;
-use crate::setting::STREAMS;
+use setting::AUXILIARY_BYTES;
+use setting::PRIVATE_BYTES;
+use setting::SLOTS;
+use setting::STREAMS;
 
 pub(crate) const HEADER_LENGTH: usize = 188;
 // The CRC runs from here on.

@@ -1,22 +1,23 @@
 // The reader's parts: what a packet of 188 bytes says, read as a header.
-use crate::counters::FramePosition;
+use crate::Reading;
 use crate::packed;
 use crate::places;
-use crate::setting::AUXILIARY_BYTES;
-use crate::setting::Kind;
-use crate::setting::PRIVATE_BYTES;
-use crate::setting::Reading;
-use crate::setting::SLOTS;
-use crate::setting::STREAMS;
-use crate::setting::Setting;
+use setting::AUXILIARY_BYTES;
+use setting::Kind;
+use setting::PRIVATE_BYTES;
+use setting::SLOTS;
+use setting::STREAMS;
+use setting::Setting;
+use setting::counters::FramePosition;
 ghost use mathlib.Core.Path.{_≡_};
 ghost use Prim.Native.Nat.{_+_, _*_};
 ghost use lib.ListN.{length, take, drop};
 ghost use Rattle.bits.specs.Fields.{run, cut};
-ghost use Rattle.header.specs.Counters.{lastStream};
-ghost use Rattle.header.specs.Layout.{privateBytes, auxiliaryBytes, byKind};
-ghost use Rattle.header.specs.Refusal.{firstOf};
-ghost use Rattle.header.specs.Header.{headerLength, firsts, seconds, packetChecks, reading, blank};
+ghost use Rattle.setting.specs.Counters.{lastStream};
+ghost use Rattle.setting.specs.Setting.{privateBytes, auxiliaryBytes, blank};
+ghost use Rattle.setting.specs.Refusal.{firstOf};
+ghost use Rattle.setting.specs.Rules.{byKind};
+ghost use Rattle.header.specs.Header.{headerLength, firsts, seconds, packetChecks, reading};
 
 // A number of 16 bits from its two bytes.
 fn word(high: u8, low: u8) -> u16

@@ -1,19 +1,19 @@
 // The writer's parts: each fills its own bytes of the lent buffer, straight from the setting.
 use crate::packed;
 use crate::places;
-use crate::setting::AUXILIARY_BYTES;
-use crate::setting::Kind;
-use crate::setting::PRIVATE_BYTES;
-use crate::setting::Setting;
+use setting::AUXILIARY_BYTES;
+use setting::Kind;
+use setting::PRIVATE_BYTES;
+use setting::Setting;
 ghost use mathlib.Core.Path.{_≡_};
 ghost use Prim.Native.Nat.{_*_, _<_, _^_};
 ghost use lib.ListN.{length};
 ghost use Rattle.bits.specs.Fields.{bitsOf, run};
-ghost use Rattle.header.specs.Counters.{lastStream, lastSlot};
-ghost use Rattle.header.specs.Refusal.{firstOf};
+ghost use Rattle.setting.specs.Setting.{privateBytes};
+ghost use Rattle.setting.specs.Refusal.{firstOf};
+ghost use Rattle.setting.specs.Rules.{Narrow, bondingChecks};
 ghost use Rattle.header.specs.Rows.{pack};
-ghost use Rattle.header.specs.Layout.{privateBytes, startRows, controlRows, privateRows};
-ghost use Rattle.header.specs.Rules.{Narrow, bondingChecks};
+ghost use Rattle.header.specs.Layout.{startRows, controlRows, privateRows};
 ghost use Rattle.header.specs.Bytes.{bondingBytes};
 ghost use Rattle.header.specs.Header.{headerLength, startContent, paired, controlContent, privateContent, body, header};
 

@@ -1,9 +1,9 @@
 // Step 10 and the faults: each takes two draws, x and y, and changes what is lent to the writer.
 use crate::draws::below;
 use crate::draws::draw;
-use header::counters::FramePosition;
-use header::setting::Kind;
-use header::setting::Setting;
+use setting::Kind;
+use setting::Setting;
+use setting::counters::FramePosition;
 ghost use Prim.Native.Nat.{_≤_};
 
 // What is lent to the writer.

@@ -1,11 +1,11 @@
 // A line for each case.
-use header::setting::AUXILIARY_BYTES;
-use header::setting::PRIVATE_BYTES;
-use header::setting::Reading;
-use header::setting::SLOTS;
-use header::setting::STREAMS;
-use header::setting::Setting;
+use header::Reading;
 use libc::STDOUT_FILENO;
+use setting::AUXILIARY_BYTES;
+use setting::PRIVATE_BYTES;
+use setting::SLOTS;
+use setting::STREAMS;
+use setting::Setting;
 ghost use mathlib.Core.Path.{_≡_};
 ghost use Prim.Native.Nat.{_≤_};
 ghost use lib.ListN.{length};

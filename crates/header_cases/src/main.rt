@@ -1,6 +1,6 @@
 // Draws 400 settings, writes a header for each and reads it back, and writes a line for each that says what came of it. The
 // words at the top of compare/cases/src/bin/header_cases.rs say how each is drawn; the steps are numbered as there.
-use header::setting::Kind;
+use setting::Kind;
 ghost use mathlib.Core.Path.{_≡_};
 ghost use Prim.Native.Nat.{_≤_};
 ghost use lib.ListN.{length};

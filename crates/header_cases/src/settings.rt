@@ -3,14 +3,14 @@ use crate::draws::below;
 use crate::draws::byte_below;
 use crate::draws::draw_bytes;
 use crate::draws::draw_words;
-use header::counters::FramePosition;
-use header::counters::RelativeNumber;
-use header::setting::AUXILIARY_BYTES;
-use header::setting::Kind;
-use header::setting::PRIVATE_BYTES;
-use header::setting::SLOTS;
-use header::setting::STREAMS;
-use header::setting::Setting;
+use setting::AUXILIARY_BYTES;
+use setting::Kind;
+use setting::PRIVATE_BYTES;
+use setting::SLOTS;
+use setting::STREAMS;
+use setting::Setting;
+use setting::counters::FramePosition;
+use setting::counters::RelativeNumber;
 
 fn with_start(state: &mut u32, kind: Kind, mut s: Setting) -> Setting {
     s.continuity_counter = byte_below(state, 16);

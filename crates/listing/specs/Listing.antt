@@ -5,10 +5,10 @@ use mathlib.Core.Bool.{cond}
 use mathlib.Core.List.{List, [], _∷_, _++_}
 use lib.Dec.{eqb, ltb}
 use lib.ListN.{length, take, drop}
-use Rattle.header.specs.declared.setting.Kind.{Kind}
-use Rattle.header.specs.declared.setting.Reading.{Reading}
-use Rattle.header.specs.Refusal.{Check, firstOf}
-use Rattle.header.specs.Rules.{countAvailable}
+use Rattle.setting.specs.declared.Kind.{Kind}
+use Rattle.setting.specs.Refusal.{Check, firstOf}
+use Rattle.setting.specs.Rules.{countAvailable}
+use Rattle.header.specs.declared.Reading.{Reading}
 use Rattle.header.specs.Header.{readOf}
 use Rattle.listing.specs.declared.Listed.{Listed}
 use Rattle.listing.specs.Text.{space, lineFeed, decimal, field}

@@ -2,7 +2,7 @@
 use crate::PACKET_BYTES;
 use crate::text::put_field;
 use crate::text::put_number;
-use header::setting::Kind;
+use setting::Kind;
 ghost use Prim.Native.Nat.{_+_, _≤_, _^_};
 ghost use lib.ListN.{length};
 ghost use Rattle.listing.specs.Text.{Puts};
@@ -43,7 +43,7 @@ fn put_line(out: &mut [u8], at: usize, number: u64, packet: &[u8]) -> usize
         return put_refused(out, next, reading.refusal);
     }
     let setting = reading.setting;
-    let available = header::count_available(setting.availability);
+    let available = setting::count_available(setting.availability);
     put_header(
         out,
         next,

@@ -6,13 +6,12 @@ use mathlib.Core.List.{List, _++_}
 use native.Mathlib.Omega.{arith}
 use borrow.Author.Tests.{not-true, not-false}
 use lib.ListN.{length}
-use Rattle.header.specs.Refusal.{Check, firstOf}
-use Rattle.header.specs.Rules.{pidAllowed, widthChecks, ruleChecks}
+use Rattle.setting.specs.Refusal.{Check, firstOf, NoneHolds}
+use Rattle.setting.specs.Rules.{pidAllowed, widthChecks, ruleChecks}
+use Rattle.setting.proofs.Fields.{at-most, narrow, bonding-none}
+use Rattle.setting.proofs.Refusals.{onward, at-once, first-none, width-none, rule-none}
 use Rattle.header.specs.Header.{writeRefusal}
-use Rattle.header.specs.Demands.{NoneHolds}
 use Rattle.header.proofs.Calls.{wrong-length, wrong-pid, right-call, left, made}
-use Rattle.header.proofs.Fields.{at-most, narrow, bonding-none}
-use Rattle.header.proofs.Refusals.{onward, at-once, first-none, width-none, rule-none}
 use borrow.Author.Needs.{needs}
 use Rattle.header.proofs.write.Statement.{statement}
 use Rattle.header.proofs.write.Tie as tie

@@ -4,8 +4,8 @@ use mathlib.Core.List.{List}
 use Prim.Native.Nat.{ℕ}
 use native.Mathlib.Omega.{arith}
 use lib.ListN.{take, drop}
-use Rattle.header.specs.declared.setting.Kind.{Kind}
-use Rattle.header.specs.Layout.{byKind}
+use Rattle.setting.specs.declared.Kind.{Kind}
+use Rattle.setting.specs.Rules.{byKind}
 use Rattle.header.proofs.Cut.{length-part}
 use Rattle.header.proofs.Private.{copied-all}
 use borrow.Author.Needs.{needs}

@@ -1,12 +1,12 @@
 -- `write_bonding` meets its contract. Assumes nothing.
 use mathlib.Core.Path.{refl}
 use native.Mathlib.Omega.{arith}
-use Rattle.header.specs.declared.setting.Kind.{Kind}
-use Rattle.header.specs.Rules.{bondingChecks}
+use Rattle.setting.specs.declared.Kind.{Kind}
+use Rattle.setting.specs.Rules.{bondingChecks}
+use Rattle.setting.proofs.Fields.{Bonded, bonded}
+use Rattle.setting.proofs.Refusals.{none-first}
 use Rattle.header.specs.Bytes.{bondingBytes}
 use Rattle.header.proofs.Bytes.{stored}
-use Rattle.header.proofs.Fields.{Bonded, bonded}
-use Rattle.header.proofs.Refusals.{none-first}
 use borrow.Author.Needs.{needs}
 use Rattle.header.proofs.writer.write_bonding.Statement.{statement}
 use Rattle.header.proofs.writer.write_bonding.Tie as tie

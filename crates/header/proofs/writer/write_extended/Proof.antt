@@ -3,11 +3,11 @@ use mathlib.Core.Path.{_≡_, refl, sym, _∙_}
 use native.Mathlib.Omega.{arith}
 use lib.ListN.{length, take}
 use lib.Seq.{length-take-le}
-use Rattle.header.specs.declared.setting.Kind.{Kind}
-use Rattle.header.specs.Layout.{auxiliaryBytes}
-use Rattle.header.specs.Rules.{bondingChecks}
+use Rattle.setting.specs.declared.Kind.{Kind}
+use Rattle.setting.specs.Setting.{auxiliaryBytes}
+use Rattle.setting.specs.Rules.{bondingChecks}
+use Rattle.setting.proofs.Refusals.{none-first}
 use Rattle.header.proofs.Private.{copied-all, extended-parts}
-use Rattle.header.proofs.Refusals.{none-first}
 use borrow.Author.Needs.{needs}
 use Rattle.header.proofs.writer.write_extended.Statement.{statement}
 use Rattle.header.proofs.writer.write_extended.Tie as tie

@@ -3,11 +3,12 @@ use mathlib.Core.Path.{_≡_, sym, ap, subst, _∙_}
 use mathlib.Core.List.{append-nil}
 use lib.ListN.{length}
 use Rattle.bits.specs.Fields.{run}
-use Rattle.header.specs.declared.setting.Kind.{Kind}
-use Rattle.header.specs.Refusal.{firstOf}
+use Rattle.setting.specs.declared.Kind.{Kind}
+use Rattle.setting.specs.Setting.{privateBytes}
+use Rattle.setting.specs.Refusal.{firstOf}
+use Rattle.setting.specs.Rules.{bondingChecks}
 use Rattle.header.specs.Rows.{pack}
-use Rattle.header.specs.Layout.{privateBytes, privateRows}
-use Rattle.header.specs.Rules.{bondingChecks}
+use Rattle.header.specs.Layout.{privateRows}
 use Rattle.header.specs.Header.{privateContent}
 use Rattle.header.proofs.Private.{copied-all}
 use borrow.Author.Needs.{needs}

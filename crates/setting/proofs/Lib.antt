@@ -1,0 +1,5 @@
+mod Checked
+pub mod Fields
+pub mod Refusals
+mod Streams
+mod Within

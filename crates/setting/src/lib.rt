@@ -1,0 +1,88 @@
+// What a header of J.183 says: its setting, the counters in it, and the rules that it has to obey.
+use crate::counters::FramePosition;
+use crate::counters::RelativeNumber;
+use crate::counters::Slot;
+ghost use mathlib.Core.Path.{_≡_};
+ghost use Rattle.setting.specs.Setting.{blank};
+ghost use Rattle.setting.specs.Rules.{countAvailable};
+
+pub mod counters;
+pub mod rules;
+
+// How many slots carry packets, and how many streams a header knows.
+pub const SLOTS: usize = Slot::LAST as usize;
+
+pub const STREAMS: usize = RelativeNumber::LAST as usize;
+
+// One more than the largest availability, which has a bit for each stream.
+pub const AVAILABILITIES: u16 = 1 << RelativeNumber::LAST;
+
+// The bytes of the private data; in an extended header the first are auxiliary information.
+pub const PRIVATE_BYTES: usize = 85;
+
+pub const AUXILIARY_BYTES: usize = 28;
+
+// The caller says of each header which it is.
+pub enum Kind {
+    Plain,
+    Extended,
+}
+
+// Every field that a caller sets, by J.183's names. A part that the kind does not have is zeros.
+pub struct Setting {
+    pub continuity_counter: u8,
+    pub version_number: u8,
+    pub slot_allocation_type: u8,
+    pub frame_type: u8,
+    // Fifteen bits, stream 1 the highest; one is available.
+    pub availability: u16,
+    pub ts_id: [u16; STREAMS],
+    pub original_network_id: [u16; STREAMS],
+    pub receive_status: [u8; STREAMS],
+    pub emergency_indicator: u8,
+    // The number of the stream in each slot, from slot 1 on; 0: none.
+    pub relative_ts_number: [u8; SLOTS],
+    // Of a plain header.
+    pub private_data: [u8; PRIVATE_BYTES],
+    // Of an extended header.
+    pub auxiliary: [u8; AUXILIARY_BYTES],
+    pub group_id: u8,
+    pub number_of_carriers: u8,
+    pub carrier_sequence: u8,
+    pub number_of_frames: u8,
+    pub frame_position: FramePosition,
+}
+
+impl Setting {
+    // Zeros in every part: what a caller fills in, and what stands beside a refusal.
+    pub fn blank() -> Setting
+        ensures { λ r. ⌜ r ≡ blank ⌝ }
+    {
+        Setting {
+            continuity_counter: 0,
+            version_number: 0,
+            slot_allocation_type: 0,
+            frame_type: 0,
+            availability: 0,
+            ts_id: [0u16; STREAMS],
+            original_network_id: [0u16; STREAMS],
+            receive_status: [0u8; STREAMS],
+            emergency_indicator: 0,
+            relative_ts_number: [0u8; SLOTS],
+            private_data: [0u8; PRIVATE_BYTES],
+            auxiliary: [0u8; AUXILIARY_BYTES],
+            group_id: 0,
+            number_of_carriers: 0,
+            carrier_sequence: 0,
+            number_of_frames: 0,
+            frame_position: FramePosition(0),
+        }
+    }
+}
+
+// How many of the fifteen streams are available: the ones of the field.
+pub fn count_available(availability: u16) -> u32
+    ensures { λ r. ⌜ r ≡ countAvailable availability ⌝ }
+{
+    u16::count_ones(availability % AVAILABILITIES)
+}
