@@ -8,7 +8,7 @@ mod Control
 mod Cut
 mod Identifiers
 mod LaidOut
-mod Packet
+pub mod Packet
 mod Private
 pub mod RoundTrip
 mod Rows

@@ -2,4 +2,4 @@ mod Checked
 pub mod Fields
 pub mod Refusals
 mod Streams
-mod Within
+pub mod Within

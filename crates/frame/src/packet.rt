@@ -1,0 +1,31 @@
+// Packets of 188 bytes, of which a frame has a header and one for each slot.
+use setting::SLOTS;
+ghost use mathlib.Core.Path.{_≡_};
+ghost use lib.ListN.{length};
+ghost use Rattle.frame.specs.Packets.{packetLength, nullPacket, unfit};
+
+pub const PACKET_BYTES: usize = 188;
+
+pub const FRAME_BYTES: usize = PACKET_BYTES * (SLOTS + 1);
+
+// 12: whether a packet lacks 0x47 or bears the header PID.
+pub(crate) fn is_unfit(packet: &[u8], pid: u16) -> bool
+    requires { ⌜ length (now packet) ≡ packetLength ⌝ }
+    ensures { λ r. ⌜ r ≡ unfit pid (now (packet .entry)) ⌝ }
+{
+    if packet[0] != 0x47 {
+        return true;
+    }
+    ((packet[1] % 32) as u16) * 256 + packet[2] as u16 == pid
+}
+
+// Writes a null packet into a slot.
+pub(crate) fn write_null(slot: &mut [u8])
+    requires { ⌜ length (now slot) ≡ packetLength ⌝ }
+    ensures { λ _. ⌜ now (slot .exit) ≡ nullPacket ⌝ }
+{
+    slices::fill(slot, 0xFF);
+    slot[0] = 0x47;
+    slot[1] = 0x1F;
+    slot[3] = 0x10;
+}
