@@ -98,28 +98,32 @@ nextCounter c = (c .counter + 1) % 16
 unfoldable pub nextVersion : Composer → ℕ
 nextVersion c = cond (differ (announced (c .setting)) (c .last)) ((c .version + 1) % 8) (c .version)
 
--- the setting of that header
-unfoldable pub closing : Composer → Setting
-closing c =
+-- a setting as a header says it, with the run's counter and version and the slots' own numbers
+unfoldable pub saying : ℕ → ℕ → List ℕ → Setting → Setting
+saying counter version numbers s =
     record {
-      «continuity_counter» = nextCounter c;
-      «version_number» = nextVersion c;
-      «slot_allocation_type» = c .setting .«slot_allocation_type»;
-      «frame_type» = c .setting .«frame_type»;
-      availability = c .setting .availability;
-      «ts_id» = c .setting .«ts_id»;
-      «original_network_id» = c .setting .«original_network_id»;
-      «receive_status» = c .setting .«receive_status»;
-      «emergency_indicator» = c .setting .«emergency_indicator»;
-      «relative_ts_number» = numbersOf (c .setting .«relative_ts_number») (c .filled);
-      «private_data» = c .setting .«private_data»;
-      auxiliary = c .setting .auxiliary;
-      «group_id» = c .setting .«group_id»;
-      «number_of_carriers» = c .setting .«number_of_carriers»;
-      «carrier_sequence» = c .setting .«carrier_sequence»;
-      «number_of_frames» = c .setting .«number_of_frames»;
-      «frame_position» = c .setting .«frame_position»;
+      «continuity_counter» = counter;
+      «version_number» = version;
+      «slot_allocation_type» = s .«slot_allocation_type»;
+      «frame_type» = s .«frame_type»;
+      availability = s .availability;
+      «ts_id» = s .«ts_id»;
+      «original_network_id» = s .«original_network_id»;
+      «receive_status» = s .«receive_status»;
+      «emergency_indicator» = s .«emergency_indicator»;
+      «relative_ts_number» = numbers;
+      «private_data» = s .«private_data»;
+      auxiliary = s .auxiliary;
+      «group_id» = s .«group_id»;
+      «number_of_carriers» = s .«number_of_carriers»;
+      «carrier_sequence» = s .«carrier_sequence»;
+      «number_of_frames» = s .«number_of_frames»;
+      «frame_position» = s .«frame_position»;
     }
+
+-- what the open frame's header says
+unfoldable pub closing : Composer → Setting
+closing c = saying (nextCounter c) (nextVersion c) (numbersOf (c .setting .«relative_ts_number») (c .filled)) (c .setting)
 
 -- the state once a header with this counter and version was written
 unfoldable pub closedWith : Composer → ℕ → ℕ → Composer

@@ -15,4 +15,4 @@ mod Rows
 mod Runs
 mod Said
 mod Start
-mod Whole
+pub mod Whole

@@ -12,18 +12,13 @@ use borrow.Author.Tests.{leb-true, leb-false, not-false, lt-leb}
 use Rattle.bits.specs.Fields.{Fit}
 use Rattle.bits.proofs.Laws.{fit-of, fit-getD}
 use Rattle.slices.specs.Slices.{anyBelow, someAtLeast}
-use Rattle.slices.proofs.Any.{both, any-each}
+use Rattle.slices.proofs.Any.{both, any-no, any-each}
 use Rattle.setting.specs.declared.Kind.{Kind}
 use Rattle.setting.specs.declared.Setting.{Setting}
 use Rattle.setting.specs.Counters.{lastStream, within}
 use Rattle.setting.specs.Refusal.{NoneHolds}
 use Rattle.setting.specs.Rules.{widthChecks, bondingChecks, ruleChecks, Narrow}
 use Rattle.setting.proofs.Refusals.{none-at, none-behind}
-
-any-no : (test : ℕ → Bool) (n : ℕ) → ((i : ℕ) → i < n → test i ≡ false) → anyBelow n test ≡ false
-unfolding anyBelow
-any-no test zero h = refl
-any-no test (suc n) h = rw (any-no test n (λ i l. h i (omega arith)), h n (omega arith))
 
 pub some-fit : (w : ℕ) (xs : List ℕ) → Fit w xs → someAtLeast (2 ^ w) xs ≡ false
 unfolding someAtLeast

@@ -17,6 +17,12 @@ module _ (test : ℕ → Bool) where
   unfolding anyBelow
   any-more n a t = rw (add-one, a, t)
 
+  -- every number fails it
+  pub any-no : (n : ℕ) → ((i : ℕ) → i < n → test i ≡ false) → anyBelow n test ≡ false
+  unfolding anyBelow
+  any-no zero h = refl
+  any-no (suc n) h = rw (any-no n (λ i l. h i (omega arith)), h n (omega arith))
+
   -- a number that passes it
   pub any-found : (n i : ℕ) → i < n → test i ≡ true → anyBelow n test ≡ true
   unfolding anyBelow

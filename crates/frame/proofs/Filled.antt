@@ -1,0 +1,283 @@
+-- What a put adds to the slots of a frame: they carry what was lent for each stream, one packet behind the other. Assumes nothing.
+use Prim.Native.Nat.{ℕ, _+_, _%_, _≤_, _<_}
+use mathlib.Core.Path.{_≡_, refl, sym, ap, ap₂, subst, _∙_}
+use mathlib.Core.Bool.{Bool, true, false, cond, not, _&&_, _||_, true≢false}
+use mathlib.Core.List.{List, [], _∷_, _++_, append-nil}
+use native.Mathlib.Omega.{arith}
+use native.Mathlib.Decide.{ℕ-discrete, decLe}
+use borrow.Author.Tests.{eq-eqb, ne-eqb, le-leb, lt-leb}
+use lib.Dec.{leb, eqb}
+use lib.ListN.{length, take, drop, replicate, length-append, length-drop}
+use lib.Seq.{take-at, drop-at, take-append-le, drop-append-le, length-take-le}
+use Rattle.frame.specs.Packets.{packetLength, nullPacket, unfit}
+use Rattle.frame.specs.Slots.{takes, slotsAfter, marksAfter, someUnfit, numbersOf}
+use Rattle.frame.specs.Work.{added, carries, taken, slotsFilled, numbersFilled}
+
+-- which slots carry a packet, and whether one of those packets is unfit
+unfoldable pub marksFilled : List ℕ → (ℕ → List ℕ) → List Bool
+marksFilled [] lent = []
+marksFilled (n ∷ ns) lent = cond (carries n lent) (true ∷ marksFilled ns (taken n lent)) (false ∷ marksFilled ns lent)
+
+unfoldable pub unfitFilled : ℕ → List ℕ → (ℕ → List ℕ) → Bool
+unfitFilled pid [] lent = false
+unfitFilled pid (n ∷ ns) lent =
+    cond (carries n lent) (unfit pid (take packetLength (lent n)) || unfitFilled pid ns (taken n lent)) (unfitFilled pid ns lent)
+
+-- whole packets
+abbrev pub Whole : List ℕ → Type 0
+Whole xs = length xs % packetLength ≡ 0
+
+abbrev pub EachWhole : (ℕ → List ℕ) → Type 0
+EachWhole lent = (n : ℕ) → Whole (lent n)
+
+-- less than a packet of whole packets is nothing
+pub whole-none : (xs : List ℕ) → Whole xs → length xs < packetLength → xs ≡ []
+whole-none [] w h = refl
+whole-none (x ∷ xs) w h = absurd (omega arith)
+
+pub whole-drop : (xs : List ℕ) → Whole xs → packetLength ≤ length xs → Whole (drop packetLength xs)
+whole-drop xs w h = rw length-drop (omega arith)
+
+pub whole-append : (xs ys : List ℕ) → Whole xs → Whole ys → Whole (xs ++ ys)
+whole-append xs ys v w = rw length-append (omega arith)
+
+pub whole-taken : (n : ℕ) (lent : ℕ → List ℕ) → EachWhole lent → packetLength ≤ length (lent n) → EachWhole (taken n lent)
+whole-taken n lent w h m = by-number (ℕ-discrete m n)
+  where
+    by-number : Dec (m ≡ n) → Whole (taken n lent m)
+    by-number (yes e) = rw (eq-eqb m n e) (whole-drop (lent m) (w m) (rw e h))
+    by-number (no d) = rw (ne-eqb m n d) (w m)
+
+pub whole-added : (r : ℕ) (stream : List ℕ) (lent : ℕ → List ℕ) → EachWhole lent → Whole stream → EachWhole (added r stream lent)
+whole-added r stream lent w v m = by-number (ℕ-discrete m r)
+  where
+    by-number : Dec (m ≡ r) → Whole (added r stream lent m)
+    by-number (yes e) = rw (eq-eqb m r e) (whole-append (lent m) stream (w m) v)
+    by-number (no d) = rw (ne-eqb m r d) (w m)
+
+-- ---- what was lent, with a packet taken and a stream added
+
+module _ (r n : ℕ) (stream : List ℕ) (lent : ℕ → List ℕ) where
+  -- for another stream
+  taken-added : (n ≡ r → ⊥) → taken n (added r stream lent) ≡ added r stream (taken n lent)
+  taken-added d = λ i m. at m (ℕ-discrete m n) i
+    where
+      at : (m : ℕ) → Dec (m ≡ n) → taken n (added r stream lent) m ≡ added r stream (taken n lent) m
+      at m (yes e) = rw (eq-eqb m n e, ne-eqb m r (λ f. d (sym e ∙ f)))
+      at m (no h) = rw (ne-eqb m n h)
+
+module _ (r : ℕ) (stream : List ℕ) (lent : ℕ → List ℕ) where
+  -- for the same stream, of which a packet is left
+  taken-before : packetLength ≤ length (lent r) → taken r (added r stream lent) ≡ added r stream (taken r lent)
+  taken-before h = λ i m. at m (ℕ-discrete m r) i
+    where
+      at : (m : ℕ) → Dec (m ≡ r) → taken r (added r stream lent) m ≡ added r stream (taken r lent) m
+      at m (yes e) = rw (eq-eqb m r e) (drop-append-le packetLength (lent m) stream (rw e h))
+      at m (no d) = rw (ne-eqb m r d)
+
+  -- for the same stream, of which nothing is left
+  taken-new : lent r ≡ [] → taken r (added r stream lent) ≡ added r (drop packetLength stream) lent
+  taken-new h = λ i m. at m (ℕ-discrete m r) i
+    where
+      at : (m : ℕ) → Dec (m ≡ r) → taken r (added r stream lent) m ≡ added r (drop packetLength stream) lent m
+      at m (yes e) = rw (eq-eqb m r e, ap lent e ∙ h)
+      at m (no d) = rw (ne-eqb m r d)
+
+  -- nothing is added
+  added-none : stream ≡ [] → added r stream lent ≡ lent
+  added-none h = λ i m. at m (ℕ-discrete m r) i
+    where
+      at : (m : ℕ) → Dec (m ≡ r) → added r stream lent m ≡ lent m
+      at m (yes e) = rw (eq-eqb m r e, h) (append-nil (lent m))
+      at m (no d) = rw (ne-eqb m r d)
+
+-- ---- one slot
+
+pub length-null : length nullPacket ≡ packetLength
+unfolding nullPacket
+length-null = refl
+
+module _ (r n : ℕ) (ns : List ℕ) (m : Bool) (ms : List Bool) (stream p bytes : List ℕ) (l : length p ≡ packetLength) where
+  -- one that keeps its packet
+  slots-kept : takes r n m (length stream) ≡ false → slotsAfter r (n ∷ ns) (m ∷ ms) stream (p ++ bytes) ≡ p ++ slotsAfter r ns ms stream bytes
+  unfolding slotsAfter
+  slots-kept e = rw (e, take-at p bytes packetLength l, drop-at p bytes packetLength l)
+
+  -- one that takes the stream's next
+  slots-taken : takes r n m (length stream) ≡ true
+      → slotsAfter r (n ∷ ns) (m ∷ ms) stream (p ++ bytes) ≡ take packetLength stream ++ slotsAfter r ns ms (drop packetLength stream) bytes
+  unfolding slotsAfter
+  slots-taken e = rw (e, drop-at p bytes packetLength l)
+
+module _ (r n : ℕ) (ns : List ℕ) (m : Bool) (ms : List Bool) (stream : List ℕ) where
+  marks-kept : takes r n m (length stream) ≡ false → marksAfter r (n ∷ ns) (m ∷ ms) stream ≡ m ∷ marksAfter r ns ms stream
+  unfolding marksAfter
+  marks-kept e = rw e
+
+  marks-taken : takes r n m (length stream) ≡ true → marksAfter r (n ∷ ns) (m ∷ ms) stream ≡ true ∷ marksAfter r ns ms (drop packetLength stream)
+  unfolding marksAfter
+  marks-taken e = rw e
+
+  unfit-kept : (pid : ℕ) → takes r n m (length stream) ≡ false → someUnfit pid r (n ∷ ns) (m ∷ ms) stream ≡ someUnfit pid r ns ms stream
+  unfolding someUnfit
+  unfit-kept pid e = rw e
+
+  unfit-taken : (pid : ℕ) → takes r n m (length stream) ≡ true
+      → someUnfit pid r (n ∷ ns) (m ∷ ms) stream ≡ unfit pid (take packetLength stream) || someUnfit pid r ns ms (drop packetLength stream)
+  unfolding someUnfit
+  unfit-taken pid e = rw e
+
+-- a slot's packet, number and mark by what is lent, and whether the packets from it on are fit
+pub record Slot (pid n : ℕ) (ns : List ℕ) (lent : ℕ → List ℕ) (p : List ℕ) (number : ℕ) (mark : Bool) (rest : ℕ → List ℕ) (bad : Bool) : Type 0 where
+  pub slots : slotsFilled (n ∷ ns) lent ≡ p ++ slotsFilled ns rest
+  pub numbers : numbersFilled (n ∷ ns) lent ≡ number ∷ numbersFilled ns rest
+  pub marks : marksFilled (n ∷ ns) lent ≡ mark ∷ marksFilled ns rest
+  pub unfits : unfitFilled pid (n ∷ ns) lent ≡ bad || unfitFilled pid ns rest
+  pub long : length p ≡ packetLength
+
+module _ (pid n : ℕ) (ns : List ℕ) (lent : ℕ → List ℕ) where
+  pub carried : (n ≡ 0 → ⊥) → packetLength ≤ length (lent n)
+      → Slot pid n ns lent (take packetLength (lent n)) n true (taken n lent) (unfit pid (take packetLength (lent n)))
+  unfolding slotsFilled numbersFilled marksFilled unfitFilled
+  carried d h =
+      record {
+        slots = rw (ne-eqb n 0 d, le-leb packetLength (length (lent n)) h);
+        numbers = rw (ne-eqb n 0 d, le-leb packetLength (length (lent n)) h);
+        marks = rw (ne-eqb n 0 d, le-leb packetLength (length (lent n)) h);
+        unfits = rw (ne-eqb n 0 d, le-leb packetLength (length (lent n)) h);
+        long = length-take-le packetLength (lent n) h;
+      }
+
+  pub idle : carries n lent ≡ false → Slot pid n ns lent nullPacket 0 false lent false
+  unfolding slotsFilled numbersFilled marksFilled unfitFilled
+  idle e = record { slots = rw e; numbers = rw e; marks = rw e; unfits = rw e; long = length-null }
+
+-- a carried packet and what is left, under other names
+carried-as : (pid n : ℕ) (ns : List ℕ) (lent : ℕ → List ℕ) (p : List ℕ) (rest : ℕ → List ℕ) → (n ≡ 0 → ⊥) → packetLength ≤ length (lent n)
+    → take packetLength (lent n) ≡ p → taken n lent ≡ rest → Slot pid n ns lent p n true rest (unfit pid p)
+carried-as pid n ns lent p rest d h e f =
+    subst (λ (x : List ℕ). Slot pid n ns lent x n true rest (unfit pid x)) e
+    (subst (λ (x : ℕ → List ℕ). Slot pid n ns lent (take packetLength (lent n)) n true x (unfit pid (take packetLength (lent n)))) f
+    (carried pid n ns lent d h))
+
+pub neither : (a b : Bool) → a || b ≡ false → (a ≡ false) × (b ≡ false)
+neither true b e = absurd (true≢false e)
+neither false b e = (refl, e)
+
+-- ---- a put, slot by slot
+
+-- what a put for stream r leaves is what the slots carry with the stream added; where the packets before and those placed are fit,
+-- so are those that are carried then
+pub record Added (pid r : ℕ) (plan : List ℕ) (lent : ℕ → List ℕ) (stream : List ℕ) : Type 0 where
+  pub slots : slotsAfter r plan (marksFilled plan lent) stream (slotsFilled plan lent) ≡ slotsFilled plan (added r stream lent)
+  pub marks : marksAfter r plan (marksFilled plan lent) stream ≡ marksFilled plan (added r stream lent)
+  pub fit : unfitFilled pid plan lent ≡ false → someUnfit pid r plan (marksFilled plan lent) stream ≡ false
+      → unfitFilled pid plan (added r stream lent) ≡ false
+
+module _ (pid r n : ℕ) (ns : List ℕ) (lent : ℕ → List ℕ) (stream : List ℕ) where
+  kept : (p : List ℕ) (k : ℕ) (m : Bool) (rest : ℕ → List ℕ) (bad : Bool) → Slot pid n ns lent p k m rest bad
+      → Slot pid n ns (added r stream lent) p k m (added r stream rest) bad → takes r n m (length stream) ≡ false
+      → Added pid r ns rest stream → Added pid r (n ∷ ns) lent stream
+  kept p k m rest bad b a e ih =
+      record {
+        slots =
+            ap₂ (λ (ms : List Bool) (l : List ℕ). slotsAfter r (n ∷ ns) ms stream l) (b .marks) (b .slots)
+            ∙ slots-kept r n ns m (marksFilled ns rest) stream p (slotsFilled ns rest) (b .long) e
+            ∙ ap (λ (l : List ℕ). p ++ l) (ih .slots) ∙ sym (a .slots);
+        marks =
+            ap (λ (ms : List Bool). marksAfter r (n ∷ ns) ms stream) (b .marks)
+            ∙ marks-kept r n ns m (marksFilled ns rest) stream e ∙ ap (λ (ms : List Bool). m ∷ ms) (ih .marks) ∙ sym (a .marks);
+        fit = λ u s.
+            let before = neither bad (unfitFilled pid ns rest) (sym (b .unfits) ∙ u) in
+            let placed = sym (ap (λ (ms : List Bool). someUnfit pid r (n ∷ ns) ms stream) (b .marks) ∙ unfit-kept r n ns m (marksFilled ns rest) stream pid e) ∙ s in
+            a .unfits ∙ ap₂ _||_ (before .0) (ih .fit (before .1) placed);
+      }
+
+  placed : Slot pid n ns lent nullPacket 0 false lent false
+      → Slot pid n ns (added r stream lent) (take packetLength stream) n true (added r (drop packetLength stream) lent) (unfit pid (take packetLength stream))
+      → takes r n false (length stream) ≡ true → Added pid r ns lent (drop packetLength stream) → Added pid r (n ∷ ns) lent stream
+  placed b a e ih =
+      record {
+        slots =
+            ap₂ (λ (ms : List Bool) (l : List ℕ). slotsAfter r (n ∷ ns) ms stream l) (b .marks) (b .slots)
+            ∙ slots-taken r n ns false (marksFilled ns lent) stream nullPacket (slotsFilled ns lent) (b .long) e
+            ∙ ap (λ (l : List ℕ). take packetLength stream ++ l) (ih .slots) ∙ sym (a .slots);
+        marks =
+            ap (λ (ms : List Bool). marksAfter r (n ∷ ns) ms stream) (b .marks)
+            ∙ marks-taken r n ns false (marksFilled ns lent) stream e ∙ ap (λ (ms : List Bool). true ∷ ms) (ih .marks) ∙ sym (a .marks);
+        fit = λ u s.
+            let now = neither (unfit pid (take packetLength stream)) (someUnfit pid r ns (marksFilled ns lent) (drop packetLength stream))
+            (sym (ap (λ (ms : List Bool). someUnfit pid r (n ∷ ns) ms stream) (b .marks) ∙ unfit-taken r n ns false (marksFilled ns lent) stream pid e) ∙ s) in
+            a .unfits ∙ ap₂ _||_ (now .0) (ih .fit (sym (b .unfits) ∙ u) (now .1));
+      }
+
+module _ (pid r n : ℕ) (ns : List ℕ) (lent : ℕ → List ℕ) (stream : List ℕ) (w : EachWhole lent) (v : Whole stream)
+    (ih : (l : ℕ → List ℕ) (s : List ℕ) → EachWhole l → Whole s → Added pid r ns l s) where
+  -- a slot that is planned for another stream, or for none
+  other-slot : (n ≡ r → ⊥) → Added pid r (n ∷ ns) lent stream
+  other-slot d = by-number (ℕ-discrete n 0) (decLe packetLength (length (lent n)))
+    where
+      same : added r stream lent n ≡ lent n
+      same = rw (ne-eqb n r d)
+
+      untaken : (m : Bool) → takes r n m (length stream) ≡ false
+      untaken m = rw (ne-eqb n r d)
+
+      nothing : carries n lent ≡ false → Added pid r (n ∷ ns) lent stream
+      nothing e =
+          kept pid r n ns lent stream nullPacket 0 false lent false (idle pid n ns lent e)
+          (idle pid n ns (added r stream lent) (ap (λ (l : List ℕ). not (eqb n 0) && leb packetLength (length l)) same ∙ e))
+          (untaken false) (ih lent stream w v)
+
+      by-number : Dec (n ≡ 0) → Dec (packetLength ≤ length (lent n)) → Added pid r (n ∷ ns) lent stream
+      by-number (yes e) q = nothing (rw (eq-eqb n 0 e))
+      by-number (no z) (no q) = nothing (rw (ne-eqb n 0 z, lt-leb packetLength (length (lent n)) (omega arith)))
+      by-number (no z) (yes q) =
+          kept pid r n ns lent stream (take packetLength (lent n)) n true (taken n lent) (unfit pid (take packetLength (lent n)))
+          (carried pid n ns lent z q)
+          (carried-as pid n ns (added r stream lent) (take packetLength (lent n)) (added r stream (taken n lent)) z (rw same q)
+          (ap (take packetLength) same) (taken-added r n stream lent d))
+          (untaken true) (ih (taken n lent) stream (whole-taken n lent w q) v)
+
+module _ (pid r : ℕ) (ns : List ℕ) (lent : ℕ → List ℕ) (stream : List ℕ) (w : EachWhole lent) (v : Whole stream) (z : r ≡ 0 → ⊥)
+    (ih : (l : ℕ → List ℕ) (s : List ℕ) → EachWhole l → Whole s → Added pid r ns l s) where
+  -- a slot that is planned for the stream
+  own-slot : Added pid r (r ∷ ns) lent stream
+  own-slot = by-lent (decLe packetLength (length (lent r))) (decLe packetLength (length stream))
+    where
+      behind : added r stream lent r ≡ lent r ++ stream
+      behind = rw (eq-eqb r r refl)
+
+      by-lent : Dec (packetLength ≤ length (lent r)) → Dec (packetLength ≤ length stream) → Added pid r (r ∷ ns) lent stream
+      by-lent (yes q) s =
+          kept pid r r ns lent stream (take packetLength (lent r)) r true (taken r lent) (unfit pid (take packetLength (lent r)))
+          (carried pid r ns lent z q)
+          (carried-as pid r ns (added r stream lent) (take packetLength (lent r)) (added r stream (taken r lent)) z
+          (rw (behind, length-append) (omega arith)) (ap (take packetLength) behind ∙ take-append-le packetLength (lent r) stream q)
+          (taken-before r stream lent q))
+          (rw (eq-eqb r r refl)) (ih (taken r lent) stream (whole-taken r lent w q) v)
+      by-lent (no q) (yes s) =
+          let e = whole-none (lent r) (w r) (omega arith) in
+          let all : added r stream lent r ≡ stream = behind ∙ ap (λ (l : List ℕ). l ++ stream) e in
+          placed pid r r ns lent stream (idle pid r ns lent (rw (ne-eqb r 0 z, lt-leb packetLength (length (lent r)) (omega arith))))
+          (carried-as pid r ns (added r stream lent) (take packetLength stream) (added r (drop packetLength stream) lent) z
+          (rw all s) (ap (take packetLength) all) (taken-new r stream lent e))
+          (rw (eq-eqb r r refl, le-leb packetLength (length stream) s))
+          (ih lent (drop packetLength stream) w (whole-drop stream v s))
+      by-lent (no q) (no s) =
+          let e = whole-none (lent r) (w r) (omega arith) in
+          let f = whole-none stream v (omega arith) in
+          kept pid r r ns lent stream nullPacket 0 false lent false
+          (idle pid r ns lent (rw (ne-eqb r 0 z, lt-leb packetLength (length (lent r)) (omega arith))))
+          (idle pid r ns (added r stream lent) (rw (ne-eqb r 0 z, behind, e, f)))
+          (rw (eq-eqb r r refl, lt-leb packetLength (length stream) (omega arith))) (ih lent stream w v)
+
+pub put-adds : (pid r : ℕ) → (r ≡ 0 → ⊥) → (plan : List ℕ) (lent : ℕ → List ℕ) (stream : List ℕ) → EachWhole lent → Whole stream
+    → Added pid r plan lent stream
+unfolding slotsAfter marksAfter slotsFilled marksFilled someUnfit unfitFilled
+put-adds pid r z [] lent stream w v = record { slots = refl; marks = refl; fit = λ u s. u }
+put-adds pid r z (n ∷ ns) lent stream w v = by-number (λ l s. put-adds pid r z ns l s) (ℕ-discrete n r)
+  where
+    by-number : ((l : ℕ → List ℕ) (s : List ℕ) → EachWhole l → Whole s → Added pid r ns l s) → Dec (n ≡ r) → Added pid r (n ∷ ns) lent stream
+    by-number ih (yes e) = subst (λ (k : ℕ). Added pid r (k ∷ ns) lent stream) (sym e) (own-slot pid r ns lent stream w v z ih)
+    by-number ih (no d) = other-slot pid r n ns lent stream w v ih d

@@ -1,0 +1,61 @@
+-- What is promised of the frames that a run closes, whatever its calls. The proofs stand apart.
+use Prim.Native.Nat.{ℕ, _+_, _*_, _≤_}
+use mathlib.Core.Path.{_≡_}
+use mathlib.Core.Bool.{true, false, cond}
+use mathlib.Core.List.{List, [], _∷_, _++_, map}
+use lib.Dec.{eqb}
+use lib.ListN.{length, take, drop}
+use Rattle.setting.specs.declared.Kind.{Kind}
+use Rattle.setting.specs.declared.Setting.{Setting}
+use Rattle.setting.specs.Counters.{firstStream, firstSlot, lastSlot}
+use Rattle.setting.specs.Rules.{pidAllowed}
+use Rattle.header.specs.Header.{readOf}
+use Rattle.frame.specs.Packets.{packetLength, frameLength, slot, unfit}
+use Rattle.frame.specs.Runs.{Call, Each, OfTypes, started, framesOf}
+use Rattle.frame.specs.Work.{Work, noWork, worksOf, slotsFilled, headed, frameOf}
+
+-- the works of a run's closed frames, each with what its header says: the first has counter 0 and version 0
+abbrev pub headedBy : Kind → ℕ → List Call → List (Setting × Work)
+headedBy kind pid calls = headed (worksOf (started kind pid) noWork calls)
+
+-- 'what a closed frame holds': the frames that any calls close are, one for one, those that their works describe
+abbrev pub FramesHold : Type 0
+FramesHold =
+    (kind : Kind) (pid : ℕ) (calls : List Call) → pidAllowed pid ≡ true → Each OfTypes calls
+    → framesOf (started kind pid) calls ≡ map (frameOf kind pid) (headedBy kind pid calls)
+
+-- each closed frame's header is one that the reader accepts, and says what its work describes
+abbrev pub HeadersRead : Type 0
+HeadersRead =
+    (kind : Kind) (pid : ℕ) (calls : List Call) → pidAllowed pid ≡ true → Each OfTypes calls
+    → map (λ f. readOf kind pid (slot 0 f)) (framesOf (started kind pid) calls)
+    ≡ map (λ h. record { refusal = 0; setting = h .0 }) (headedBy kind pid calls)
+
+-- the packets with number r, in slot order
+unfoldable pub numbered : ℕ → List ℕ → List ℕ → List ℕ
+numbered r [] bytes = []
+numbered r (n ∷ ns) bytes =
+    cond (eqb n r) (take packetLength bytes ++ numbered r ns (drop packetLength bytes)) (numbered r ns (drop packetLength bytes))
+
+-- how many slots are planned for r
+unfoldable pub slotsFor : ℕ → List ℕ → ℕ
+slotsFor r [] = 0
+slotsFor r (n ∷ ns) = cond (eqb n r) 1 0 + slotsFor r ns
+
+-- 'the placed packets of each stream, in order, are the front of what was lent for it': as many as it has slots, or all
+abbrev pub FrontsPlaced : Type 0
+FrontsPlaced =
+    (kind : Kind) (pid : ℕ) (calls : List Call) → pidAllowed pid ≡ true → Each OfTypes calls
+    → Each
+    (λ h. (r : ℕ) → firstStream ≤ r
+    → numbered r (h .0 .«relative_ts_number») (slotsFilled (h .1 .setting .«relative_ts_number») (h .1 .lent))
+    ≡ take (packetLength * slotsFor r (h .1 .setting .«relative_ts_number»)) (h .1 .lent r))
+    (headedBy kind pid calls)
+
+-- a closed frame is 53 packets, and none but the first lacks 0x47 or bears the header PID
+abbrev pub PacketsFit : Type 0
+PacketsFit =
+    (kind : Kind) (pid : ℕ) (calls : List Call) → pidAllowed pid ≡ true → Each OfTypes calls
+    → Each
+    (λ f. (length f ≡ frameLength) × ((i : ℕ) → firstSlot ≤ i → i ≤ lastSlot → unfit pid (slot i f) ≡ false))
+    (framesOf (started kind pid) calls)
