@@ -1,6 +1,7 @@
-pub mod Filled
-pub mod Passed
 pub mod Carried
-pub mod Said
-pub mod Held
 pub mod Composed
+mod Filled
+mod Held
+mod Passed
+mod Said
+mod Walk
