@@ -1,3 +1,4 @@
-pub mod Refusals
 pub mod Differ
+pub mod Refusals
 pub mod Rest
+mod Walk
