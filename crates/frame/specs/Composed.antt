@@ -11,6 +11,7 @@ use Rattle.setting.specs.Counters.{firstStream, firstSlot, lastSlot}
 use Rattle.setting.specs.Rules.{pidAllowed}
 use Rattle.header.specs.Header.{readOf}
 use Rattle.frame.specs.Packets.{packetLength, frameLength, slot, unfit}
+use Rattle.frame.specs.Slots.{numbered, slotsFor}
 use Rattle.frame.specs.Runs.{Call, Each, OfTypes, started, framesOf}
 use Rattle.frame.specs.Work.{Work, noWork, worksOf, slotsFilled, headed, frameOf}
 
@@ -30,17 +31,6 @@ HeadersRead =
     (kind : Kind) (pid : ℕ) (calls : List Call) → pidAllowed pid ≡ true → Each OfTypes calls
     → map (λ f. readOf kind pid (slot 0 f)) (framesOf (started kind pid) calls)
     ≡ map (λ h. record { refusal = 0; setting = h .0 }) (headedBy kind pid calls)
-
--- the packets with number r, in slot order
-unfoldable pub numbered : ℕ → List ℕ → List ℕ → List ℕ
-numbered r [] bytes = []
-numbered r (n ∷ ns) bytes =
-    cond (eqb n r) (take packetLength bytes ++ numbered r ns (drop packetLength bytes)) (numbered r ns (drop packetLength bytes))
-
--- how many slots are planned for r
-unfoldable pub slotsFor : ℕ → List ℕ → ℕ
-slotsFor r [] = 0
-slotsFor r (n ∷ ns) = cond (eqb n r) 1 0 + slotsFor r ns
 
 -- 'the placed packets of each stream, in order, are the front of what was lent for it': as many as it has slots, or all
 abbrev pub FrontsPlaced : Type 0

@@ -1,7 +1,5 @@
--- Frames: what composing one answers and leaves, and what a run of them holds.
+-- Frames: what composing and receiving one answers and leaves.
 pub mod Packets
 pub mod Slots
 pub mod Composing
-pub mod Runs
-pub mod Work
-pub mod Composed
+pub mod Receiving

@@ -14,6 +14,10 @@ packetLength = 188
 abbrev pub frameLength : ℕ
 frameLength = 9964
 
+-- the receiver's store: the packets of slots 1 to 52
+abbrev pub storeLength : ℕ
+storeLength = 9776
+
 -- slot i: the 188 bytes that start at 188 × i. Slot 0 is the header
 unfoldable pub slot : ℕ → List ℕ → List ℕ
 slot i frame = take packetLength (drop (packetLength * i) frame)
