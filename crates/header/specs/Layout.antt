@@ -17,7 +17,7 @@ tsmfSync = 0x1A86
 abbrev pub reservedByte : ℕ
 reservedByte = 0xFF
 
--- how many of an extended header's bytes of private data are reserved: the last
+-- how many bytes of an extended header's private data are reserved, which are its last
 abbrev pub reservedBytes : ℕ
 reservedBytes = 53
 
