@@ -23,16 +23,17 @@ use Rattle.header.specs.Demands.{MeetsRules}
 use Rattle.header.proofs.RoundTrip.{written-and-read-back}
 use Rattle.header.proofs.Calls.{made}
 use Rattle.header.proofs.Whole.{length-header}
 use Rattle.frame.specs.declared.composer.Announced.{Announced}
 use Rattle.frame.specs.Packets.{packetLength, frameLength, nullPacket, slot, unfit}
+use Rattle.frame.specs.Slots.{numbered, slotsFor}
 use Rattle.frame.specs.Composing.{announced, differ, saying, fresh, answer, startOf}
-use Rattle.frame.specs.Runs.{Call, Each, none, more, OfTypes, Run, started, framesOf}
-use Rattle.frame.specs.Work.{Work, noWork, worksOf, slotsFilled, numbersFilled, said, versionBehind, headedBehind, headed, frameOf}
-use Rattle.frame.specs.Composed.{headedBy, FramesHold, HeadersRead, numbered, slotsFor, FrontsPlaced, PacketsFit}
-use Rattle.frame.proofs.Filled.{marksFilled, length-null}
-use Rattle.frame.proofs.Carried.{numbers-filled, length-slots, length-marks, front-lent, slot-first, slot-next, each-fit}
+use Rattle.runs.specs.Runs.{Call, Each, none, more, OfTypes, Run, started, framesOf}
+use Rattle.runs.specs.Work.{Work, noWork, worksOf, slotsFilled, numbersFilled, said, versionBehind, headedBehind, headed, frameOf}
+use Rattle.runs.specs.Composed.{headedBy, FramesHold, HeadersRead, FrontsPlaced, PacketsFit}
+use Rattle.runs.proofs.Filled.{marksFilled, length-null}
+use Rattle.runs.proofs.Carried.{numbers-filled, length-slots, length-marks, front-lent, slot-first, slot-next, each-fit}
 use Rattle.frame.proofs.Said.{said-meets, said-types}
-use Rattle.frame.proofs.Held.{Sound, Done, holds, all-done}
+use Rattle.runs.proofs.Held.{Sound, Done, holds, all-done}
 
 -- ---- the start
 

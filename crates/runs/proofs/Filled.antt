@@ -9,9 +9,9 @@ use borrow.Author.Tests.{eq-eqb, ne-eqb, le-leb, lt-leb}
 use lib.Dec.{leb, eqb}
 use lib.ListN.{length, take, drop, replicate, length-append, length-drop}
 use lib.Seq.{take-at, drop-at, take-append-le, drop-append-le, length-take-le}
 use Rattle.frame.specs.Packets.{packetLength, nullPacket, unfit}
 use Rattle.frame.specs.Slots.{takes, slotsAfter, marksAfter, someUnfit, numbersOf}
-use Rattle.frame.specs.Work.{added, carries, taken, slotsFilled, numbersFilled}
+use Rattle.runs.specs.Work.{added, carries, taken, slotsFilled, numbersFilled}
 
 -- which slots carry a packet, and whether one of those packets is unfit
 unfoldable pub marksFilled : List ℕ → (ℕ → List ℕ) → List Bool

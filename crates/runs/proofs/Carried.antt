@@ -12,11 +12,10 @@ use lib.Seq.{take-at, drop-at, drop-drop, take-add, take-nil}
 use Rattle.bits.specs.Fields.{bitsOf, number, run, cut}
 use Rattle.header.specs.Rows.{place, rowAt}
 use Rattle.header.specs.Layout.{startRows}
 use Rattle.frame.specs.Packets.{packetLength, nullPacket, slot, unfit}
-use Rattle.frame.specs.Slots.{nulls, numbersOf}
-use Rattle.frame.specs.Work.{carries, taken, slotsFilled, numbersFilled}
-use Rattle.frame.specs.Composed.{numbered, slotsFor}
-use Rattle.frame.proofs.Filled.{marksFilled, unfitFilled, Whole, EachWhole, whole-none, whole-taken, Slot, carried, idle, neither}
+use Rattle.frame.specs.Slots.{nulls, numbersOf, numbered, slotsFor}
+use Rattle.runs.specs.Work.{carries, taken, slotsFilled, numbersFilled}
+use Rattle.runs.proofs.Filled.{marksFilled, unfitFilled, Whole, EachWhole, whole-none, whole-taken, Slot, carried, idle, neither}
 
 -- ---- by whether the first slot carries a packet
 

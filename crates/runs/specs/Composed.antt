@@ -10,10 +10,10 @@ use Rattle.setting.specs.declared.Setting.{Setting}
 use Rattle.setting.specs.Counters.{firstStream, firstSlot, lastSlot}
 use Rattle.setting.specs.Rules.{pidAllowed}
 use Rattle.header.specs.Header.{readOf}
 use Rattle.frame.specs.Packets.{packetLength, frameLength, slot, unfit}
 use Rattle.frame.specs.Slots.{numbered, slotsFor}
-use Rattle.frame.specs.Runs.{Call, Each, OfTypes, started, framesOf}
-use Rattle.frame.specs.Work.{Work, noWork, worksOf, slotsFilled, headed, frameOf}
+use Rattle.runs.specs.Runs.{Call, Each, OfTypes, started, framesOf}
+use Rattle.runs.specs.Work.{Work, noWork, worksOf, slotsFilled, headed, frameOf}
 
 -- the works of a run's closed frames, each with what its header says: the first has counter 0 and version 0
 abbrev pub headedBy : Kind → ℕ → List Call → List (Setting × Work)

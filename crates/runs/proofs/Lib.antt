@@ -1,0 +1,5 @@
+mod Carried
+pub mod Composed
+mod Filled
+mod Held
+mod Passed

@@ -1,0 +1,4 @@
+-- Runs of frames: what the frames hold that any calls close, and what comes out of a receiver.
+pub mod Runs
+pub mod Work
+pub mod Composed

@@ -1,0 +1,1 @@
+// What is promised of runs of calls: statements in specs/, their proofs in proofs/. No code of its own.
