@@ -1,1 +1,2 @@
+mod Placing
 mod Walk
