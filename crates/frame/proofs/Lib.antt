@@ -1,4 +1,5 @@
 mod Differ
+mod Placing
 mod Refusals
 mod Rest
 pub mod Said
