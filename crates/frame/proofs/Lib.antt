@@ -1,4 +1,5 @@
-pub mod Differ
+mod Differ
+mod Placing
 pub mod Refusals
-pub mod Rest
+mod Rest
 mod Walk

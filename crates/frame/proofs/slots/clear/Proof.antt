@@ -5,7 +5,7 @@ use mathlib.Core.List.{List, _++_}
 use native.Mathlib.Omega.{arith}
 use borrow.Author.Needs.{needs}
 use borrow.Rule.Slice.PartMut.{mid-len}
-use lib.ListN.{length, drop}
+use lib.ListN.{length}
 use Rattle.slices.proofs.Toward.{Toward, toward-none, toward-kept, toward-part, toward-length, toward-all}
 use Rattle.setting.specs.Counters.{lastSlot}
 use Rattle.frame.specs.Packets.{packetLength, frameLength}

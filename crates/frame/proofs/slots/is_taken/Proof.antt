@@ -1,5 +1,5 @@
 -- `is_taken` meets its contract, test by test. Assumes nothing.
-use mathlib.Core.Path.{_≡_, sym}
+use mathlib.Core.Path.{sym}
 use borrow.Author.Tests.{eq-eqb, ne-eqb}
 use Rattle.frame.proofs.slots.is_taken.Statement.{statement}
 use Rattle.frame.proofs.slots.is_taken.Tie as tie
