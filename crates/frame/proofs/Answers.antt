@@ -4,11 +4,10 @@ use mathlib.Core.Path.{_≡_, refl, sym, _∙_}
 use mathlib.Core.Bool.{Bool, true, false, cond, not}
 use mathlib.Core.List.{List, _∷_}
 use native.Mathlib.Omega.{arith}
-use borrow.Author.Tests.{eq-eqb, ne-eqb, eqb-true}
+use borrow.Author.Tests.{ne-eqb, eqb-true}
 use lib.Dec.{eqb}
 use Rattle.setting.specs.Refusal.{Check, firstOf}
 use Rattle.frame.specs.declared.composer.Composer.{Composer}
-use Rattle.frame.specs.declared.composer.Answer.{Answer}
 use Rattle.frame.specs.Packets.{frameLength}
 use Rattle.frame.specs.Composing.{lengthCheck, answer, leaves}
 

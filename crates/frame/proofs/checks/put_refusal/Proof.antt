@@ -4,7 +4,6 @@ use mathlib.Core.Bool.{not}
 use mathlib.Core.List.{List, _∷_, _++_}
 use borrow.Author.Needs.{needs}
 use borrow.Author.Tests.{eq-eqb, ne-eqb}
-use lib.ListN.{length}
 use Rattle.setting.specs.Counters.{firstStream, lastStream, within}
 use Rattle.setting.specs.Refusal.{Check, firstOf}
 use Rattle.setting.proofs.Refusals.{answers, passed, onward, at-once}

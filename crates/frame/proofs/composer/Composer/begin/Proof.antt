@@ -1,11 +1,7 @@
-use Prim.Native.Nat.{ℕ}
-use mathlib.Core.Path.{_≡_, sym, ap, _∙_}
+use mathlib.Core.Path.{sym, ap, _∙_}
 use borrow.Author.Needs.{needs}
-use lib.ListN.{length}
 use Rattle.frame.specs.declared.composer.Composer.{Composer}
-use Rattle.frame.specs.declared.composer.Answer.{Answer}
-use Rattle.frame.specs.Slots.{cleared}
-use Rattle.frame.specs.Composing.{opened, beginRefusal, beginOf, begunFrame}
+use Rattle.frame.specs.Composing.{beginRefusal, beginOf, begunFrame}
 use Rattle.frame.proofs.Answers.{refused, kept, granted, written, frame-lent}
 use Rattle.frame.proofs.composer.Composer.begin.Statement.{statement}
 use Rattle.frame.proofs.composer.Composer.begin.Tie as tie
