@@ -1,3 +1,4 @@
+mod Answers
 mod Differ
 mod Placing
 mod Refusals
