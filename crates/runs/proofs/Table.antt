@@ -27,11 +27,11 @@ use Rattle.frame.specs.declared.receiver.Receiver.{Receiver}
 use Rattle.frame.specs.Packets.{packetLength, storeLength, unfit}
 use Rattle.frame.specs.Slots.{numbered, slotsFor, over}
 use Rattle.frame.specs.Composing.{leaves}
-use Rattle.frame.specs.Receiving.{Sort, good, broken, other, sortOf, counterStep, row, openRow, rowOf, storedOf, storeAfter, moved, renumbered, receiverAfter, stageChecks, receiverChecks, receiveRefusal, rowFor, receiveOf, receiveStore, isReady, handOutRefusal, handOutOf, handOutBuffer}
+use Rattle.frame.specs.Receiving.{makesReady, Sort, good, broken, other, sortOf, counterStep, row, openRow, rowOf, storedOf, storeAfter, moved, renumbered, receiverAfter, stageChecks, receiverChecks, receiveRefusal, rowFor, receiveOf, receiveStore, isReady, handOutRefusal, handOutOf, handOutBuffer}
 use Rattle.runs.proofs.Filled.{neither}
 use Rattle.runs.proofs.Passed.{numbered-rules}
 use Rattle.runs.specs.Runs.{Each, none, more}
-use Rattle.runs.specs.Losses.{Reception, afterPacket, isReadyEvent, handed, handedOut}
+use Rattle.runs.specs.Losses.{Reception, afterPacket, handed, handedOut}
 
 -- ---- a state that is in range
 
@@ -108,7 +108,7 @@ pub data Follows (stage : Stage) : Stage → Type 0 where
 
 -- such a packet makes no frame ready, and leaves the receiver in range
 record Calm (stage : Stage) (r : Row) : Type 0 where
-  not-ready : isReadyEvent (r .event) ≡ false
+  not-ready : makesReady (r .event) ≡ false
   in-range : InRange (r .stage)
   follows : Follows stage (r .stage)
 
@@ -189,7 +189,7 @@ module _ (kind : Kind) (pid : ℕ) (w : Reception) (s : Set kind pid w) (p : Lis
   unfolding handedOut
   bad-quiet r out ps =
       ap (λ (b : Bool). cond b (handed r out (afterPacket w p)) [] ++ handedOut r out (afterPacket w p) ps)
-      (ap isReadyEvent (event-is kind pid w s p l ∙ ap (λ (r : Row). r .event) bad-row) ∙ is-calm .not-ready)
+      (ap makesReady (event-is kind pid w s p l ∙ ap (λ (r : Row). r .event) bad-row) ∙ is-calm .not-ready)
 
   pub bad-set : Set kind pid (afterPacket w p)
   unfolding moved

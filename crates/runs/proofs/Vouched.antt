@@ -24,8 +24,8 @@ use Rattle.frame.specs.declared.receiver.Receiver.{Receiver}
 use Rattle.frame.specs.Packets.{packetLength, frameLength, storeLength, slot, unfit}
 use Rattle.frame.specs.Slots.{numbered, slotsFor, over}
 use Rattle.frame.specs.Composing.{leaves}
-use Rattle.frame.specs.Receiving.{Sort, good, broken, other, sortOf, counterStep, row, openRow, rowOf, storeAfter, renumbered, receiverAfter, rowFor, receiveOf, isReady, receiverChecks, handOutRefusal, handOutOf, handOutBuffer}
-use Rattle.runs.specs.Losses.{Reception, afterPacket, isReadyEvent, handed, handedOut}
+use Rattle.frame.specs.Receiving.{makesReady, Sort, good, broken, other, sortOf, counterStep, row, openRow, rowOf, storeAfter, renumbered, receiverAfter, rowFor, receiveOf, isReady, receiverChecks, handOutRefusal, handOutOf, handOutBuffer}
+use Rattle.runs.specs.Losses.{Reception, afterPacket, handed, handedOut}
 use Rattle.runs.specs.Demands.{Asked}
 use Rattle.runs.proofs.Table.{Opens, open-at, ready-at, InRange, waits, opens, Set, state-none, event-is, after-is, row-opens}
 
@@ -207,15 +207,15 @@ vouched-row : (from k n : ℕ) → eqb k lastSlot && eqb (counterStep from n) 1 
 unfolding openRow
 vouched-row from k n e = rw e
 
-unvouched-event : (from k n : ℕ) → eqb k lastSlot && eqb (counterStep from n) 1 ≡ false → isReadyEvent (openRow from k good n .event) ≡ false
+unvouched-event : (from k n : ℕ) → eqb k lastSlot && eqb (counterStep from n) 1 ≡ false → makesReady (openRow from k good n .event) ≡ false
 unfolding openRow
 unvouched-event from k n e = rw e (by-room (ltb k lastSlot))
   where
-    by-room : (b : Bool) → isReadyEvent (cond b Event.Short Event.Jump) ≡ false
+    by-room : (b : Bool) → makesReady (cond b Event.Short Event.Jump) ≡ false
     by-room true = refl
     by-room false = refl
 
-waiting-event : (n : ℕ) → isReadyEvent (rowOf Stage.Waiting good n .event) ≡ false
+waiting-event : (n : ℕ) → makesReady (rowOf Stage.Waiting good n .event) ≡ false
 unfolding rowOf
 waiting-event n = refl
 
@@ -225,8 +225,8 @@ module _ (kind : Kind) (pid r n m : ℕ) (x store out f : List ℕ) (w : Recepti
   next = afterPacket w (slot 0 f)
 
   -- what comes out is what was owed
-  given : Owes r n m x w → cond (isReadyEvent (rowOf (w .state .stage) good n .event)) (handed r out next) [] ≡ x
-  given (nothing e z) = ap (λ (y : Stage). cond (isReadyEvent (rowOf y good n .event)) (handed r out next) []) e ∙ ap (λ (b : Bool). cond b (handed r out next) []) (waiting-event n) ∙ sym z
+  given : Owes r n m x w → cond (makesReady (rowOf (w .state .stage) good n .event)) (handed r out next) [] ≡ x
+  given (nothing e z) = ap (λ (y : Stage). cond (makesReady (rowOf y good n .event)) (handed r out next) []) e ∙ ap (λ (b : Bool). cond b (handed r out next) []) (waiting-event n) ∙ sym z
   given (something from k o h q e z) = by-test (eqb k lastSlot && eqb m 0) refl
     where
       same : eqb k lastSlot && eqb (counterStep from n) 1 ≡ eqb k lastSlot && eqb m 0
@@ -235,20 +235,20 @@ module _ (kind : Kind) (pid r n m : ℕ) (x store out f : List ℕ) (w : Recepti
       the-row : rowOf (w .state .stage) good n ≡ openRow from k good n
       the-row = row-opens good n o
 
-      by-test : (b : Bool) → eqb k lastSlot && eqb m 0 ≡ b → cond (isReadyEvent (rowOf (w .state .stage) good n .event)) (handed r out next) [] ≡ x
+      by-test : (b : Bool) → eqb k lastSlot && eqb m 0 ≡ b → cond (makesReady (rowOf (w .state .stage) good n .event)) (handed r out next) [] ≡ x
       by-test true t =
           let v : rowOf (w .state .stage) good n ≡ row Event.Ready (Stage.Ready n) = the-row ∙ vouched-row from k n (same ∙ t) in
-          ap (λ (y : Row). cond (isReadyEvent (y .event)) (handed r out next) []) v
+          ap (λ (y : Row). cond (makesReady (y .event)) (handed r out next) []) v
           ∙ handed-is kind pid r n store out next (good-set kind pid n f w s g) a (good-stage kind pid n f w s g ∙ ap (λ (y : Row). y .stage) v)
           ∙ ap₂ (numbered r) (good-before kind pid n f w s g) (good-store kind pid n f w s g)
           ∙ sym (z ∙ ap (λ (b : Bool). cond b (numbered r (w .state .numbers) (w .store)) []) t)
       by-test false t =
-          ap (λ (y : Row). cond (isReadyEvent (y .event)) (handed r out next) []) the-row
+          ap (λ (y : Row). cond (makesReady (y .event)) (handed r out next) []) the-row
           ∙ ap (λ (b : Bool). cond b (handed r out next) []) (unvouched-event from k n (same ∙ t))
           ∙ sym (z ∙ ap (λ (b : Bool). cond b (numbered r (w .state .numbers) (w .store)) []) t)
 
   pub vouches : Owes r n m x w → (ps : List (List ℕ)) → handedOut r out w (slot 0 f ∷ ps) ≡ x ++ handedOut r out next ps
   unfolding handedOut
   vouches o ps =
-      ap (λ (y : Event). cond (isReadyEvent y) (handed r out next) [] ++ handedOut r out next ps) (good-event kind pid n f w s g)
+      ap (λ (y : Event). cond (makesReady y) (handed r out next) [] ++ handedOut r out next ps) (good-event kind pid n f w s g)
       ∙ ap (λ (y : List ℕ). y ++ handedOut r out next ps) (given o)

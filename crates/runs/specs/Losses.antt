@@ -7,11 +7,10 @@ use lib.ListN.{length, take, drop}
 use Rattle.setting.specs.declared.Kind.{Kind}
 use Rattle.setting.specs.Counters.{lastSlot}
 use Rattle.header.specs.Header.{readRefusal, readOf}
-use Rattle.frame.specs.declared.receiver.Event.{Event}
 use Rattle.frame.specs.declared.receiver.Receiver.{Receiver}
 use Rattle.frame.specs.Packets.{packetLength, slot}
 use Rattle.frame.specs.Slots.{numbered}
-use Rattle.frame.specs.Receiving.{startReceiverOf, receiveOf, receiveStore, handOutOf, handOutBuffer}
+use Rattle.frame.specs.Receiving.{makesReady, startReceiverOf, receiveOf, receiveStore, handOutOf, handOutBuffer}
 use Rattle.runs.specs.Runs.{Each}
 
 -- ---- on the way
@@ -78,16 +77,6 @@ unfoldable pub afterPacket : Reception → List ℕ → Reception
 afterPacket w p =
     record { state = receiveOf (w .state) p (length (w .store)) .state; store = receiveStore (w .state) p (w .store) }
 
-abbrev pub isReadyEvent : Event → Bool
-isReadyEvent Event.Ready = true
-isReadyEvent Event.Nothing = false
-isReadyEvent Event.Opened = false
-isReadyEvent Event.Stored = false
-isReadyEvent Event.Short = false
-isReadyEvent Event.Jump = false
-isReadyEvent Event.Long = false
-isReadyEvent Event.Broken = false
-
 -- the bytes that hand out gives for number r, with this buffer
 unfoldable pub handed : ℕ → List ℕ → Reception → List ℕ
 handed r out w =
@@ -97,7 +86,7 @@ handed r out w =
 unfoldable pub handedOut : ℕ → List ℕ → Reception → List (List ℕ) → List ℕ
 handedOut r out w [] = []
 handedOut r out w (p ∷ ps) =
-    cond (isReadyEvent (receiveOf (w .state) p (length (w .store)) .event)) (handed r out (afterPacket w p)) []
+    cond (makesReady (receiveOf (w .state) p (length (w .store)) .event)) (handed r out (afterPacket w p)) []
     ++ handedOut r out (afterPacket w p) ps
 
 -- ---- what is wanted
