@@ -57,15 +57,16 @@ fn headers_that_do_not_arrive() {
     assert_eq!(headers_arriving(42), 2);
 }
 
+/// Fifty-one packets of frame 17 and one of frame 25 fill its 52 slots, and
+/// the counter has stepped by sixteen.
 #[test]
 fn frames_come_ready_behind_the_fifteen() {
     let text = expected();
     assert_eq!(words(&text, 17), ["ready"]);
-    assert_eq!(words(&text, 18), ["long"]);
-    for number in 19..=32 {
+    for number in 18..=32 {
         assert!(words(&text, number).is_empty());
     }
-    assert_eq!(words(&text, 33), ["opened"]);
+    assert_eq!(words(&text, 33), ["jump"]);
     assert_eq!(words(&text, 34), ["ready"]);
     let later = (34..FRAMES).filter(|&number| words(&text, number).contains(&"ready"));
     assert!(later.count() >= 10);
@@ -98,7 +99,7 @@ fn as_many_come_out_as_were_placed() {
 /// 56 frames of 53 packets, but for those lost and with two that come twice.
 #[test]
 fn packets_are_counted() {
-    let lost = 1 + 1 + 53 + 15 * 33 + 1 + 1 + 26 + 27;
+    let lost = 1 + 1 + 53 + 1 + (15 * 53 - 1) + 1 + 1 + 26 + 27;
     let received = FRAMES * 53 - lost + 2;
     assert!(expected().ends_with(&format!("\nend {received}\n")));
 }
