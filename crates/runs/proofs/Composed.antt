@@ -37,7 +37,7 @@ use Rattle.runs.proofs.Held.{Sound, Done, holds, all-done}
 
 -- ---- the start
 
-fresh-run : (kind : Kind) (pid : ℕ) → pidAllowed pid ≡ true → started kind pid ≡ record { state = fresh kind pid; frame = [] }
+pub fresh-run : (kind : Kind) (pid : ℕ) → pidAllowed pid ≡ true → started kind pid ≡ record { state = fresh kind pid; frame = [] }
 unfolding started startOf answer firstOf
 fresh-run kind pid e = rw e
 
@@ -45,7 +45,7 @@ fresh-sound : (kind : Kind) (pid : ℕ) → Sound kind pid (record { state = fre
 unfolding fresh noWork
 fresh-sound kind pid = record { kind-is = refl; pid-is = refl; whole = λ n. refl; opened-as = λ e. absurd (false≢true e) }
 
-sound-start : (kind : Kind) (pid : ℕ) → pidAllowed pid ≡ true → Sound kind pid (started kind pid) noWork
+pub sound-start : (kind : Kind) (pid : ℕ) → pidAllowed pid ≡ true → Sound kind pid (started kind pid) noWork
 sound-start kind pid e = rw (fresh-run kind pid e) (fresh-sound kind pid)
 
 -- ---- the first header

@@ -7,3 +7,5 @@ mod Table
 mod Vouched
 mod Lost
 pub mod Demands
+mod Accepts
+pub mod Sixteen

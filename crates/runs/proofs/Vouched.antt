@@ -40,7 +40,7 @@ for-at-most r (n ∷ ns) = by-test (eqb n r) (for-at-most r ns)
     by-test true h = omega arith
     by-test false h = omega arith
 
-length-numbered : (r : ℕ) (ns bytes : List ℕ) → length bytes ≡ packetLength * length ns → length (numbered r ns bytes) ≡ packetLength * slotsFor r ns
+pub length-numbered : (r : ℕ) (ns bytes : List ℕ) → length bytes ≡ packetLength * length ns → length (numbered r ns bytes) ≡ packetLength * slotsFor r ns
 unfolding numbered slotsFor
 length-numbered r [] bytes e = refl
 length-numbered r (n ∷ ns) bytes e =
