@@ -1,6 +1,10 @@
 mod Differ
+mod Numbered
 mod Placing
+mod ReceiverChecks
 mod Refusals
 mod Rest
 pub mod Said
+mod Sorts
+mod Table
 mod Walk
