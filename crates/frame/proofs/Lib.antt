@@ -1,6 +1,7 @@
 mod Differ
 mod Numbered
 mod Placing
+mod Receipts
 mod ReceiverChecks
 mod Refusals
 mod Rest

@@ -63,6 +63,12 @@ over-front p bytes n e =
     let whole : 0 + length p ≡ n = omega arith in
     ap (λ (k : ℕ). p ++ drop k bytes) whole
 
+-- k bytes were lent and came back as p
+pub put-over : (at k : ℕ) (bytes : List ℕ) {ys p : List ℕ} → ys ≡ p → length p ≡ k → put at k bytes ys ≡ over at p bytes
+unfolding over
+put-over at k bytes {ys} {p} y l =
+    ap₂ (λ (m q : List ℕ). take at bytes ++ (m ++ q)) y (drop-drop k at bytes ∙ ap (λ (n : ℕ). drop (at + n) bytes) (sym l))
+
 -- i slots were gone through, and `at` bytes stand over the front of the buffer
 module _ (r : ℕ) (ns store out₀ : List ℕ) where
   pub record HandingOut (out : List ℕ) (i at : ℕ) : Type 0 where
@@ -91,8 +97,8 @@ module _ (r : ℕ) (ns store out₀ : List ℕ) where
 
       -- a slot with the number, whose packet is copied to k lent bytes
       pub handing-one : eqb (getD ns i 0) r ≡ true → (k : ℕ) → k ≡ packetLength → (ys : List ℕ)
-          → ys ≡ take packetLength (drop (packetLength * i) store) → length ys ≡ packetLength → HandingOut (put at k out ys) (i + 1) (at + packetLength)
-      handing-one e k l ys y m =
+          → ys ≡ take packetLength (drop (packetLength * i) store) → packetLength * (i + 1) ≤ length store → HandingOut (put at k out ys) (i + 1) (at + packetLength)
+      handing-one e k l ys y g =
           let more = count-from r ns i h e in
           let before = w .left in
           record {
@@ -101,7 +107,7 @@ module _ (r : ℕ) (ns store out₀ : List ℕ) where
                 (ap (λ (p : List ℕ). p ++ drop (packetLength * slotsFor r ns) out₀) (numbered-from r ns i h e store)
                 ∙ append-assoc (take packetLength (drop (packetLength * i) store)) rest (drop (packetLength * slotsFor r ns) out₀)
                 ∙ ap (λ (p : List ℕ). p ++ (rest ++ drop (packetLength * slotsFor r ns) out₀)) (sym y))
-                (m ∙ sym l)
+                (ap length y ∙ length-take-le packetLength (drop (packetLength * i) store) (rw length-drop (omega arith)) ∙ sym l)
                 (omega arith);
             left = omega arith;
           }
@@ -120,8 +126,8 @@ module _ (r : ℕ) (ns store out₀ : List ℕ) where
           }
 
       -- there is room for one more
-      pub room : eqb (getD ns i 0) r ≡ true → packetLength * slotsFor r ns ≤ length out₀ → at + packetLength ≤ length out₀
-      room e g =
+      pub room-for : eqb (getD ns i 0) r ≡ true → packetLength * slotsFor r ns ≤ length out₀ → at + packetLength ≤ length out₀
+      room-for e g =
           let more = count-from r ns i h e in
           let before = w .left in
           omega arith

@@ -1,6 +1,6 @@
 -- What sort of packet comes, by whether it is unfit and what the reader says of it. Assumes nothing.
 use Prim.Native.Nat.{ℕ}
-use mathlib.Core.Path.{_≡_, sym, _∙_}
+use mathlib.Core.Path.{_≡_, refl, sym, _∙_}
 use mathlib.Core.Bool.{Bool, true, false, not, _||_, true≢false}
 use mathlib.Core.List.{List}
 use borrow.Author.Tests.{eq-eqb, ne-eqb}
@@ -8,7 +8,7 @@ use lib.Dec.{eqb}
 use Rattle.setting.specs.declared.Kind.{Kind}
 use Rattle.header.specs.Rows.{place, rowAt}
 use Rattle.header.specs.Layout.{syncByte, startRows, identifierRows, controlRows, numberRows, privateRows, layout}
-use Rattle.header.specs.Header.{startValue, readRefusal}
+use Rattle.header.specs.Header.{startValue, reading, readRefusal, readOf}
 use Rattle.header.proofs.Accepted.{shown}
 use Rattle.frame.specs.Packets.{unfit}
 use Rattle.frame.specs.Receiving.{good, broken, other, sortOf}
@@ -41,3 +41,12 @@ module _ (kind : Kind) (pid : ℕ) (p : List ℕ) where
   pub good-sort : readRefusal kind pid p ≡ 0 → sortOf kind pid p ≡ good
   unfolding sortOf
   good-sort r = rw (eq-eqb (readRefusal kind pid p) 0 r)
+
+  -- what the reader says
+  pub read-refusal : readOf kind pid p .refusal ≡ readRefusal kind pid p
+  unfolding readOf
+  read-refusal = refl
+
+  pub read-setting : readRefusal kind pid p ≡ 0 → readOf kind pid p .setting ≡ reading kind p
+  unfolding readOf
+  read-setting r = rw (eq-eqb (readRefusal kind pid p) 0 r)

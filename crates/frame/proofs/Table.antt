@@ -1,14 +1,17 @@
--- Rows of the receiver's table. Assumes nothing.
-use Prim.Native.Nat.{ℕ, _+_, _%_, _^_, _≤_, _<_}
-use mathlib.Core.Path.{_≡_, refl, _∙_}
-use mathlib.Core.Bool.{true, _&&_}
+-- Rows of the receiver's table, and what they leave in the store. Assumes nothing.
+use Prim.Native.Nat.{ℕ, _+_, _*_, _%_, _^_, _≤_, _<_}
+use mathlib.Core.Path.{_≡_, refl, sym, _∙_}
+use mathlib.Core.Bool.{_&&_}
+use mathlib.Core.List.{List}
 use native.Mathlib.Omega.{arith}
 use borrow.Author.Tests.{eq-eqb, ne-eqb, lt-ltb, le-ltb}
 use lib.Dec.{eqb}
 use Rattle.setting.specs.Counters.{lastSlot}
 use Rattle.frame.specs.declared.receiver.Stage.{Stage}
 use Rattle.frame.specs.declared.receiver.Event.{Event}
-use Rattle.frame.specs.Receiving.{good, broken, other, counterStep, row, openRow, rowOf}
+use Rattle.frame.specs.Packets.{packetLength}
+use Rattle.frame.specs.Slots.{over}
+use Rattle.frame.specs.Receiving.{good, broken, other, counterStep, row, openRow, rowOf, storedOf, storeAfter}
 
 -- the step, by a byte that wraps
 pub step-is : (from to d : ℕ) → from < 2 ^ 8 → d < 2 ^ 8 → (d + from) % 2 ^ 8 ≡ to → counterStep from to ≡ d % 2 ^ 4
@@ -56,3 +59,14 @@ unfolding rowOf openRow
 broken-counter Stage.Waiting to = refl
 broken-counter (Stage.Open from k) to = refl
 broken-counter (Stage.Ready from) to = refl
+
+-- ---- the store
+
+module _ (stage : Stage) (p store : List ℕ) {k : ℕ} (e : k ≡ storedOf stage) where
+  pub stored-behind : k < lastSlot → storeAfter stage other p store ≡ over (packetLength * k) p store
+  unfolding storeAfter
+  stored-behind h = rw (sym e, lt-ltb k lastSlot h) refl
+
+  pub no-room : lastSlot ≤ k → storeAfter stage other p store ≡ store
+  unfolding storeAfter
+  no-room h = rw (sym e, le-ltb k lastSlot h) refl
