@@ -8,6 +8,7 @@ trap 'rm -r "$made"' EXIT
 (cd compare && cargo build --release)
 compare/target/release/lister_cases "$made"
 compare/target/release/header_cases "$made"
+compare/target/release/frame_cases "$made"
 
 # The lister runs once: the example on its standard input, the other cases by name, and all outputs one behind another.
 lister=crates/lister
@@ -22,6 +23,8 @@ for case in $cases; do
     echo "$case" >> "$lister/args"
 done
 cp "$made/headers.out" crates/header_cases/stdout
+mkdir -p crates/frame_cases
+cp "$made/frames.out" crates/frame_cases/stdout
 
 # The sample that ships: a few packets of the many, one of each refusal among them, and a cut one.
 for k in 0 1 2 3 36 142 170 184 198 212 226 240; do

@@ -1,4 +1,4 @@
-//! The output folder, for both programs.
+//! The output folder, for the programs that write cases.
 
 use std::path::PathBuf;
 use std::{env, fs, io};

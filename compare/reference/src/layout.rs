@@ -13,6 +13,15 @@ pub const AUXILIARY_BYTES: usize = 28;
 /// What is left behind frame_position in an extended header.
 pub const RESERVED_BYTES: usize = 53;
 
+/// The header's slot and those behind it.
+pub const FRAME_BYTES: usize = (1 + SLOTS) * PACKET_BYTES;
+/// What a receiver keeps: the slots behind the header's.
+pub const STORE_BYTES: usize = SLOTS * PACKET_BYTES;
+
+/// The continuity counter and the version begin again at 0 behind these.
+pub const LAST_COUNTER: u8 = 15;
+pub const LAST_VERSION: u8 = 7;
+
 pub const SYNC_BYTE: u32 = 0x47;
 /// The fixed bits in front of the header PID.
 pub const BEFORE_PID: u32 = 0b000;

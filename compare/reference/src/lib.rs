@@ -1,18 +1,29 @@
-//! The TSMF header of ITU-T J.183, plain and extended, written from the
-//! documents alone, so that another implementation can be compared with it.
+//! TSMF header, composer and receiver of ITU-T J.183, plain and extended,
+//! written from the documents alone, so that another implementation can be
+//! compared with them.
 
+mod announced;
 mod bits;
+mod composer;
 mod crc;
 mod layout;
 mod list;
+mod packet;
 mod read;
+mod receiver;
 mod rules;
 mod setting;
 mod write;
 
+pub use announced::Announced;
+pub use composer::{Composer, OpenFrame, Put};
 pub use crc::crc32;
-pub use layout::{AUXILIARY_BYTES, LISTER_PID, PACKET_BYTES, PRIVATE_DATA_BYTES, SLOTS, STREAMS};
+pub use layout::{
+    AUXILIARY_BYTES, FRAME_BYTES, LISTER_PID, PACKET_BYTES, PRIVATE_DATA_BYTES, SLOTS, STORE_BYTES,
+    STREAMS,
+};
 pub use list::list;
 pub use read::read;
+pub use receiver::{Event, Receiver, Standing};
 pub use setting::{Kind, Setting};
 pub use write::write;

@@ -12,6 +12,9 @@ use Rattle.crc.specs.Crc.{registerFrom}
 use Rattle.header.specs.Rows.{pack}
 use Rattle.header.specs.Layout.{startRows, identifierRows, controlRows, numberRows, privateRows, layout}
 use Rattle.header.specs.Header.{paired, startContent, identifierContent, controlContent, numberContent, privateContent, content, body, header}
+use Rattle.setting.specs.Setting.{blank}
+use Rattle.frame.specs.Composing.{someDiffer, announced, differ, nextCounter, nextVersion}
+use Rattle.frame.specs.Receiving.{openRow, rowOf}
 use Rattle.examples.specs.Examples.{Example, beyond, examples, ExamplesHold}
 
 -- whether two lists of numbers are the same
@@ -41,7 +44,7 @@ each (x ∷ es) e zero = same-is (x .said) (x .written) (both (same (x .said) (x
 each (x ∷ es) e (suc k) = each es (both (same (x .said) (x .written)) (all-right es) e .1) k
 
 computed : all-right examples ≡ true
-unfolding all-right same examples header body content startContent identifierContent controlContent numberContent privateContent layout startRows identifierRows controlRows numberRows privateRows pack paired run bitsOf cut number registerFrom
+unfolding all-right same examples header body content startContent identifierContent controlContent numberContent privateContent layout startRows identifierRows controlRows numberRows privateRows pack paired run bitsOf cut number registerFrom blank someDiffer announced differ nextCounter nextVersion openRow rowOf
 computed = refl
 
 pub examples-hold : ExamplesHold

@@ -1,12 +1,19 @@
 -- The small examples of the scope document: one table, which one statement says to be right.
 use Prim.Native.Nat.{ℕ, _+_}
 use mathlib.Core.Path.{_≡_}
+use mathlib.Core.Bool.{false, true, cond}
 use mathlib.Core.List.{List, [], _∷_, _++_}
 use lib.ListN.{getD, take, drop, set, replicate}
 use Rattle.setting.specs.declared.Kind.{Kind}
 use Rattle.setting.specs.declared.Setting.{Setting}
 use Rattle.setting.specs.Counters.{lastSlot, lastStream}
+use Rattle.setting.specs.Setting.{blank}
 use Rattle.header.specs.Header.{header}
+use Rattle.frame.specs.declared.composer.Composer.{Composer}
+use Rattle.frame.specs.declared.receiver.Stage.{Stage}
+use Rattle.frame.specs.declared.receiver.Row.{Row}
+use Rattle.frame.specs.Composing.{announced, nextCounter, nextVersion}
+use Rattle.frame.specs.Receiving.{good, other, rowOf, makesReady, droppedBy}
 
 -- an example: its number in the document, what the definitions say, and what the document says
 pub record Example : Type 0 where
@@ -50,6 +57,26 @@ second emergency = settingWith 9 5 0 1 0x6001 (replicate lastStream 0) (replicat
 abbrev pub bytes : Setting → ℕ → ℕ → List ℕ
 bytes s at n = take n (drop at (header Kind.Plain 0x1FF0 s))
 
+-- the counter and the version of a run's next header, where the last one had these and announced something else
+abbrev pub nextAfter : ℕ → ℕ → List ℕ
+nextAfter counter version =
+    let c : Composer =
+    record {
+      pid = 0x1FF0;
+      kind = Kind.Plain;
+      counter = counter;
+      version = version;
+      last = announced blank;
+      «is_open» = true;
+      setting = first;
+      filled = replicate lastSlot false;
+    } in
+    nextCounter c ∷ nextVersion c ∷ []
+
+-- whether a packet makes an open frame ready, and why it drops it: 1 short, 2 long, 3 jump, 4 broken
+abbrev pub told : Row → List ℕ
+told r = cond (makesReady (r .event)) 1 0 ∷ droppedBy (r .event) ∷ []
+
 -- past the table's end
 abbrev pub beyond : Example
 beyond = record { number = 0; said = []; written = [] }
@@ -65,6 +92,13 @@ examples =
     ∷ record { number = 6; said = bytes first 69 1; written = 0x90 ∷ [] }
     ∷ record { number = 7; said = bytes (second 0) 72 1 ++ bytes (second 1) 72 1; written = 0x0D ∷ 0x0F ∷ [] }
     ∷ record { number = 8; said = bytes first 73 1 ++ bytes first 98 1; written = 0x3C ∷ 0x09 ∷ [] }
+    ∷ record { number = 9; said = nextAfter 15 7; written = 0 ∷ 0 ∷ [] }
+    ∷ record {
+      number = 11;
+      said = told (rowOf (Stage.Open 4 52) good 5) ++ (told (rowOf (Stage.Open 4 51) good 5) ++ told (rowOf (Stage.Open 4 52) other 0));
+      written = 1 ∷ 0 ∷ 0 ∷ 1 ∷ 0 ∷ 2 ∷ [];
+    }
+    ∷ record { number = 12; said = told (rowOf (Stage.Open 15 52) good 15); written = 0 ∷ 3 ∷ [] }
     ∷ []
 
 -- what the definitions say is what the document says, example by example

@@ -1,3 +1,4 @@
+mod Answers
 mod Differ
 mod Numbered
 mod Placing

@@ -57,6 +57,27 @@ rowOf Stage.Waiting other to = row Event.Nothing Stage.Waiting
 rowOf (Stage.Open from k) sort to = openRow from k sort to
 rowOf (Stage.Ready from) sort to = openRow from 0 sort to
 
+-- what an event tells on paper: whether a frame became ready, and why one was dropped (1 short, 2 long, 3 jump, 4 broken, 0 none was)
+abbrev pub makesReady : Event → Bool
+makesReady Event.Nothing = false
+makesReady Event.Opened = false
+makesReady Event.Stored = false
+makesReady Event.Ready = true
+makesReady Event.Short = false
+makesReady Event.Jump = false
+makesReady Event.Long = false
+makesReady Event.Broken = false
+
+abbrev pub droppedBy : Event → ℕ
+droppedBy Event.Nothing = 0
+droppedBy Event.Opened = 0
+droppedBy Event.Stored = 0
+droppedBy Event.Ready = 0
+droppedBy Event.Short = 1
+droppedBy Event.Long = 2
+droppedBy Event.Jump = 3
+droppedBy Event.Broken = 4
+
 -- how many packets of the open frame are stored; where none is open, as many as there are slots
 unfoldable pub storedOf : Stage → ℕ
 storedOf Stage.Waiting = lastSlot

@@ -69,14 +69,14 @@ first-headed kind pid [] d = refl
 first-headed kind pid (k ∷ ks) (more d ds) = rw (first-differs (k .setting) (typed-first kind pid k d))
 
 module _ (kind : Kind) (pid : ℕ) (calls : List Call) (e : pidAllowed pid ≡ true) (t : Each OfTypes calls) where
-  works-done : Each (Done kind pid) (worksOf (started kind pid) noWork calls)
+  pub works-done : Each (Done kind pid) (worksOf (started kind pid) noWork calls)
   works-done = all-done kind pid (started kind pid) noWork calls (sound-start kind pid e) t
 
   started-numbers : (started kind pid .state .counter ≡ 15) × (started kind pid .state .version ≡ 7) × (started kind pid .state .last ≡ announced blank)
   unfolding fresh
   started-numbers = rw (fresh-run kind pid e) (refl, refl, refl)
 
-  hold : framesOf (started kind pid) calls ≡ map (frameOf kind pid) (headedBy kind pid calls)
+  pub hold : framesOf (started kind pid) calls ≡ map (frameOf kind pid) (headedBy kind pid calls)
   hold =
       let n = started-numbers in
       let ks = worksOf (started kind pid) noWork calls in
@@ -92,14 +92,14 @@ frames-hold = hold
 -- ---- each closed frame
 
 -- what is known of a closed frame with what its header says
-record Good (kind : Kind) (pid : ℕ) (h : Setting × Work) : Type 0 where
-  numbers-are : h .0 .«relative_ts_number» ≡ numbersFilled (h .1 .setting .«relative_ts_number») (h .1 .lent)
-  typed : OfItsTypes (h .0)
-  meets : MeetsRules kind pid (h .0)
-  done : Done kind pid (h .1)
+pub record Good (kind : Kind) (pid : ℕ) (h : Setting × Work) : Type 0 where
+  pub numbers-are : h .0 .«relative_ts_number» ≡ numbersFilled (h .1 .setting .«relative_ts_number») (h .1 .lent)
+  pub typed : OfItsTypes (h .0)
+  pub meets : MeetsRules kind pid (h .0)
+  pub done : Done kind pid (h .1)
 
 module _ (kind : Kind) (pid : ℕ) (e : pidAllowed pid ≡ true) where
-  said-good : (counter version : ℕ) (k : Work) → counter < 2 ^ 4 → version < 2 ^ 3 → Done kind pid k → Good kind pid (said counter version k, k)
+  pub said-good : (counter version : ℕ) (k : Work) → counter < 2 ^ 4 → version < 2 ^ 3 → Done kind pid k → Good kind pid (said counter version k, k)
   unfolding said saying
   said-good counter version k c v d =
       let plan = k .setting .«relative_ts_number» in
@@ -114,7 +114,7 @@ module _ (kind : Kind) (pid : ℕ) (e : pidAllowed pid ≡ true) where
       }
 
   -- a version behind one of three bits has three bits
-  version-behind : (version : ℕ) (last : Announced) (s : Setting) → version < 2 ^ 3 → versionBehind version last s < 2 ^ 3
+  pub version-behind : (version : ℕ) (last : Announced) (s : Setting) → version < 2 ^ 3 → versionBehind version last s < 2 ^ 3
   version-behind version last s h = by-test (differ (announced s) last)
     where
       by-test : (b : Bool) → cond b ((version + 1) % 8) version < 2 ^ 3
@@ -156,24 +156,24 @@ module _ (kind : Kind) (pid : ℕ) (h : Setting × Work) (g : Good kind pid h) w
   unfolding frameOf
   frame-header = slot-first (header kind pid (h .0)) (slotsFilled plan (h .1 .lent)) (length-header kind pid (h .0))
 
-  header-read : readOf kind pid (slot 0 (frameOf kind pid h)) ≡ record { refusal = 0; setting = h .0 }
+  pub header-read : readOf kind pid (slot 0 (frameOf kind pid h)) ≡ record { refusal = 0; setting = h .0 }
   header-read =
       let w = written-and-read-back kind pid (h .0) nullPacket (g .typed) (g .meets) length-null in
       ap (readOf kind pid) (frame-header ∙ made kind pid (h .0) nullPacket (w .0)) ∙ w .1
 
-  front-placed : (r : ℕ) → firstStream ≤ r
+  pub front-placed : (r : ℕ) → firstStream ≤ r
       → numbered r (h .0 .«relative_ts_number») (slotsFilled plan (h .1 .lent)) ≡ take (packetLength * slotsFor r plan) (h .1 .lent r)
   front-placed r l =
       ap (λ (ns : List ℕ). numbered r ns (slotsFilled plan (h .1 .lent))) (g .numbers-are)
       ∙ front-lent r (λ z. omega arith) plan (h .1 .lent) (g .done .whole)
 
-  frame-length : length (frameOf kind pid h) ≡ frameLength
+  pub frame-length : length (frameOf kind pid h) ≡ frameLength
   unfolding frameOf
   frame-length =
       length-append (header kind pid (h .0)) (slotsFilled plan (h .1 .lent))
       ∙ omega (arith, length-header kind pid (h .0), length-slots plan (h .1 .lent), g .done .typed .numbers .0)
 
-  packet-fit : pidAllowed pid ≡ true → (i : ℕ) → firstSlot ≤ i → i ≤ lastSlot → unfit pid (slot i (frameOf kind pid h)) ≡ false
+  pub packet-fit : pidAllowed pid ≡ true → (i : ℕ) → firstSlot ≤ i → i ≤ lastSlot → unfit pid (slot i (frameOf kind pid h)) ≡ false
   unfolding frameOf
   packet-fit e zero a b = absurd (omega arith)
   packet-fit e (suc i) a b =
@@ -182,7 +182,7 @@ module _ (kind : Kind) (pid : ℕ) (h : Setting × Work) (g : Good kind pid h) w
 
 -- ---- the promises
 
-each-good : (kind : Kind) (pid : ℕ) (calls : List Call) → pidAllowed pid ≡ true → Each OfTypes calls → Each (Good kind pid) (headedBy kind pid calls)
+pub each-good : (kind : Kind) (pid : ℕ) (calls : List Call) → pidAllowed pid ≡ true → Each OfTypes calls → Each (Good kind pid) (headedBy kind pid calls)
 each-good kind pid calls e t = headed-good kind pid e (worksOf (started kind pid) noWork calls) (works-done kind pid calls e t)
 
 pub headers-read : HeadersRead

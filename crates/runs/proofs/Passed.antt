@@ -40,7 +40,7 @@ unfolding widthChecks absentChecks
 numbered-widths Kind.Plain s = refl
 numbered-widths Kind.Extended s = refl
 
-numbered-rules : (kind : Kind) (s : Setting) → numbered (ruleChecks kind s) ≡ true
+pub numbered-rules : (kind : Kind) (s : Setting) → numbered (ruleChecks kind s) ≡ true
 unfolding ruleChecks bondingChecks
 numbered-rules Kind.Plain s = refl
 numbered-rules Kind.Extended s = refl

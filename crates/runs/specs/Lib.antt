@@ -2,3 +2,5 @@
 pub mod Runs
 pub mod Work
 pub mod Composed
+pub mod Losses
+pub mod Demands

@@ -1,6 +1,8 @@
 //! Settings for the tests. Each test file uses a part of this.
 #![allow(dead_code)]
 
+pub mod frames;
+
 use reference::{Kind, Setting};
 
 pub const KINDS: [Kind; 2] = [Kind::Plain, Kind::Extended];

@@ -1,47 +1,31 @@
-use mathlib.Core.Path.{_≡_, sym, _∙_}
-use mathlib.Core.Bool.{true, false}
+use mathlib.Core.Path.{_≡_, sym, ap, _∙_}
+use mathlib.Core.Bool.{not}
 use borrow.Author.Needs.{needs}
 use borrow.Author.Tests.{eq-eqb, ne-eqb}
-use lib.Dec.{eqb}
 use lib.ListN.{length}
 use Rattle.setting.specs.Counters.{lastStream}
-use Rattle.frame.specs.Composing.{someDiffer, differ}
+use Rattle.frame.proofs.Differ.{some, holds, fails, Past, past-none}
 use Rattle.frame.proofs.checks.differs.Statement.{statement}
 use Rattle.frame.proofs.checks.differs.Tie as tie
 
--- from the place after a test that did not hold to the one after the test before it
-abbrev start : tie.Else1 → tie.Start
-start c = c .before .before .before
-
-abbrev back₂ : tie.Else2 → tie.Else1
-back₂ c = c .before .before .before
-
-abbrev back₃ : tie.Else3 → tie.Else2
-back₃ c = c .before .before .before
-
-abbrev back₄ : tie.Else4 → tie.Else3
-back₄ c = c .before .before .before .before .before .before
-
-abbrev back₅ : tie.Else5 → tie.Else4
-back₅ c = c .before .before .before .before .before .before
-
-abbrev back₆ : tie.Else6 → tie.Else5
-back₆ c = c .before .before .before .before .before .before
+-- from the place after a test that did not hold to the function's start
+abbrev start₁ : tie.Else1 → tie.Start
+start₁ c = c .before .before .before
 
 abbrev start₂ : tie.Else2 → tie.Start
-start₂ c = start (back₂ c)
+start₂ c = start₁ (c .before .before .before)
 
 abbrev start₃ : tie.Else3 → tie.Start
-start₃ c = start₂ (back₃ c)
+start₃ c = start₂ (c .before .before .before)
 
 abbrev start₄ : tie.Else4 → tie.Start
-start₄ c = start₃ (back₄ c)
+start₄ c = start₃ (c .before .before .before .before .before .before)
 
 abbrev start₅ : tie.Else5 → tie.Start
-start₅ c = start₄ (back₅ c)
+start₅ c = start₄ (c .before .before .before .before .before .before)
 
 abbrev start₆ : tie.Else6 → tie.Start
-start₆ c = start₅ (back₆ c)
+start₆ c = start₅ (c .before .before .before .before .before .before)
 
 -- what the arrays have, which their types say
 ts-ids : (c : tie.Start) → (length (c .args .a .«ts_id») ≡ lastStream) × (length (c .args .b .«ts_id») ≡ lastStream)
@@ -53,36 +37,36 @@ networks c = (search needs, search needs)
 statuses : (c : tie.Start) → (length (c .args .a .«receive_status») ≡ lastStream) × (length (c .args .b .«receive_status») ≡ lastStream)
 statuses c = (search needs, search needs)
 
--- what a test that did not hold says
-same₁ : (c : tie.Else1) → eqb (start c .args .a .«slot_allocation_type») (start c .args .b .«slot_allocation_type») ≡ true
-same₁ c = eq-eqb _ _ (c .if1 .left)
+-- past a test that did not hold
+past₀ : (c : tie.Start) → Past 0 (c .args .a) (c .args .b)
+past₀ c = past-none (c .args .a) (c .args .b)
 
-same₂ : (c : tie.Else2) → eqb (start₂ c .args .a .«frame_type») (start₂ c .args .b .«frame_type») ≡ true
-same₂ c = eq-eqb _ _ (c .if2 .left)
+past₁ : (c : tie.Else1) → Past 1 (start₁ c .args .a) (start₁ c .args .b)
+past₁ c = past₀ (c .before .before .before) ∙ fails _ _ (ap not (eq-eqb _ _ (c .if1 .left)))
 
-same₃ : (c : tie.Else3) → eqb (start₃ c .args .a .availability) (start₃ c .args .b .availability) ≡ true
-same₃ c = eq-eqb _ _ (c .if3 .left)
+past₂ : (c : tie.Else2) → Past 2 (start₂ c .args .a) (start₂ c .args .b)
+past₂ c = past₁ (c .before .before .before) ∙ fails _ _ (ap not (eq-eqb _ _ (c .if2 .left)))
 
-same₄ : (c : tie.Else4) → someDiffer (start₄ c .args .a .«ts_id») (start₄ c .args .b .«ts_id») ≡ false
-same₄ c = sym (c .before .differ-words .ensures) ∙ c .if4 .left
+past₃ : (c : tie.Else3) → Past 3 (start₃ c .args .a) (start₃ c .args .b)
+past₃ c = past₂ (c .before .before .before) ∙ fails _ _ (ap not (eq-eqb _ _ (c .if3 .left)))
 
-same₅ : (c : tie.Else5) → someDiffer (start₅ c .args .a .«original_network_id») (start₅ c .args .b .«original_network_id») ≡ false
-same₅ c = sym (c .before .differ-words2 .ensures) ∙ c .if5 .left
+past₄ : (c : tie.Else4) → Past 4 (start₄ c .args .a) (start₄ c .args .b)
+past₄ c = past₃ (c .before .before .before .before .before .before) ∙ fails _ _ (sym (c .before .differ-words .ensures) ∙ c .if4 .left)
 
-same₆ : (c : tie.Else6) → someDiffer (start₆ c .args .a .«receive_status») (start₆ c .args .b .«receive_status») ≡ false
-same₆ c = sym (c .before .differ-bytes .ensures) ∙ c .if6 .left
+past₅ : (c : tie.Else5) → Past 5 (start₅ c .args .a) (start₅ c .args .b)
+past₅ c = past₄ (c .before .before .before .before .before .before) ∙ fails _ _ (sym (c .before .differ-words2 .ensures) ∙ c .if5 .left)
+
+past₆ : (c : tie.Else6) → Past 6 (start₆ c .args .a) (start₆ c .args .b)
+past₆ c = past₅ (c .before .before .before .before .before .before) ∙ fails _ _ (sym (c .before .differ-bytes .ensures) ∙ c .if6 .left)
 
 returns : tie.Need-returns
-unfolding differ
-returns c = rw (ne-eqb _ _ (c .if1 .taken))
+returns c = sym (past₀ (c .before .before .before) ∙ holds _ (ap not (ne-eqb _ _ (c .if1 .taken))))
 
 returns-2 : tie.Need-returns-2
-unfolding differ
-returns-2 c = rw (same₁ (c .before .before .before), ne-eqb _ _ (c .if2 .taken))
+returns-2 c = sym (past₁ (c .before .before .before) ∙ holds _ (ap not (ne-eqb _ _ (c .if2 .taken))))
 
 returns-3 : tie.Need-returns-3
-unfolding differ
-returns-3 c = rw (same₁ (back₂ (c .before .before .before)), same₂ (c .before .before .before), ne-eqb _ _ (c .if3 .taken))
+returns-3 c = sym (past₂ (c .before .before .before) ∙ holds _ (ap not (ne-eqb _ _ (c .if3 .taken))))
 
 slice-aggregate-differ-words : tie.Need-slice-aggregate-differ-words
 slice-aggregate-differ-words c = sym (ts-ids (start₃ (c .before .before .before)) .0)
@@ -96,8 +80,7 @@ differ-words-requires c κs =
     long .0 ∙ sym (long .1)
 
 returns-4 : tie.Need-returns-4
-unfolding differ
-returns-4 c = rw (same₁ (back₂ (back₃ (c .before .before .before .before .before .before))), same₂ (back₃ (c .before .before .before .before .before .before)), same₃ (c .before .before .before .before .before .before), sym (c .before .differ-words .ensures) ∙ c .if4 .taken)
+returns-4 c = sym (past₃ (c .before .before .before .before .before .before) ∙ holds _ (sym (c .before .differ-words .ensures) ∙ c .if4 .taken))
 
 slice-aggregate-differ-words-3 : tie.Need-slice-aggregate-differ-words-3
 slice-aggregate-differ-words-3 c = sym (networks (start₄ (c .before .before .before)) .0)
@@ -111,8 +94,7 @@ differ-words-requires-2 c κs =
     long .0 ∙ sym (long .1)
 
 returns-5 : tie.Need-returns-5
-unfolding differ
-returns-5 c = rw (same₁ (back₂ (back₃ (back₄ (c .before .before .before .before .before .before)))), same₂ (back₃ (back₄ (c .before .before .before .before .before .before))), same₃ (back₄ (c .before .before .before .before .before .before)), same₄ (c .before .before .before .before .before .before), sym (c .before .differ-words2 .ensures) ∙ c .if5 .taken)
+returns-5 c = sym (past₄ (c .before .before .before .before .before .before) ∙ holds _ (sym (c .before .differ-words2 .ensures) ∙ c .if5 .taken))
 
 slice-aggregate-differ-bytes : tie.Need-slice-aggregate-differ-bytes
 slice-aggregate-differ-bytes c = sym (statuses (start₅ (c .before .before .before)) .0)
@@ -126,12 +108,11 @@ differ-bytes-requires c κs =
     long .0 ∙ sym (long .1)
 
 returns-6 : tie.Need-returns-6
-unfolding differ
-returns-6 c = rw (same₁ (back₂ (back₃ (back₄ (back₅ (c .before .before .before .before .before .before))))), same₂ (back₃ (back₄ (back₅ (c .before .before .before .before .before .before)))), same₃ (back₄ (back₅ (c .before .before .before .before .before .before))), same₄ (back₅ (c .before .before .before .before .before .before)), same₅ (c .before .before .before .before .before .before), sym (c .before .differ-bytes .ensures) ∙ c .if6 .taken)
+returns-6 c = sym (past₅ (c .before .before .before .before .before .before) ∙ holds _ (sym (c .before .differ-bytes .ensures) ∙ c .if6 .taken))
 
 returns-7 : tie.Need-returns-7
-unfolding differ
-returns-7 c = rw (same₁ (back₂ (back₃ (back₄ (back₅ (back₆ (c .before .before)))))), same₂ (back₃ (back₄ (back₅ (back₆ (c .before .before))))), same₃ (back₄ (back₅ (back₆ (c .before .before)))), same₄ (back₅ (back₆ (c .before .before))), same₅ (back₆ (c .before .before)), same₆ (c .before .before))
+unfolding some
+returns-7 c = sym (past₆ (c .before .before))
 
 pub differs-spec : {M : Type 1} → statement M
 differs-spec =

@@ -1,7 +1,6 @@
 use mathlib.Core.Path.{sym, _∙_}
 use borrow.Author.Needs.{needs}
 use borrow.Author.Tests.{not-true, not-false}
-use Rattle.setting.specs.Rules.{ruleChecks}
 use Rattle.frame.specs.Composing.{openRuleChecks}
 use Rattle.frame.proofs.Refusals.{asked-all, asked-none}
 use Rattle.frame.proofs.checks.open_rule_refusal.Statement.{statement}

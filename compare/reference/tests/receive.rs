@@ -1,0 +1,149 @@
+//! What the receiver does with runs of our own, where it refuses nothing.
+
+mod common;
+
+use common::frames::{counted_header, drawn_frame, ordinary, run, Lent};
+use common::{Random, KINDS, PID};
+use reference::{read, Event, Kind, Standing, STORE_BYTES};
+
+/// A frame's packets of a stream, by its own header.
+fn placed(frame: &[u8], kind: Kind, relative_ts_number: u8) -> Vec<u8> {
+    let header = read(&frame[..188], PID, kind).unwrap();
+    let slots = frame[188..].chunks_exact(188);
+    slots
+        .zip(header.relative_ts_number)
+        .filter(|&(_, number)| number == relative_ts_number)
+        .flat_map(|(packet, _)| packet.to_vec())
+        .collect()
+}
+
+#[test]
+fn a_run_without_loss_comes_out_packet_for_packet() {
+    let mut random = Random(21);
+    for kind in KINDS {
+        let mut composer = run(kind);
+        let mut lent = Lent::new(kind);
+        let mut before: Option<Vec<u8>> = None;
+        for _ in 0..40 {
+            let frame = drawn_frame(&mut random, &mut composer);
+            let event = lent.receive(&frame[..188]);
+            match before {
+                None => assert_eq!(event, Event::Opened),
+                Some(before) => {
+                    assert_eq!(event, Event::Ready);
+                    for r in 1..=15 {
+                        assert_eq!(lent.handed_out(r), placed(&before, kind, r));
+                    }
+                }
+            }
+            for packet in frame[188..].chunks_exact(188) {
+                assert_eq!(lent.receive(packet), Event::Stored);
+            }
+            assert_eq!(lent.store, frame[188..]);
+            before = Some(frame);
+        }
+    }
+}
+
+/// A receiver that has opened a frame and stored so many packets.
+fn opened(stored: usize) -> Lent {
+    let mut lent = Lent::new(Kind::Plain);
+    lent.receive(&counted_header(7));
+    for number in 0..stored {
+        lent.receive(&ordinary(number));
+    }
+    lent
+}
+
+fn spoilt_header() -> [u8; 188] {
+    let mut packet = counted_header(8);
+    packet[100] ^= 1;
+    packet
+}
+
+#[test]
+fn while_waiting_only_a_good_header_counts() {
+    let mut lent = Lent::new(Kind::Plain);
+    for packet in [&ordinary(0), &spoilt_header(), &[0; 188]] {
+        let before = lent.receiver.clone();
+        assert_eq!(lent.receive(packet), Event::Nothing);
+        assert_eq!(lent.receiver, before);
+    }
+    assert_eq!(lent.store, vec![0xA5; STORE_BYTES]);
+    assert_eq!(lent.receive(&counted_header(7)), Event::Opened);
+}
+
+/// A header PID behind other bits than 000 is a header's all the same.
+#[test]
+fn broken_packets_drop_the_frame() {
+    let mut with_bits = ordinary(0);
+    let [high, low] = PID.to_be_bytes();
+    with_bits[1..3].copy_from_slice(&[0x40 | high, low]);
+    for stored in [0, 1, 51, 52] {
+        for packet in [&spoilt_header(), &with_bits, &[0; 188]] {
+            let mut lent = opened(stored);
+            let store = lent.store.clone();
+            assert_eq!(lent.receive(packet), Event::Broken);
+            assert_eq!(lent.receiver.standing, Standing::Waiting);
+            assert_eq!(lent.store, store);
+        }
+    }
+}
+
+/// One packet is written, and every other byte of the store stays.
+#[test]
+fn packets_are_stored_slot_by_slot() {
+    for stored in 0..52 {
+        let mut lent = opened(stored);
+        let mut expected = lent.store.clone();
+        expected[188 * stored..][..188].copy_from_slice(&ordinary(99));
+        assert_eq!(lent.receive(&ordinary(99)), Event::Stored);
+        assert_eq!(lent.store, expected);
+    }
+}
+
+fn ready() -> Lent {
+    let mut lent = opened(52);
+    assert_eq!(lent.receive(&counted_header(8)), Event::Ready);
+    lent
+}
+
+fn hand_out_answer(lent: &Lent) -> Result<usize, u8> {
+    lent.receiver
+        .hand_out(&lent.store, 1, &mut vec![0; STORE_BYTES])
+}
+
+/// Each of the packets that may come behind ends it; a refused call does not.
+#[test]
+fn a_ready_frame_stays_until_the_next_accepted_packet() {
+    let behind = [
+        (&ordinary(99)[..], Event::Stored),
+        (&counted_header(9), Event::Short),
+        (&spoilt_header(), Event::Broken),
+    ];
+    for (packet, event) in behind {
+        let mut lent = ready();
+        assert_eq!(lent.receiver.receive(&mut lent.store, &[]), Err(1));
+        assert_eq!(hand_out_answer(&lent), Ok(10));
+        assert_eq!(hand_out_answer(&lent), Ok(10));
+        assert_eq!(lent.receive(packet), event);
+        assert_eq!(hand_out_answer(&lent), Err(16));
+    }
+}
+
+/// The header that vouches for a frame opens the next one with its own
+/// counter and slot numbers.
+#[test]
+fn a_header_behind_a_dropped_frame_opens_the_next() {
+    for counter in [7, 8, 9] {
+        for stored in [0, 51, 52] {
+            let mut lent = opened(stored);
+            lent.receive(&counted_header(counter));
+            for number in 0..52 {
+                assert_eq!(lent.receive(&ordinary(number)), Event::Stored);
+            }
+            let event = lent.receive(&counted_header(counter + 1));
+            assert_eq!(event, Event::Ready);
+        }
+    }
+}

@@ -1,0 +1,41 @@
+use mathlib.Core.Path.{sym, ap, _∙_}
+use borrow.Author.Needs.{needs}
+use Rattle.frame.specs.declared.composer.Composer.{Composer}
+use Rattle.frame.specs.Composing.{beginRefusal, beginOf, begunFrame}
+use Rattle.frame.proofs.Answers.{refused, kept, granted, written, frame-lent}
+use Rattle.frame.proofs.composer.Composer.begin.Statement.{statement}
+use Rattle.frame.proofs.composer.Composer.begin.Tie as tie
+
+begin-refusal-requires : tie.Need-begin-refusal-requires
+begin-refusal-requires c κs = search needs
+
+returns : tie.Need-returns
+unfolding beginOf begunFrame
+returns c =
+    let e = c .before .begin-refusal .ensures in
+    (refused e _ _ (c .if1 .taken), kept e _ _ (c .if1 .taken))
+
+clear-requires : tie.Need-clear-requires
+unfolding beginRefusal
+clear-requires c κs = frame-lent _ _ (sym (c .before .before .begin-refusal .ensures) ∙ c .before .if1 .left)
+
+begun-requires : tie.Need-begun-requires
+begun-requires c κs = search needs
+
+same-length : tie.Need-same-length
+same-length c = search needs
+
+returns-2 : tie.Need-returns-2
+unfolding beginOf begunFrame
+returns-2 c =
+    let clear = c .before .before .before in
+    let e = clear .before .before .before .begin-refusal .ensures in
+    let z = clear .before .before .if1 .left in (
+      ap (λ (s : Composer). record { refusal = 0; state = s }) (c .begun .ensures) ∙ granted e _ _ z,
+      clear .clear .ensures ∙ written e _ _ z,
+    )
+
+pub begin-spec : {M : Type 1} → statement M
+begin-spec =
+    tie.close
+    (tie.spec begin-refusal-requires returns clear-requires begun-requires same-length returns-2)

@@ -1,0 +1,254 @@
+-- A good header: it opens its frame from anywhere, and vouches for the one before it where that is whole. Assumes nothing.
+use Prim.Native.Nat.{ℕ, zero, suc, _+_, _-_, _*_, _%_, _^_, _≤_, _<_}
+use mathlib.Core.Path.{_≡_, refl, sym, ap, ap₂, subst, _∙_}
+use mathlib.Core.Bool.{Bool, true, false, cond, not, _&&_, and-false}
+use mathlib.Core.List.{List, [], _∷_, _++_}
+use native.Mathlib.Omega.{arith}
+use native.Mathlib.Decide.{ℕ-discrete, decLt}
+use borrow.Author.Tests.{eq-eqb, ne-eqb, lt-ltb, le-ltb, le-leb}
+use lib.Dec.{leb, ltb, eqb}
+use lib.ListN.{length, take, drop, length-append, length-drop}
+use lib.Seq.{length-take-le, take-at}
+use Rattle.bits.specs.Fields.{Fit}
+use Rattle.setting.specs.declared.Kind.{Kind}
+use Rattle.setting.specs.declared.Setting.{Setting}
+use Rattle.setting.specs.Counters.{firstStream, lastStream, lastSlot, within}
+use Rattle.setting.specs.Refusal.{NoneHolds, none, more}
+use Rattle.setting.proofs.Refusals.{first-none, none-append}
+use Rattle.header.specs.declared.Reading.{Reading}
+use Rattle.header.specs.Header.{readRefusal, reading, readOf}
+use Rattle.frame.specs.declared.receiver.Stage.{Stage}
+use Rattle.frame.specs.declared.receiver.Event.{Event}
+use Rattle.frame.specs.declared.receiver.Row.{Row}
+use Rattle.frame.specs.declared.receiver.Receiver.{Receiver}
+use Rattle.frame.specs.Packets.{packetLength, frameLength, storeLength, slot, unfit}
+use Rattle.frame.specs.Slots.{numbered, slotsFor, over}
+use Rattle.frame.specs.Composing.{leaves}
+use Rattle.frame.specs.Receiving.{makesReady, Sort, good, broken, other, sortOf, counterStep, row, openRow, rowOf, storeAfter, renumbered, receiverAfter, rowFor, receiveOf, isReady, receiverChecks, handOutRefusal, handOutOf, handOutBuffer}
+use Rattle.runs.specs.Losses.{Reception, afterPacket, handed, handedOut}
+use Rattle.runs.specs.Demands.{Asked}
+use Rattle.runs.proofs.Table.{Opens, open-at, ready-at, InRange, waits, opens, Set, state-none, event-is, after-is, row-opens}
+
+-- ---- hand out
+
+for-at-most : (r : ℕ) (ns : List ℕ) → slotsFor r ns ≤ length ns
+unfolding slotsFor
+for-at-most r [] = omega arith
+for-at-most r (n ∷ ns) = by-test (eqb n r) (for-at-most r ns)
+  where
+    by-test : (b : Bool) → slotsFor r ns ≤ length ns → cond b 1 0 + slotsFor r ns ≤ suc (length ns)
+    by-test true h = omega arith
+    by-test false h = omega arith
+
+length-numbered : (r : ℕ) (ns bytes : List ℕ) → length bytes ≡ packetLength * length ns → length (numbered r ns bytes) ≡ packetLength * slotsFor r ns
+unfolding numbered slotsFor
+length-numbered r [] bytes e = refl
+length-numbered r (n ∷ ns) bytes e =
+    by-test (eqb n r) (length-numbered r ns (drop packetLength bytes) (length-drop packetLength bytes ∙ omega arith))
+  where
+    by-test : (b : Bool) → length (numbered r ns (drop packetLength bytes)) ≡ packetLength * slotsFor r ns
+        → length (cond b (take packetLength bytes ++ numbered r ns (drop packetLength bytes)) (numbered r ns (drop packetLength bytes)))
+        ≡ packetLength * (cond b 1 0 + slotsFor r ns)
+    by-test true h =
+        length-append (take packetLength bytes) (numbered r ns (drop packetLength bytes))
+        ∙ omega (arith, h, length-take-le packetLength bytes (omega arith))
+    by-test false h = omega (arith, h)
+
+-- it is not refused where a frame is ready
+not-refused : (kind : Kind) (pid r n : ℕ) (store out : List ℕ) (w : Reception) → Set kind pid w → Asked r store out → w .state .stage ≡ Stage.Ready n
+    → handOutRefusal (w .state) r (length (w .store)) (length out) ≡ 0
+unfolding handOutRefusal
+not-refused kind pid r n store out w s a e =
+    let most : slotsFor r (w .state .before) ≤ length (w .state .before) = for-at-most r (w .state .before) in
+    first-none
+    (more (ap not (eq-eqb (length (w .store)) storeLength (s .store-long)))
+    (none-append (state-none kind pid w s)
+    (more (rw (le-leb firstStream r (a .from), le-leb r lastStream (a .to)))
+    (more (ap (λ (x : Stage). not (isReady x)) e)
+    (more (le-ltb (length out) (packetLength * slotsFor r (w .state .before)) (omega (arith, a .room, most, s .before-long))) none)))))
+
+-- a ready frame's packets with number r
+pub handed-is : (kind : Kind) (pid r n : ℕ) (store out : List ℕ) (w : Reception) → Set kind pid w → Asked r store out → w .state .stage ≡ Stage.Ready n
+    → handed r out w ≡ numbered r (w .state .before) (w .store)
+unfolding handed handOutOf handOutBuffer leaves over
+handed-is kind pid r n store out w s a e =
+    let whole : length (numbered r (w .state .before) (w .store)) ≡ packetLength * slotsFor r (w .state .before) =
+    length-numbered r (w .state .before) (w .store) (s .store-long ∙ omega (arith, s .before-long)) in
+    rw (not-refused kind pid r n store out w s a e) (take-at (numbered r (w .state .before) (w .store)) (drop (0 + length (numbered r (w .state .before) (w .store))) out) (packetLength * slotsFor r (w .state .before)) whole)
+
+-- ---- the header of a frame that a run closed
+
+-- such a frame: its header is accepted and has this counter, and none of its packets is broken or a header
+pub record GoodFrame (kind : Kind) (pid n : ℕ) (f : List ℕ) : Type 0 where
+  pub setting : Setting
+  pub read : readOf kind pid (slot 0 f) ≡ record { refusal = 0; setting = setting }
+  pub counter : setting .«continuity_counter» ≡ n
+  pub small : n < 2 ^ 4
+  pub numbers-fit : Fit 4 (setting .«relative_ts_number»)
+  pub numbers-long : length (setting .«relative_ts_number») ≡ lastSlot
+  pub long : length f ≡ frameLength
+  pub fit : (i : ℕ) → i < lastSlot → unfit pid (slot i (drop packetLength f)) ≡ false
+
+accepted-reading : (kind : Kind) (pid : ℕ) (p : List ℕ) (s : Setting) → readOf kind pid p ≡ record { refusal = 0; setting = s }
+    → (readRefusal kind pid p ≡ 0) × (reading kind p ≡ s)
+unfolding readOf
+accepted-reading kind pid p s e =
+    let z : readRefusal kind pid p ≡ 0 = ap (λ (x : Reading). x .refusal) e in
+    let t : cond (eqb (readRefusal kind pid p) 0) (reading kind p) _ ≡ s = ap (λ (x : Reading). x .setting) e in
+    (z, sym (rw z) ∙ t)
+
+length-first : (f : List ℕ) → length f ≡ frameLength → length (slot 0 f) ≡ packetLength
+unfolding slot
+length-first f h = length-take-le packetLength f (omega arith)
+
+module _ (kind : Kind) (pid n : ℕ) (f : List ℕ) (w : Reception) (s : Set kind pid w) (g : GoodFrame kind pid n f) where
+  first : length (slot 0 f) ≡ packetLength
+  first = length-first f (g .long)
+
+  facts : (readRefusal kind pid (slot 0 f) ≡ 0) × (reading kind (slot 0 f) ≡ g .setting)
+  facts = accepted-reading kind pid (slot 0 f) (g .setting) (g .read)
+
+  good-sort : sortOf (w .state .kind) (w .state .pid) (slot 0 f) ≡ good
+  unfolding sortOf
+  good-sort =
+      ap₂ (λ (a : Kind) (b : ℕ). cond (eqb (readRefusal a b (slot 0 f)) 0) good (cond (unfit b (slot 0 f)) broken other)) (s .kind-is) (s .pid-is)
+      ∙ ap (λ (x : ℕ). cond (eqb x 0) good (cond (unfit pid (slot 0 f)) broken other)) (facts .0)
+
+  said-is : reading (w .state .kind) (slot 0 f) ≡ g .setting
+  said-is = ap (λ (a : Kind). reading a (slot 0 f)) (s .kind-is) ∙ facts .1
+
+  good-row : rowFor (w .state) (slot 0 f) ≡ rowOf (w .state .stage) good n
+  unfolding rowFor
+  good-row = ap₂ (λ (a : Sort) (b : ℕ). rowOf (w .state .stage) a b) good-sort (ap (λ (x : Setting). x .«continuity_counter») said-is ∙ g .counter)
+
+  pub good-after : afterPacket w (slot 0 f)
+      ≡ record { state = renumbered (w .state) (rowOf (w .state .stage) good n .stage) (g .setting .«relative_ts_number»); store = w .store }
+  unfolding receiverAfter storeAfter
+  good-after =
+      after-is kind pid w s (slot 0 f) first
+      ∙ ap₂ (λ (a : Sort) (r : Row). record {
+        state = receiverAfter (w .state) a (r .stage) (reading (w .state .kind) (slot 0 f) .«relative_ts_number»);
+        store = storeAfter (w .state .stage) a (slot 0 f) (w .store);
+      }) good-sort good-row
+      ∙ ap (λ (x : Setting). record {
+        state = renumbered (w .state) (rowOf (w .state .stage) good n .stage) (x .«relative_ts_number»);
+        store = w .store;
+      }) said-is
+
+  good-event : receiveOf (w .state) (slot 0 f) (length (w .store)) .event ≡ rowOf (w .state .stage) good n .event
+  good-event = event-is kind pid w s (slot 0 f) first ∙ ap (λ (r : Row). r .event) good-row
+
+  -- its frame is open, by its own numbers
+  pub good-numbers : afterPacket w (slot 0 f) .state .numbers ≡ g .setting .«relative_ts_number»
+  unfolding renumbered
+  good-numbers = ap (λ (v : Reception). v .state .numbers) good-after
+
+  pub good-store : afterPacket w (slot 0 f) .store ≡ w .store
+  good-store = ap (λ (v : Reception). v .store) good-after
+
+  good-stage : afterPacket w (slot 0 f) .state .stage ≡ rowOf (w .state .stage) good n .stage
+  unfolding renumbered
+  good-stage = ap (λ (v : Reception). v .state .stage) good-after
+
+  good-before : afterPacket w (slot 0 f) .state .before ≡ w .state .numbers
+  unfolding renumbered
+  good-before = ap (λ (v : Reception). v .state .before) good-after
+
+  opens-row : {stage : Stage} → InRange stage → Opens (rowOf stage good n .stage) n 0
+  unfolding rowOf openRow
+  opens-row waits = open-at n 0
+  opens-row {stage} (opens from k o h l) = subst (λ (r : Row). Opens (r .stage) n 0) (sym (row-opens good n o)) (either (eqb k lastSlot && eqb (counterStep from n) 1))
+    where
+      either : (b : Bool) → Opens (cond b (row Event.Ready (Stage.Ready n)) (row (cond (ltb k lastSlot) Event.Short Event.Jump) (Stage.Open n 0)) .stage) n 0
+      either true = ready-at n
+      either false = open-at n 0
+
+  pub good-opens : Opens (afterPacket w (slot 0 f) .state .stage) n 0
+  good-opens = subst (λ (x : Stage). Opens x n 0) (sym good-stage) (opens-row (s .stage-is))
+
+  pub good-set : Set kind pid (afterPacket w (slot 0 f))
+  unfolding renumbered
+  good-set =
+      subst (Set kind pid) (sym good-after)
+      (record {
+        kind-is = s .kind-is;
+        pid-is = s .pid-is;
+        allowed = s .allowed;
+        stage-is = opens n 0 (opens-row (s .stage-is)) (g .small) (omega arith);
+        numbers-fit = g .numbers-fit;
+        numbers-long = g .numbers-long;
+        before-fit = s .numbers-fit;
+        before-long = s .numbers-long;
+        store-long = s .store-long;
+      })
+
+-- ---- what the next header brings out
+
+-- a frame is open whose header stands m + 1 frames before the next one, and all its 52 slots are filled: then, and only where m is 0, the next
+-- header, which has counter n, makes it ready
+pub data Owes (r n m : ℕ) (x : List ℕ) (w : Reception) : Type 0 where
+  nothing : w .state .stage ≡ Stage.Waiting → x ≡ [] → Owes r n m x w
+  something : (from k : ℕ) → Opens (w .state .stage) from k → from < 2 ^ 4 → k ≤ lastSlot → (from + m + 1) % 16 ≡ n
+      → x ≡ cond (eqb k lastSlot && eqb m 0) (numbered r (w .state .numbers) (w .store)) [] → Owes r n m x w
+
+-- the step to a header m + 1 frames later is 1 where m is 0, and nowhere else below 16
+step-one : (from m n : ℕ) → from < 2 ^ 4 → m ≤ 15 → (from + m + 1) % 16 ≡ n → eqb (counterStep from n) 1 ≡ eqb m 0
+step-one from m n h l e = by-missing (ℕ-discrete m 0)
+  where
+    step : counterStep from n ≡ (m + 1) % 16
+    step = omega arith
+
+    by-missing : Dec (m ≡ 0) → eqb (counterStep from n) 1 ≡ eqb m 0
+    by-missing (yes z) = eq-eqb (counterStep from n) 1 (step ∙ omega arith) ∙ sym (eq-eqb m 0 z)
+    by-missing (no d) = ne-eqb (counterStep from n) 1 (λ q. d (omega (arith, step))) ∙ sym (ne-eqb m 0 d)
+
+-- the row of an open frame, by whether the header vouches for it
+vouched-row : (from k n : ℕ) → eqb k lastSlot && eqb (counterStep from n) 1 ≡ true → openRow from k good n ≡ row Event.Ready (Stage.Ready n)
+unfolding openRow
+vouched-row from k n e = rw e
+
+unvouched-event : (from k n : ℕ) → eqb k lastSlot && eqb (counterStep from n) 1 ≡ false → makesReady (openRow from k good n .event) ≡ false
+unfolding openRow
+unvouched-event from k n e = rw e (by-room (ltb k lastSlot))
+  where
+    by-room : (b : Bool) → makesReady (cond b Event.Short Event.Jump) ≡ false
+    by-room true = refl
+    by-room false = refl
+
+waiting-event : (n : ℕ) → makesReady (rowOf Stage.Waiting good n .event) ≡ false
+unfolding rowOf
+waiting-event n = refl
+
+module _ (kind : Kind) (pid r n m : ℕ) (x store out f : List ℕ) (w : Reception) (s : Set kind pid w) (g : GoodFrame kind pid n f) (a : Asked r store out)
+    (l : m ≤ 15) where
+  abbrev next : Reception
+  next = afterPacket w (slot 0 f)
+
+  -- what comes out is what was owed
+  given : Owes r n m x w → cond (makesReady (rowOf (w .state .stage) good n .event)) (handed r out next) [] ≡ x
+  given (nothing e z) = ap (λ (y : Stage). cond (makesReady (rowOf y good n .event)) (handed r out next) []) e ∙ ap (λ (b : Bool). cond b (handed r out next) []) (waiting-event n) ∙ sym z
+  given (something from k o h q e z) = by-test (eqb k lastSlot && eqb m 0) refl
+    where
+      same : eqb k lastSlot && eqb (counterStep from n) 1 ≡ eqb k lastSlot && eqb m 0
+      same = ap (λ (b : Bool). eqb k lastSlot && b) (step-one from m n h l e)
+
+      the-row : rowOf (w .state .stage) good n ≡ openRow from k good n
+      the-row = row-opens good n o
+
+      by-test : (b : Bool) → eqb k lastSlot && eqb m 0 ≡ b → cond (makesReady (rowOf (w .state .stage) good n .event)) (handed r out next) [] ≡ x
+      by-test true t =
+          let v : rowOf (w .state .stage) good n ≡ row Event.Ready (Stage.Ready n) = the-row ∙ vouched-row from k n (same ∙ t) in
+          ap (λ (y : Row). cond (makesReady (y .event)) (handed r out next) []) v
+          ∙ handed-is kind pid r n store out next (good-set kind pid n f w s g) a (good-stage kind pid n f w s g ∙ ap (λ (y : Row). y .stage) v)
+          ∙ ap₂ (numbered r) (good-before kind pid n f w s g) (good-store kind pid n f w s g)
+          ∙ sym (z ∙ ap (λ (b : Bool). cond b (numbered r (w .state .numbers) (w .store)) []) t)
+      by-test false t =
+          ap (λ (y : Row). cond (makesReady (y .event)) (handed r out next) []) the-row
+          ∙ ap (λ (b : Bool). cond b (handed r out next) []) (unvouched-event from k n (same ∙ t))
+          ∙ sym (z ∙ ap (λ (b : Bool). cond b (numbered r (w .state .numbers) (w .store)) []) t)
+
+  pub vouches : Owes r n m x w → (ps : List (List ℕ)) → handedOut r out w (slot 0 f ∷ ps) ≡ x ++ handedOut r out next ps
+  unfolding handedOut
+  vouches o ps =
+      ap (λ (y : Event). cond (makesReady y) (handed r out next) [] ++ handedOut r out next ps) (good-event kind pid n f w s g)
+      ∙ ap (λ (y : List ℕ). y ++ handedOut r out next ps) (given o)

@@ -1,0 +1,110 @@
+-- What happens to a run's frames on the way, and what a receiver then hands out.
+use Prim.Native.Nat.{ℕ, _*_, _≤_}
+use mathlib.Core.Path.{_≡_}
+use mathlib.Core.Bool.{Bool, true, false, cond, _&&_}
+use mathlib.Core.List.{List, [], _∷_, _++_}
+use lib.ListN.{length, take, drop}
+use Rattle.setting.specs.declared.Kind.{Kind}
+use Rattle.setting.specs.Counters.{lastSlot}
+use Rattle.header.specs.Header.{readRefusal, readOf}
+use Rattle.frame.specs.declared.receiver.Receiver.{Receiver}
+use Rattle.frame.specs.Packets.{packetLength, slot}
+use Rattle.frame.specs.Slots.{numbered}
+use Rattle.frame.specs.Receiving.{makesReady, startReceiverOf, receiveOf, receiveStore, handOutOf, handOutBuffer}
+use Rattle.runs.specs.Runs.{Each}
+
+-- ---- on the way
+
+-- what becomes of a header: it arrives, it is lost, or it arrives as another packet
+pub data Fate : Type 0 where
+  kept : Fate
+  lost : Fate
+  spoiled : List ℕ → Fate
+
+abbrev pub isKept : Fate → Bool
+isKept kept = true
+isKept lost = false
+isKept (spoiled q) = false
+
+-- a frame that was sent: what became of its header, and of each packet behind it whether it arrived
+pub record Sent : Type 0 where
+  pub frame : List ℕ
+  pub fate : Fate
+  pub arrived : List Bool
+
+-- a spoiled header is a packet that the reader refuses
+abbrev pub Refused : Kind → ℕ → Fate → Type 0
+Refused kind pid kept = Unit {0}
+Refused kind pid lost = Unit {0}
+Refused kind pid (spoiled q) = (length q ≡ packetLength) × (readRefusal kind pid q ≡ 0 → ⊥)
+
+abbrev pub MayHappen : Kind → ℕ → Sent → Type 0
+MayHappen kind pid s = (length (s .arrived) ≡ lastSlot) × Refused kind pid (s .fate)
+
+-- 'never more than fifteen headers in a row lost or spoiled'
+abbrev pub FifteenAtMost : List Sent → Type 0
+FifteenAtMost sent =
+    (before row after : List Sent) → sent ≡ before ++ (row ++ after) → Each (λ s. isKept (s .fate) ≡ false) row → length row ≤ 15
+
+-- what arrives of a header, and of the packets behind it
+unfoldable pub headerArrives : Fate → List ℕ → List (List ℕ)
+headerArrives kept p = p ∷ []
+headerArrives lost p = []
+headerArrives (spoiled q) p = q ∷ []
+
+unfoldable pub packetsArrive : List Bool → List ℕ → List (List ℕ)
+packetsArrive [] bytes = []
+packetsArrive (a ∷ later) bytes =
+    cond a (take packetLength bytes ∷ packetsArrive later (drop packetLength bytes)) (packetsArrive later (drop packetLength bytes))
+
+-- the packets that arrive, in order
+unfoldable pub arriving : List Sent → List (List ℕ)
+arriving [] = []
+arriving (s ∷ ss) =
+    headerArrives (s .fate) (slot 0 (s .frame)) ++ (packetsArrive (s .arrived) (drop packetLength (s .frame)) ++ arriving ss)
+
+-- ---- at the receiver
+
+-- a receiver with its store
+pub record Reception : Type 0 where
+  pub state : Receiver
+  pub store : List ℕ
+
+abbrev pub freshWith : Kind → ℕ → List ℕ → Reception
+freshWith kind pid store = record { state = startReceiverOf kind pid .state; store = store }
+
+unfoldable pub afterPacket : Reception → List ℕ → Reception
+afterPacket w p =
+    record { state = receiveOf (w .state) p (length (w .store)) .state; store = receiveStore (w .state) p (w .store) }
+
+-- the bytes that hand out gives for number r, with this buffer
+unfoldable pub handed : ℕ → List ℕ → Reception → List ℕ
+handed r out w =
+    take (packetLength * handOutOf (w .state) r (length (w .store)) (length out) .packets) (handOutBuffer (w .state) r (w .store) out)
+
+-- all that comes out under number r, where it is asked for once at every frame that a packet made ready
+unfoldable pub handedOut : ℕ → List ℕ → Reception → List (List ℕ) → List ℕ
+handedOut r out w [] = []
+handedOut r out w (p ∷ ps) =
+    cond (makesReady (receiveOf (w .state) p (length (w .store)) .event)) (handed r out (afterPacket w p)) []
+    ++ handedOut r out (afterPacket w p) ps
+
+-- ---- what is wanted
+
+-- the slots' numbers by the frame's own header
+abbrev pub numbersIn : Kind → ℕ → List ℕ → List ℕ
+numbersIn kind pid frame = readOf kind pid (slot 0 frame) .setting .«relative_ts_number»
+
+abbrev pub entire : List Bool → Bool
+entire [] = true
+entire (a ∷ later) = a && entire later
+
+-- the packets numbered r of the frames that arrived entire, their header unspoiled and the next frame's good header behind them
+unfoldable pub wanted : Kind → ℕ → ℕ → List Sent → List ℕ
+wanted kind pid r [] = []
+wanted kind pid r (s ∷ []) = []
+wanted kind pid r (s ∷ t ∷ ss) =
+    cond (isKept (s .fate) && (entire (s .arrived) && isKept (t .fate)))
+    (numbered r (numbersIn kind pid (s .frame)) (drop packetLength (s .frame)))
+    []
+    ++ wanted kind pid r (t ∷ ss)
