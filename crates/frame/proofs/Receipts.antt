@@ -8,23 +8,12 @@ use Rattle.setting.specs.declared.Setting.{Setting}
 use Rattle.header.specs.Header.{reading}
 use Rattle.frame.specs.declared.receiver.Event.{Event}
 use Rattle.frame.specs.declared.receiver.Received.{Received}
-use Rattle.frame.specs.declared.receiver.HandedOut.{HandedOut}
 use Rattle.frame.specs.declared.receiver.Receiver.{Receiver}
 use Rattle.frame.specs.declared.receiver.Row.{Row}
 use Rattle.frame.specs.Slots.{numbered, slotsFor, over}
-use Rattle.frame.specs.Composing.{leaves}
 use Rattle.frame.specs.Receiving.{Sort, good, broken, other, sortOf, rowOf, rowFor, storeAfter, moved, renumbered, receiverAfter, receiveRefusal, receiveOf, receiveStore, handOutRefusal, handOutOf, handOutBuffer}
+use Rattle.frame.proofs.Answers.{kept, written}
 use Rattle.frame.proofs.Table.{other-counter, broken-counter}
-
--- ---- what is left behind
-
-pub left-new : {refusal : ℕ} (new old : List ℕ) → refusal ≡ 0 → leaves refusal new old ≡ new
-unfolding leaves
-left-new {refusal} new old e = rw (eq-eqb refusal 0 e)
-
-pub left-old : {refusal : ℕ} (new old : List ℕ) → (refusal ≡ 0 → ⊥) → leaves refusal new old ≡ old
-unfolding leaves
-left-old {refusal} new old h = rw (ne-eqb refusal 0 h)
 
 -- ---- a packet
 
@@ -37,22 +26,22 @@ module _ (c : Receiver) (p store : List ℕ) where
   keeping row = record { refusal = 0; event = row .event; state = moved c (row .stage) }
 
   -- and one that takes what a header says
-  abbrev renumbering : Row → Setting → Received
+  abbrev pub renumbering : Row → Setting → Received
   renumbering row said = record { refusal = 0; event = row .event; state = renumbered c (row .stage) (said .«relative_ts_number») }
 
-  module _ {n : ℕ} (e : refusal ≡ n) (h : n ≡ 0 → ⊥) where
+  module _ {n : ℕ} (e : n ≡ refusal) (h : n ≡ 0 → ⊥) where
     pub refused-receipt : record { refusal = n; event = Event.Nothing; state = c } ≡ receiveOf c p (length store)
     unfolding receiveOf
-    refused-receipt = rw (e, ne-eqb n 0 h) refl
+    refused-receipt = rw (sym e, ne-eqb n 0 h) refl
 
     pub refused-store : store ≡ receiveStore c p store
     unfolding receiveStore
-    refused-store = sym (left-old _ store (λ z. h (sym e ∙ z)))
+    refused-store = kept e _ store h
 
   module _ (e : refusal ≡ 0) where
     taken-store : {s : Sort} → sortOf (c .kind) (c .pid) p ≡ s → receiveStore c p store ≡ storeAfter (c .stage) s p store
     unfolding receiveStore
-    taken-store s = left-new _ store e ∙ ap (λ (t : Sort). storeAfter (c .stage) t p store) s
+    taken-store s = sym (written refl _ store e) ∙ ap (λ (t : Sort). storeAfter (c .stage) t p store) s
 
     taken-receipt : {s : Sort} → sortOf (c .kind) (c .pid) p ≡ s
         → receiveOf c p (length store)
@@ -74,7 +63,7 @@ module _ (c : Receiver) (p store : List ℕ) where
       broken-receipt s r = ap keeping (r ∙ broken-counter (c .stage) (reading (c .kind) p .«continuity_counter»)) ∙ sym (taken-receipt s)
 
       pub good-receipt : sortOf (c .kind) (c .pid) p ≡ good → (said : Setting) → said ≡ reading (c .kind) p → row ≡ rowOf (c .stage) good (said .«continuity_counter»)
-          → record { refusal = 0; event = row .event; state = renumbered c (row .stage) (said .«relative_ts_number») } ≡ receiveOf c p (length store)
+          → renumbering row said ≡ receiveOf c p (length store)
       unfolding receiverAfter
       good-receipt s said t r =
           ap (λ (w : Row). renumbering w said) r ∙ ap (λ (u : Setting). renumbering (rowOf (c .stage) good (u .«continuity_counter»)) u) t ∙ sym (taken-receipt s)
@@ -96,14 +85,14 @@ module _ (c : Receiver) (r : ℕ) (store out : List ℕ) where
   abbrev handing : ℕ
   handing = handOutRefusal c r (length store) (length out)
 
-  module _ {n : ℕ} (e : handing ≡ n) (h : n ≡ 0 → ⊥) where
+  module _ {n : ℕ} (e : n ≡ handing) (h : n ≡ 0 → ⊥) where
     pub refused-frame : record { refusal = n; packets = 0 } ≡ handOutOf c r (length store) (length out)
     unfolding handOutOf
-    refused-frame = rw (e, ne-eqb n 0 h) refl
+    refused-frame = rw (sym e, ne-eqb n 0 h) refl
 
     pub refused-buffer : out ≡ handOutBuffer c r store out
     unfolding handOutBuffer
-    refused-buffer = sym (left-old _ out (λ z. h (sym e ∙ z)))
+    refused-buffer = kept e _ out h
 
   module _ (e : handing ≡ 0) where
     pub handed-frame : {k : ℕ} → k ≡ slotsFor r (c .before) → record { refusal = 0; packets = k } ≡ handOutOf c r (length store) (length out)
@@ -112,4 +101,4 @@ module _ (c : Receiver) (r : ℕ) (store out : List ℕ) where
 
     pub handed-buffer : over 0 (numbered r (c .before) store) out ≡ handOutBuffer c r store out
     unfolding handOutBuffer
-    handed-buffer = sym (left-new _ out e)
+    handed-buffer = written refl _ out e

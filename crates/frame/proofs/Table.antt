@@ -1,11 +1,9 @@
 -- Rows of the receiver's table, and what they leave in the store. Assumes nothing.
 use Prim.Native.Nat.{ℕ, _+_, _*_, _%_, _^_, _≤_, _<_}
-use mathlib.Core.Path.{_≡_, refl, sym, _∙_}
-use mathlib.Core.Bool.{_&&_}
+use mathlib.Core.Path.{_≡_, refl, sym}
 use mathlib.Core.List.{List}
 use native.Mathlib.Omega.{arith}
 use borrow.Author.Tests.{eq-eqb, ne-eqb, lt-ltb, le-ltb}
-use lib.Dec.{eqb}
 use Rattle.setting.specs.Counters.{lastSlot}
 use Rattle.frame.specs.declared.receiver.Stage.{Stage}
 use Rattle.frame.specs.declared.receiver.Event.{Event}

@@ -7,8 +7,8 @@ use native.Mathlib.Omega.{arith}
 use borrow.Author.Needs.{needs}
 use borrow.Author.Tests.{eq-eqb, ne-eqb, lt-ltb, le-ltb}
 use lib.Dec.{ltb}
-use lib.ListN.{length, drop}
-use Rattle.setting.specs.Counters.{firstStream, lastStream, lastSlot, within}
+use lib.ListN.{drop}
+use Rattle.setting.specs.Counters.{firstStream, lastStream, within}
 use Rattle.setting.specs.Refusal.{Check, firstOf}
 use Rattle.setting.proofs.Refusals.{answers, passed, onward, at-once}
 use Rattle.setting.proofs.Within.{under, past, between}

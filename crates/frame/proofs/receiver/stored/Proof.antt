@@ -1,7 +1,7 @@
 -- `stored` meets its contract, stage by stage. Assumes nothing.
-use Rattle.frame.specs.Receiving.{storedOf}
 use mathlib.Core.Path.{refl}
 use borrow.Author.Needs.{needs}
+use Rattle.frame.specs.Receiving.{storedOf}
 use Rattle.frame.proofs.receiver.stored.Statement.{statement}
 use Rattle.frame.proofs.receiver.stored.Tie as tie
 

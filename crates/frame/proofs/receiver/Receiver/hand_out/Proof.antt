@@ -1,5 +1,5 @@
 -- `hand_out` meets its contract: it is refused, or the packets stand at the front of the buffer. Assumes nothing.
-use mathlib.Core.Path.{_≡_, sym, ap, _∙_}
+use mathlib.Core.Path.{_≡_, sym, _∙_}
 use borrow.Author.Needs.{needs}
 use lib.ListN.{length}
 use Rattle.setting.specs.Counters.{lastSlot}
@@ -25,7 +25,7 @@ returns : tie.Need-returns
 returns c =
     let call = c .before in
     let a = call .before .before .before .args in
-    let n = sym (call .hand-out-refusal .ensures) in (
+    let n = call .hand-out-refusal .ensures in (
       refused-frame (a .self) (a .r .0) (a .store .now) (a .out .now) n (c .if1 .taken),
       refused-buffer (a .self) (a .r .0) (a .store .now) (a .out .now) n (c .if1 .taken),
     )

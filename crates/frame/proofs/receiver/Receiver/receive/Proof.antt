@@ -7,7 +7,7 @@ use lib.ListN.{length}
 use Rattle.header.specs.declared.Reading.{Reading}
 use Rattle.header.specs.Header.{readRefusal}
 use Rattle.frame.specs.Packets.{unfit}
-use Rattle.frame.specs.Receiving.{good, broken, other, sortOf, receiveRefusal}
+use Rattle.frame.specs.Receiving.{receiveRefusal}
 use Rattle.frame.proofs.ReceiverChecks.{whole-packet, whole-store}
 use Rattle.frame.proofs.Sorts.{other-sort, broken-sort, good-sort, read-refusal, read-setting}
 use Rattle.frame.proofs.Receipts.{refused-receipt, refused-store, other-receipt, other-store, broken-receipt, broken-store, good-receipt, good-store}
@@ -37,7 +37,7 @@ returns : tie.Need-returns
 returns c =
     let call = c .before in
     let a = call .before .before .before .args in
-    let n = sym (call .receive-refusal .ensures) in (
+    let n = call .receive-refusal .ensures in (
       refused-receipt (a .self) (a .packet .now) (a .store .now) n (c .if1 .taken),
       refused-store (a .self) (a .packet .now) (a .store .now) n (c .if1 .taken),
     )

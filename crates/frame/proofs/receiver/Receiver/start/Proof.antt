@@ -1,11 +1,8 @@
 -- `start` meets its contract: the PID is allowed or not. Assumes nothing.
-use mathlib.Core.Path.{_≡_, refl, sym, ap, ap₂, _∙_}
-use mathlib.Core.Bool.{Bool, not, cond}
-use mathlib.Core.List.{[], _∷_}
+use mathlib.Core.Path.{refl, sym, _∙_}
 use borrow.Author.Needs.{needs}
 use borrow.Author.Tests.{not-true, not-false}
 use Rattle.setting.specs.Refusal.{firstOf}
-use Rattle.setting.specs.Rules.{pidAllowed}
 use Rattle.frame.specs.Receiving.{startReceiverOf}
 use Rattle.frame.proofs.receiver.Receiver.start.Statement.{statement}
 use Rattle.frame.proofs.receiver.Receiver.start.Tie as tie
