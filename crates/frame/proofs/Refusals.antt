@@ -99,7 +99,7 @@ rules-rise Kind.Extended s t b =
 
 -- ---- no check of a part has the number 0: where it answers 0, none holds
 
-numbered-append : (cs ds : List Check) → numbered cs ≡ true → numbered ds ≡ true → numbered (cs ++ ds) ≡ true
+pub numbered-append : (cs ds : List Check) → numbered cs ≡ true → numbered ds ≡ true → numbered (cs ++ ds) ≡ true
 numbered-append [] ds e f = f
 numbered-append (c ∷ cs) ds e f =
     let p = both (leb 1 (c .0)) (numbered cs) e in
