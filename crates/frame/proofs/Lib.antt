@@ -1,5 +1,7 @@
 mod Answers
+mod Closing
 mod Differ
+pub mod Passed
 mod Placing
 mod Refusals
 mod Rest

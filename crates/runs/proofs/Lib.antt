@@ -2,4 +2,3 @@ mod Carried
 pub mod Composed
 mod Filled
 mod Held
-mod Passed
