@@ -1,12 +1,14 @@
 mod Answers
+mod Closing
 mod Differ
-mod Numbered
+pub mod Numbered
+pub mod Passed
 mod Placing
 mod Receipts
 mod ReceiverChecks
 mod Refusals
 mod Rest
 pub mod Said
-mod Sorts
+pub mod Sorts
 mod Table
 mod Walk

@@ -24,6 +24,7 @@ use Rattle.frame.specs.declared.composer.Composer.{Composer}
 use Rattle.frame.specs.Packets.{packetLength, frameLength, unfit}
 use Rattle.frame.specs.Slots.{cleared, marksAfter, someUnfit, frameAfter, someUnplanned}
 use Rattle.frame.specs.Composing.{announced, differ, fresh, opened, marked, nextCounter, nextVersion, closing, closedWith, closed, asked, inTurn, announcedChecks, stateChecks, openRuleChecks, markChecks, openChecks, streamChecks, beginRefusal, putRefusal, closeRefusal}
+use Rattle.frame.proofs.Said.{version-narrow}
 use Rattle.runs.specs.Runs.{Call, begin, put, close, Each, none, more, OfTypes, Run, started, refusalOf, after}
 use Rattle.runs.specs.Work.{Work, added, workAfter, doneBy, worksOf, noWork, numbersFilled}
 use Rattle.runs.proofs.Carried.{length-slots}
@@ -255,11 +256,7 @@ one-announced = more refl (more refl (more refl (more refl (more refl none))))
 
 next-narrow : (c : Composer) → c .version < 2 ^ 3 → nextVersion c < 2 ^ 3
 unfolding nextVersion
-next-narrow c h = by-test (differ (announced (c .setting)) (c .last))
-  where
-    by-test : (b : Bool) → cond b ((c .version + 1) % 8) (c .version) < 2 ^ 3
-    by-test true = omega arith
-    by-test false = h
+next-narrow c = version-narrow (differ (announced (c .setting)) (c .last)) (c .version)
 
 busy-closed : (c : Composer) → Busy c oneMark → Idle (closed c)
 unfolding closed closedWith nextCounter

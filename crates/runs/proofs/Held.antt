@@ -21,11 +21,11 @@ use Rattle.frame.specs.declared.composer.Composer.{Composer}
 use Rattle.frame.specs.Packets.{packetLength, frameLength}
 use Rattle.frame.specs.Slots.{nulls, cleared, slotsAfter, marksAfter, someUnfit, frameAfter, numbersOf}
 use Rattle.frame.specs.Composing.{announced, opened, marked, nextCounter, nextVersion, saying, closing, closedWith, closed, answer, leaves, beginOf, begunFrame, putOf, putFrame, closeOf, closedFrame}
+use Rattle.frame.proofs.Passed.{Passes, begin-passed, PutPassed, put-passed, ClosePassed, close-passed}
 use Rattle.runs.specs.Runs.{Call, begin, put, close, Each, none, more, OfTypes, Run, refusalOf, after, closedBy, framesOf}
 use Rattle.runs.specs.Work.{Work, added, workAfter, doneBy, worksOf, slotsFilled, numbersFilled, said, versionBehind, headedBehind, frameOf}
 use Rattle.runs.proofs.Filled.{marksFilled, unfitFilled, EachWhole, whole-added, put-adds}
 use Rattle.runs.proofs.Carried.{numbers-filled, slots-none, marks-none, unfit-none}
-use Rattle.runs.proofs.Passed.{Passes, begin-passed, PutPassed, put-passed, ClosePassed, close-passed}
 
 -- ---- a refused call changes nothing
 

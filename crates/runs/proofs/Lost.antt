@@ -16,11 +16,12 @@ use Rattle.header.specs.Header.{readRefusal, readOf}
 use Rattle.frame.specs.declared.receiver.Stage.{Stage}
 use Rattle.frame.specs.Packets.{packetLength, frameLength, storeLength, slot, unfit}
 use Rattle.frame.specs.Slots.{numbered}
+use Rattle.frame.proofs.Sorts.{not-good}
 use Rattle.runs.specs.Runs.{Each, none, more}
 use Rattle.runs.specs.Losses.{Fate, kept, lost, spoiled, isKept, Sent, MayHappen, Refused, headerArrives, packetsArrive, arriving, Reception, afterPacket, handedOut, numbersIn, entire, wanted}
 use Rattle.runs.specs.Demands.{Asked}
 use Rattle.runs.proofs.Carried.{slot-next}
-use Rattle.runs.proofs.Table.{Opens, open-at, ready-at, Set, Follows, dropped, goes-on, Plain, not-good, joined, afterAll, StoredAll, stored-all, Bad, BadAll, bad-all, same-opens}
+use Rattle.runs.proofs.Table.{Opens, open-at, ready-at, Set, Follows, dropped, goes-on, Plain, joined, afterAll, StoredAll, stored-all, Bad, BadAll, bad-all, same-opens}
 use Rattle.runs.proofs.Vouched.{GoodFrame, good-set, good-opens, good-numbers, good-store, Owes, nothing, something, vouches}
 
 pub each-append : {A : Type 0} {P : A → Type 0} {xs ys : List A} → Each P xs → Each P ys → Each P (xs ++ ys)

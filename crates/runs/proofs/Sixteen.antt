@@ -19,6 +19,7 @@ use Rattle.frame.specs.Packets.{packetLength, frameLength, storeLength, slot, u
 use Rattle.frame.specs.Slots.{numbered, slotsFor}
 use Rattle.frame.specs.Composing.{announced, saying}
 use Rattle.frame.specs.Receiving.{waiting}
+use Rattle.frame.proofs.Numbered.{length-numbered}
 use Rattle.runs.specs.Runs.{Call, Each, none, more, OfTypes, started, framesOf}
 use Rattle.runs.specs.Work.{Work, noWork, worksOf, numbersFilled, said, headedBehind, headed, frameOf, added, taken}
 use Rattle.runs.specs.Composed.{headedBy}
@@ -26,7 +27,7 @@ use Rattle.runs.specs.Losses.{Fate, kept, lost, isKept, Sent, MayHappen,
 use Rattle.runs.specs.Demands.{Asked, NothingMixed, SixteenFail, headerAlone}
 use Rattle.runs.proofs.Composed.{Good, header-read, hold, each-good}
 use Rattle.runs.proofs.Table.{Set, Opens, Plain, joined, afterAll, StoredAll, stored-all}
-use Rattle.runs.proofs.Vouched.{length-numbered, GoodFrame, good-set, good-opens, good-numbers, Owes, nothing, something, vouches}
+use Rattle.runs.proofs.Vouched.{GoodFrame, good-set, good-opens, good-numbers, Owes, nothing, something, vouches}
 use Rattle.runs.proofs.Lost.{slot-behind, arrive-plain, arrive-entire, Counted, no-more, and-then, each-append}
 use Rattle.runs.proofs.Demands.{counted-run, first-of, fresh-waits, waiting-set, waiting-stage, map-append}
 use Rattle.runs.proofs.Accepts.{plan, thePid, oneSlot, thePacket, theWork, cycles, cycles-typed, zero-numbers, works-are}
@@ -340,7 +341,7 @@ one-slot = omega (arith, none-for 51)
 
 mixed-long : length mixed ≡ packetLength
 mixed-long =
-    length-numbered 1 (full .state .numbers) (full .store) (stored .set-then .store-long ∙ omega (arith, stored .set-then .numbers-long))
+    length-numbered 1 (full .state .numbers) (full .store) (omega (arith, stored .set-then .store-long, stored .set-then .numbers-long))
     ∙ ap (λ (ns : List ℕ). packetLength * slotsFor 1 ns) (stored .numbers-then ∙ good-numbers Kind.Plain thePid 0 f₀ start start-set g₀ ∙ first-numbers ∙ one-filled)
     ∙ omega (arith, one-slot)
 
