@@ -21,7 +21,7 @@ add-t11 c = search needs
 
 returns : tie.Need-returns
 unfolding rowOf
-returns c = rw (c .before .before .stage .given .1) (sym (kept _ _ 0 (c .if1 .taken)))
+returns c = rw (c .before .before .stage .given .1) (sym (kept _ _ 0 (omega arith)))
 
 enum-known-stage-2 : tie.Need-enum-known-stage-2
 enum-known-stage-2 c = search needs
@@ -32,7 +32,7 @@ returns-2 c = rw (c .enum-told .given .1) refl
 
 returns-3 : tie.Need-returns-3
 unfolding rowOf
-returns-3 c = rw (c .before .before .stage .given .1) (sym (long _ _ 0 (c .if1 .left)))
+returns-3 c = rw (c .before .before .stage .given .1) (sym (long _ _ 0 (omega arith)))
 
 returns-4 : tie.Need-returns-4
 unfolding rowOf

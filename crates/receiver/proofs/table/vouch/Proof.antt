@@ -10,7 +10,7 @@ cast-if1 : tie.Need-cast-if1
 cast-if1 c = search needs
 
 returns : tie.Need-returns
-returns c = sym (short _ _ _ (c .if1 .taken))
+returns c = sym (short _ _ _ (omega arith))
 
 cast-if2 : tie.Need-cast-if2
 cast-if2 c = search needs
