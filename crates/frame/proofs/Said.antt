@@ -1,8 +1,8 @@
 -- What a closed frame's header says meets the rules, since the open frame's setting does. Assumes nothing.
-use Prim.Native.Nat.{ℕ, zero, suc, _+_, _%_, _^_, _≤_, _<_}
-use mathlib.Core.Path.{_≡_, refl, sym, ap, ap₂, subst, _∙_}
-use mathlib.Core.Bool.{Bool, true, false, cond, not, _&&_}
-use mathlib.Core.List.{List, [], _∷_, _++_}
+use Prim.Native.Nat.{ℕ, zero, suc, _+_, _%_, _^_, _<_}
+use mathlib.Core.Path.{_≡_, refl, sym, ap, subst, _∙_}
+use mathlib.Core.Bool.{Bool, true, false, cond}
+use mathlib.Core.List.{List, [], _∷_}
 use native.Mathlib.Omega.{arith}
 use borrow.Author.Tests.{lt-leb}
 use native.Mathlib.Decide.{decLt}
@@ -10,11 +10,9 @@ use lib.Dec.{lit<}
 use lib.ListN.{length, getD, List·getD-eq-default}
 use Rattle.bits.specs.Fields.{Fit}
 use Rattle.bits.proofs.Laws.{fit-of, fit-getD}
-use Rattle.slices.specs.Slices.{anyBelow, someAtLeast}
 use Rattle.slices.proofs.Any.{any-no, any-each}
 use Rattle.setting.specs.declared.Kind.{Kind}
 use Rattle.setting.specs.declared.Setting.{Setting}
-use Rattle.setting.specs.Counters.{lastSlot}
 use Rattle.setting.specs.Setting.{OfItsTypes}
 use Rattle.setting.specs.Refusal.{NoneHolds, more}
 use Rattle.setting.specs.Rules.{pidAllowed, unavailable, someUnavailable, absentChecks, widthChecks, bondingChecks, ruleChecks}

@@ -1,17 +1,17 @@
 -- A run that is not refused: one frame after another with the same setting, each with one packet placed. Assumes nothing.
-use Prim.Native.Nat.{ℕ, zero, suc, _+_, _*_, _%_, _^_, _≤_, _<_}
+use Prim.Native.Nat.{ℕ, zero, suc, _+_, _*_, _%_, _^_, _<_}
 use mathlib.Core.Path.{_≡_, refl, sym, ap, ap₂, subst, _∙_}
-use mathlib.Core.Bool.{Bool, true, false, cond, not, _&&_, _||_}
+use mathlib.Core.Bool.{Bool, true, false, not, _&&_, _||_}
 use mathlib.Core.List.{List, [], _∷_, _++_}
 use native.Mathlib.Omega.{arith}
-use borrow.Author.Tests.{lt-leb, eq-eqb}
-use lib.Dec.{lit<, leb, eqb}
-use lib.ListN.{length, take, drop, replicate, length-drop, length-replicate}
-use Rattle.bits.specs.Fields.{Fit, bitsOf, number, run, cut}
+use borrow.Author.Tests.{lt-leb}
+use lib.Dec.{lit<, eqb}
+use lib.ListN.{length, drop, replicate, length-drop, length-replicate}
+use Rattle.bits.specs.Fields.{bitsOf, number, run, cut}
 use Rattle.slices.specs.Slices.{anyBelow, someAtLeast}
 use Rattle.setting.specs.declared.Kind.{Kind}
 use Rattle.setting.specs.declared.Setting.{Setting}
-use Rattle.setting.specs.Counters.{firstStream, lastStream, lastSlot, within}
+use Rattle.setting.specs.Counters.{lastStream, lastSlot}
 use Rattle.setting.specs.Setting.{privateBytes, auxiliaryBytes, blank, OfItsTypes}
 use Rattle.setting.specs.Refusal.{Check, firstOf, NoneHolds, none, more}
 use Rattle.setting.specs.Rules.{pidAllowed, available, someUnavailable, pairTwice, absentChecks, widthChecks, bondingChecks, ruleChecks}
@@ -19,11 +19,10 @@ use Rattle.setting.proofs.Refusals.{first-none, none-append, width-none, rule-n
 use Rattle.setting.proofs.Fields.{fit-some}
 use Rattle.header.specs.Rows.{place, rowAt}
 use Rattle.header.specs.Layout.{startRows}
-use Rattle.frame.specs.declared.composer.Announced.{Announced}
 use Rattle.frame.specs.declared.composer.Composer.{Composer}
 use Rattle.frame.specs.Packets.{packetLength, frameLength, unfit}
-use Rattle.frame.specs.Slots.{cleared, marksAfter, someUnfit, frameAfter, someUnplanned}
-use Rattle.frame.specs.Composing.{announced, differ, fresh, opened, marked, nextCounter, nextVersion, closing, closedWith, closed, asked, inTurn, announcedChecks, stateChecks, openRuleChecks, markChecks, openChecks, streamChecks, beginRefusal, putRefusal, closeRefusal}
+use Rattle.frame.specs.Slots.{marksAfter, someUnfit, someUnplanned}
+use Rattle.frame.specs.Composing.{announced, differ, fresh, opened, marked, nextCounter, nextVersion, closedWith, closed, asked, inTurn, announcedChecks, stateChecks, openRuleChecks, markChecks, openChecks, streamChecks, beginRefusal, putRefusal, closeRefusal}
 use Rattle.frame.proofs.Said.{version-narrow}
 use Rattle.runs.specs.Runs.{Call, begin, put, close, Each, none, more, OfTypes, Run, started, refusalOf, after}
 use Rattle.runs.specs.Work.{Work, added, workAfter, doneBy, worksOf, noWork, numbersFilled}

@@ -1,7 +1,7 @@
 -- What the slots of a frame carry: their numbers, their lengths, a stream's packets, and that each is fit. Assumes nothing.
-use Prim.Native.Nat.{ℕ, zero, suc, _+_, _*_, _%_, _≤_, _<_}
-use mathlib.Core.Path.{_≡_, refl, sym, ap, ap₂, subst, _∙_}
-use mathlib.Core.Bool.{Bool, true, false, cond, not, _&&_, _||_, and-false, true≢false}
+use Prim.Native.Nat.{ℕ, zero, suc, _+_, _*_, _≤_, _<_}
+use mathlib.Core.Path.{_≡_, refl, sym, ap, ap₂, _∙_}
+use mathlib.Core.Bool.{Bool, true, false, not, _&&_, and-false, true≢false}
 use mathlib.Core.List.{List, [], _∷_, _++_}
 use native.Mathlib.Omega.{arith}
 use native.Mathlib.Decide.{ℕ-discrete, decLe}
@@ -17,7 +17,7 @@ use Rattle.frame.specs.Packets.{packetLength, nullPacket, slot, unfit}
 use Rattle.frame.specs.Slots.{nulls, numbersOf}
 use Rattle.receiver.specs.Store.{numbered, slotsFor}
 use Rattle.runs.specs.Work.{carries, taken, slotsFilled, numbersFilled}
-use Rattle.runs.proofs.Filled.{marksFilled, unfitFilled, Whole, EachWhole, whole-none, whole-taken, Slot, carried, idle}
+use Rattle.runs.proofs.Filled.{marksFilled, unfitFilled, EachWhole, whole-none, whole-taken, Slot, carried, idle}
 
 -- ---- by whether the first slot carries a packet
 

@@ -1,24 +1,22 @@
 -- The promises on the frames that a run closes. Assumes nothing.
 use Prim.Native.Nat.{ℕ, zero, suc, _+_, _*_, _%_, _^_, _≤_, _<_}
-use mathlib.Core.Path.{_≡_, refl, sym, ap, ap₂, subst, _∙_}
-use mathlib.Core.Bool.{true, false, not, _&&_, _||_, or-true, false≢true}
-use mathlib.Core.List.{List, [], _∷_, _++_, map}
+use mathlib.Core.Path.{_≡_, refl, ap, ap₂, subst, _∙_}
+use mathlib.Core.Bool.{true, false, not, or-true, false≢true}
+use mathlib.Core.List.{List, [], _∷_, map}
 use native.Mathlib.Omega.{arith}
-use native.Mathlib.Decide.{ℕ-discrete}
 use borrow.Author.Tests.{ne-eqb, eqb-true, leb-true, not-false}
 use lib.Dec.{lit<, leb, eqb}
-use lib.ListN.{length, take, drop, length-append}
-use Rattle.bits.proofs.Laws.{length-cut}
+use lib.ListN.{length, take, length-append}
 use Rattle.slices.proofs.Any.{both}
 use Rattle.setting.specs.declared.Kind.{Kind}
 use Rattle.setting.specs.declared.Setting.{Setting}
-use Rattle.setting.specs.Counters.{firstStream, firstSlot, lastSlot, within}
+use Rattle.setting.specs.Counters.{firstStream, firstSlot, lastSlot}
 use Rattle.setting.specs.Setting.{blank, OfItsTypes}
 use Rattle.setting.specs.Refusal.{firstOf}
 use Rattle.setting.specs.Rules.{pidAllowed, ruleChecks}
 use Rattle.setting.proofs.Refusals.{none-at}
 use Rattle.setting.proofs.Fields.{at-most}
-use Rattle.header.specs.Header.{headerLength, header, readOf, writeRefusal, written}
+use Rattle.header.specs.Header.{header, readOf}
 use Rattle.header.specs.Demands.{MeetsRules}
 use Rattle.header.proofs.RoundTrip.{written-and-read-back}
 use Rattle.header.proofs.Calls.{made}
@@ -27,7 +25,7 @@ use Rattle.frame.specs.declared.composer.Announced.{Announced}
 use Rattle.frame.specs.Packets.{packetLength, frameLength, nullPacket, slot, unfit}
 use Rattle.frame.specs.Composing.{announced, differ, saying, fresh, answer, startOf}
 use Rattle.receiver.specs.Store.{numbered, slotsFor}
-use Rattle.runs.specs.Runs.{Call, Each, none, more, OfTypes, Run, started, framesOf}
+use Rattle.runs.specs.Runs.{Call, Each, none, more, OfTypes, started, framesOf}
 use Rattle.runs.specs.Work.{Work, noWork, worksOf, slotsFilled, numbersFilled, said, versionBehind, headedBehind, headed, frameOf}
 use Rattle.runs.specs.Composed.{headedBy, FramesHold, HeadersRead, FrontsPlaced, PacketsFit}
 use Rattle.runs.proofs.Filled.{marksFilled, length-null}

@@ -1,19 +1,17 @@
 -- Demands 2 and 3 over frames. Assumes nothing.
-use Prim.Native.Nat.{ℕ, zero, suc, _+_, _*_, _%_, _^_, _≤_, _<_}
+use Prim.Native.Nat.{ℕ, suc, _+_, _*_, _%_, _^_, _≤_, _<_}
 use mathlib.Core.Path.{_≡_, refl, sym, ap, ap₂, subst, _∙_}
-use mathlib.Core.Bool.{Bool, true, false, cond, _&&_}
+use mathlib.Core.Bool.{Bool, true, false}
 use mathlib.Core.List.{List, [], _∷_, _++_, map, append-nil, append-assoc}
 use native.Mathlib.Omega.{arith}
 use lib.Dec.{lit<}
 use lib.ListN.{length, take, drop, replicate, length-append}
 use lib.Seq.{drop-at}
 use Rattle.bits.specs.Fields.{Fit}
-use Rattle.bits.proofs.Laws.{fit-of}
 use Rattle.slices.specs.Slices.{anyBelow, someAtLeast}
 use Rattle.setting.specs.declared.Kind.{Kind}
 use Rattle.setting.specs.declared.Setting.{Setting}
-use Rattle.setting.specs.Counters.{firstSlot, lastSlot}
-use Rattle.setting.specs.Refusal.{firstOf}
+use Rattle.setting.specs.Counters.{lastSlot}
 use Rattle.setting.specs.Rules.{pidAllowed, widthChecks}
 use Rattle.setting.proofs.Refusals.{none-at}
 use Rattle.setting.proofs.Fields.{fit-some}
@@ -21,7 +19,7 @@ use Rattle.header.specs.declared.Reading.{Reading}
 use Rattle.header.specs.Header.{header}
 use Rattle.header.proofs.Whole.{length-header}
 use Rattle.frame.specs.declared.composer.Announced.{Announced}
-use Rattle.frame.specs.Packets.{packetLength, frameLength, slot, unfit}
+use Rattle.frame.specs.Packets.{packetLength, unfit}
 use Rattle.frame.specs.Composing.{announced, saying}
 use Rattle.receiver.specs.declared.table.Stage.{Stage}
 use Rattle.receiver.specs.Store.{storeLength, numbered, slotsFor}
@@ -29,12 +27,12 @@ use Rattle.receiver.specs.Receiving.{waiting, startReceiverOf}
 use Rattle.runs.specs.Runs.{Call, Each, none, more, OfTypes, started, framesOf}
 use Rattle.runs.specs.Work.{Work, noWork, worksOf, slotsFilled, said, versionBehind, headedBehind, headed, frameOf}
 use Rattle.runs.specs.Composed.{headedBy}
-use Rattle.runs.specs.Losses.{Fate, kept, isKept, Sent, MayHappen, InARowAtMost, arriving, Reception, freshWith, handedOut, numbersIn, entire, wanted}
+use Rattle.runs.specs.Losses.{isKept, Sent, MayHappen, InARowAtMost, arriving, Reception, freshWith, handedOut, numbersIn, wanted}
 use Rattle.runs.specs.Demands.{Asked, DemandThree, whole, headerAlone, PacketForPacket, placedIn, RunForRun}
 use Rattle.runs.proofs.Held.{Done}
 use Rattle.runs.proofs.Composed.{Good, said-good, version-behind, header-read, front-placed, frame-length, packet-fit, works-done, hold, each-good}
 use Rattle.runs.proofs.Table.{Set, waits}
-use Rattle.runs.proofs.Vouched.{GoodFrame, Owes, nothing}
+use Rattle.runs.proofs.Vouched.{GoodFrame, nothing}
 use Rattle.runs.proofs.Lost.{slot-behind, Counted, no-more, and-then, InRow, end, here, gone, comes-out, first-none}
 
 -- ---- the frames of a run

@@ -1,13 +1,12 @@
 -- A run, call by call: the open frame's slots carry what its work describes. Assumes nothing.
-use Prim.Native.Nat.{ℕ, zero, suc, _+_, _*_, _%_, _^_, _≤_, _<_}
-use mathlib.Core.Path.{_≡_, refl, sym, ap, ap₂, subst, _∙_}
-use mathlib.Core.Bool.{Bool, true, false, cond, not, _&&_, true≢false, false≢true}
+use Prim.Native.Nat.{ℕ, _+_, _%_, _≤_}
+use mathlib.Core.Path.{_≡_, refl, sym, ap, ap₂, _∙_}
+use mathlib.Core.Bool.{Bool, true, false, false≢true}
 use mathlib.Core.List.{List, [], _∷_, _++_, map}
 use native.Mathlib.Omega.{arith}
 use native.Mathlib.Decide.{ℕ-discrete}
 use borrow.Author.Tests.{ne-eqb}
-use lib.Dec.{eqb}
-use lib.ListN.{length, take, drop, replicate, length-append}
+use lib.ListN.{length, take, drop, replicate}
 use lib.Seq.{drop-at, length-take-le}
 use Rattle.setting.specs.declared.Kind.{Kind}
 use Rattle.setting.specs.declared.Setting.{Setting}
@@ -19,11 +18,11 @@ use Rattle.header.specs.Header.{header}
 use Rattle.frame.specs.declared.composer.Announced.{Announced}
 use Rattle.frame.specs.declared.composer.Composer.{Composer}
 use Rattle.frame.specs.Packets.{packetLength, frameLength}
-use Rattle.frame.specs.Slots.{nulls, cleared, slotsAfter, marksAfter, someUnfit, frameAfter, numbersOf}
-use Rattle.frame.specs.Composing.{announced, opened, marked, nextCounter, nextVersion, saying, closing, closedWith, closed, answer, leaves, beginOf, begunFrame, putOf, putFrame, closeOf, closedFrame}
-use Rattle.frame.proofs.Passed.{Passes, begin-passed, PutPassed, put-passed, ClosePassed, close-passed}
+use Rattle.frame.specs.Slots.{nulls, cleared, slotsAfter, marksAfter, someUnfit, frameAfter}
+use Rattle.frame.specs.Composing.{announced, opened, marked, nextCounter, nextVersion, closing, closedWith, closed, answer, leaves, beginOf, begunFrame, putOf, putFrame, closeOf, closedFrame}
+use Rattle.frame.proofs.Passed.{begin-passed, PutPassed, put-passed, ClosePassed, close-passed}
 use Rattle.runs.specs.Runs.{Call, begin, put, close, Each, none, more, OfTypes, Run, refusalOf, after, closedBy, framesOf}
-use Rattle.runs.specs.Work.{Work, added, workAfter, doneBy, worksOf, slotsFilled, numbersFilled, said, versionBehind, headedBehind, frameOf}
+use Rattle.runs.specs.Work.{Work, added, workAfter, doneBy, worksOf, slotsFilled, said, versionBehind, headedBehind, frameOf}
 use Rattle.runs.proofs.Filled.{marksFilled, unfitFilled, EachWhole, whole-added, put-adds}
 use Rattle.runs.proofs.Carried.{numbers-filled, slots-none, marks-none, unfit-none}
 

@@ -1,5 +1,5 @@
 -- A run with packets lost and headers spoiled, frame by frame: nothing comes out but whole frames. Assumes nothing.
-use Prim.Native.Nat.{ℕ, zero, suc, _+_, _*_, _%_, _^_, _≤_, _<_}
+use Prim.Native.Nat.{ℕ, suc, _+_, _*_, _%_, _≤_, _<_}
 use mathlib.Core.Path.{_≡_, refl, sym, ap, ap₂, subst, _∙_}
 use mathlib.Core.Bool.{Bool, true, false, cond, _&&_, and-false, true≢false}
 use mathlib.Core.List.{List, [], _∷_, _++_, map, append-nil, append-assoc}
@@ -9,20 +9,17 @@ use lib.Dec.{eqb}
 use lib.ListN.{length, take, drop, length-drop, drop-of-length-le, take-append-drop}
 use lib.Seq.{length-take-le, drop-drop}
 use Rattle.setting.specs.declared.Kind.{Kind}
-use Rattle.setting.specs.declared.Setting.{Setting}
 use Rattle.setting.specs.Counters.{lastSlot}
 use Rattle.header.specs.declared.Reading.{Reading}
-use Rattle.header.specs.Header.{readRefusal, readOf}
-use Rattle.frame.specs.Packets.{packetLength, frameLength, slot, unfit}
+use Rattle.frame.specs.Packets.{packetLength, slot, unfit}
 use Rattle.receiver.specs.declared.table.Stage.{Stage}
 use Rattle.receiver.specs.Store.{storeLength, numbered}
 use Rattle.receiver.proofs.Sorts.{not-good}
 use Rattle.runs.specs.Runs.{Each, none, more}
 use Rattle.runs.specs.Losses.{Fate, kept, lost, spoiled, isKept, Sent, MayHappen, Refused, headerArrives, packetsArrive, arriving, Reception, afterPacket, handedOut, numbersIn, entire, wanted}
 use Rattle.runs.specs.Demands.{Asked}
-use Rattle.runs.proofs.Carried.{slot-next}
-use Rattle.runs.proofs.Table.{Opens, open-at, ready-at, Set, Follows, dropped, goes-on, Plain, joined, afterAll, StoredAll, stored-all, Bad, BadAll, bad-all, same-opens}
-use Rattle.runs.proofs.Vouched.{GoodFrame, good-set, good-opens, good-numbers, good-store, Owes, nothing, something, vouches}
+use Rattle.runs.proofs.Table.{Opens, open-at, ready-at, Set, Follows, dropped, goes-on, Plain, joined, afterAll, StoredAll, stored-all, Bad, bad-all, same-opens}
+use Rattle.runs.proofs.Vouched.{GoodFrame, good-set, good-opens, good-numbers, Owes, nothing, something, vouches}
 
 pub each-append : {A : Type 0} {P : A → Type 0} {xs ys : List A} → Each P xs → Each P ys → Each P (xs ++ ys)
 each-append none q = q

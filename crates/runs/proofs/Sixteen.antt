@@ -1,12 +1,12 @@
 -- With sixteen headers lost in a row the promise fails: of eighteen frames 51 packets of the first and one of the seventeenth arrive between the
 -- first header and the last, whose counter is one more, and come out as one frame. Assumes nothing.
-use Prim.Native.Nat.{ℕ, zero, suc, _+_, _*_, _%_, _^_, _≤_, _<_}
+use Prim.Native.Nat.{ℕ, zero, suc, _+_, _*_, _%_, _^_, _<_}
 use mathlib.Core.Path.{_≡_, refl, sym, ap, ap₂, subst, _∙_}
-use mathlib.Core.Bool.{Bool, true, false, cond, not, _&&_, and-false}
+use mathlib.Core.Bool.{Bool, true, false, cond, _&&_, and-false}
 use mathlib.Core.List.{List, [], _∷_, _++_, map, append-nil, append-assoc}
 use native.Mathlib.Omega.{arith}
 use borrow.Author.Tests.{eq-eqb}
-use lib.Dec.{lit<, eqb}
+use lib.Dec.{lit<}
 use lib.ListN.{length, take, drop, replicate, length-append, length-drop, length-replicate}
 use lib.Seq.{length-take-le}
 use Rattle.setting.specs.declared.Kind.{Kind}
@@ -14,21 +14,21 @@ use Rattle.setting.specs.declared.Setting.{Setting}
 use Rattle.setting.specs.Counters.{lastSlot}
 use Rattle.header.specs.declared.Reading.{Reading}
 use Rattle.frame.specs.declared.composer.Announced.{Announced}
-use Rattle.frame.specs.Packets.{packetLength, frameLength, slot, unfit}
+use Rattle.frame.specs.Packets.{packetLength, slot, unfit}
 use Rattle.frame.specs.Composing.{announced, saying}
 use Rattle.receiver.specs.declared.Receiver.{Receiver}
 use Rattle.receiver.specs.Store.{storeLength, numbered, slotsFor}
 use Rattle.receiver.specs.Receiving.{waiting}
 use Rattle.receiver.proofs.Handing.{length-numbered}
-use Rattle.runs.specs.Runs.{Call, Each, none, more, OfTypes, started, framesOf}
-use Rattle.runs.specs.Work.{Work, noWork, worksOf, numbersFilled, said, headedBehind, headed, frameOf, added, taken}
+use Rattle.runs.specs.Runs.{Call, Each, none, more, started, framesOf}
+use Rattle.runs.specs.Work.{Work, numbersFilled, said, headedBehind, headed, frameOf, added, taken}
 use Rattle.runs.specs.Composed.{headedBy}
-use Rattle.runs.specs.Losses.{Fate, kept, lost, isKept, Sent, MayHappen, InARowAtMost, headerArrives, packetsArrive, arriving, Reception, afterPacket, freshWith, handedOut, entire, wanted}
-use Rattle.runs.specs.Demands.{Asked, NothingMixed, SixteenFail, headerAlone}
+use Rattle.runs.specs.Losses.{kept, lost, isKept, Sent, MayHappen, InARowAtMost, headerArrives, packetsArrive, arriving, Reception, afterPacket, freshWith, handedOut, entire, wanted}
+use Rattle.runs.specs.Demands.{Asked, SixteenFail, headerAlone}
 use Rattle.runs.proofs.Composed.{Good, header-read, hold, each-good}
-use Rattle.runs.proofs.Table.{Set, Opens, Plain, joined, afterAll, StoredAll, stored-all}
+use Rattle.runs.proofs.Table.{Set, Plain, afterAll, StoredAll, stored-all}
 use Rattle.runs.proofs.Vouched.{GoodFrame, good-set, good-opens, good-numbers, Owes, nothing, something, vouches}
-use Rattle.runs.proofs.Lost.{slot-behind, arrive-plain, arrive-entire, Counted, no-more, and-then, each-append}
+use Rattle.runs.proofs.Lost.{slot-behind, arrive-plain, arrive-entire, Counted, and-then, each-append}
 use Rattle.runs.proofs.Demands.{counted-run, first-of, fresh-waits, waiting-set, waiting-stage, map-append}
 use Rattle.runs.proofs.Accepts.{plan, thePid, oneSlot, thePacket, theWork, cycles, cycles-typed, zero-numbers, works-are}
 

@@ -1,34 +1,31 @@
 -- A receiver packet by packet: what it stands at, and what each sort of packet does. Assumes nothing.
-use Prim.Native.Nat.{ℕ, zero, suc, _+_, _-_, _*_, _%_, _^_, _≤_, _<_}
+use Prim.Native.Nat.{ℕ, suc, _+_, _-_, _*_, _^_, _≤_, _<_}
 use mathlib.Core.Path.{_≡_, refl, sym, ap, ap₂, subst, _∙_}
-use mathlib.Core.Bool.{Bool, true, false, cond, not, _&&_, true≢false, false≢true}
+use mathlib.Core.Bool.{Bool, true, false, cond, not}
 use mathlib.Core.List.{List, [], _∷_, _++_, append-nil, append-assoc}
 use native.Mathlib.Omega.{arith}
-use native.Mathlib.Decide.{ℕ-discrete, decLt}
-use borrow.Author.Tests.{eq-eqb, ne-eqb, not-false, lt-leb, lt-ltb, le-ltb, le-leb}
-use lib.Dec.{leb, ltb, eqb}
+use native.Mathlib.Decide.{decLt}
+use borrow.Author.Tests.{eq-eqb, ne-eqb, lt-leb, lt-ltb, le-ltb}
+use lib.Dec.{ltb, eqb}
 use lib.ListN.{length, take, drop, length-append, length-drop}
 use lib.Seq.{length-take-le, take-at, drop-append-add, drop-drop}
 use Rattle.bits.specs.Fields.{Fit}
-use Rattle.slices.specs.Slices.{someAtLeast}
 use Rattle.setting.specs.declared.Kind.{Kind}
-use Rattle.setting.specs.declared.Setting.{Setting}
-use Rattle.setting.specs.Counters.{firstStream, lastStream, lastSlot}
-use Rattle.setting.specs.Refusal.{Check, firstOf, NoneHolds, none, more}
-use Rattle.setting.specs.Rules.{pidAllowed, ruleChecks}
-use Rattle.setting.proofs.Refusals.{first-none, none-first, none-at, none-append}
+use Rattle.setting.specs.Counters.{lastSlot}
+use Rattle.setting.specs.Refusal.{NoneHolds, none, more}
+use Rattle.setting.specs.Rules.{pidAllowed}
+use Rattle.setting.proofs.Refusals.{first-none, none-append}
 use Rattle.setting.proofs.Fields.{some-fit}
-use Rattle.header.specs.Layout.{syncByte}
-use Rattle.header.specs.Header.{startValue, callChecks, packetChecks, readRefusal, reading, readOf}
+use Rattle.header.specs.Header.{readRefusal, reading}
 use Rattle.frame.specs.Packets.{packetLength, unfit}
 use Rattle.frame.specs.Composing.{leaves}
 use Rattle.receiver.specs.declared.table.Stage.{Stage}
 use Rattle.receiver.specs.declared.table.Event.{Event}
 use Rattle.receiver.specs.declared.table.Row.{Row}
 use Rattle.receiver.specs.declared.Receiver.{Receiver}
-use Rattle.receiver.specs.Store.{storeLength, numbered, slotsFor, over}
-use Rattle.receiver.specs.Table.{makesReady, Sort, good, broken, other, sortOf, counterStep, row, openRow, rowOf, storedOf, storeAfter, isReady}
-use Rattle.receiver.specs.Receiving.{moved, renumbered, receiverAfter, stageChecks, receiverChecks, receiveRefusal, rowFor, receiveOf, receiveStore, handOutRefusal, handOutOf, handOutBuffer}
+use Rattle.receiver.specs.Store.{storeLength, over}
+use Rattle.receiver.specs.Table.{makesReady, Sort, good, broken, other, sortOf, row, openRow, rowOf, storedOf, storeAfter}
+use Rattle.receiver.specs.Receiving.{moved, receiverAfter, stageChecks, receiverChecks, receiveRefusal, rowFor, receiveOf, receiveStore}
 use Rattle.receiver.proofs.Sorts.{not-good}
 use Rattle.runs.specs.Runs.{Each, none, more}
 use Rattle.runs.specs.Losses.{Reception, afterPacket, handed, handedOut}

@@ -1,19 +1,19 @@
 -- A good header: it opens its frame from anywhere, and vouches for the one before it where that is whole. Assumes nothing.
-use Prim.Native.Nat.{ℕ, zero, suc, _+_, _-_, _*_, _%_, _^_, _≤_, _<_}
+use Prim.Native.Nat.{ℕ, suc, _+_, _-_, _*_, _%_, _^_, _≤_, _<_}
 use mathlib.Core.Path.{_≡_, refl, sym, ap, ap₂, subst, _∙_}
-use mathlib.Core.Bool.{Bool, true, false, cond, not, _&&_, and-false}
+use mathlib.Core.Bool.{Bool, true, false, cond, not, _&&_}
 use mathlib.Core.List.{List, [], _∷_, _++_}
 use native.Mathlib.Omega.{arith}
-use native.Mathlib.Decide.{ℕ-discrete, decLt}
-use borrow.Author.Tests.{eq-eqb, ne-eqb, lt-ltb, le-ltb, le-leb}
-use lib.Dec.{leb, ltb, eqb}
-use lib.ListN.{length, take, drop, length-append, length-drop}
+use native.Mathlib.Decide.{ℕ-discrete}
+use borrow.Author.Tests.{eq-eqb, ne-eqb, le-ltb, le-leb}
+use lib.Dec.{ltb, eqb}
+use lib.ListN.{length, drop}
 use lib.Seq.{length-take-le, take-at}
 use Rattle.bits.specs.Fields.{Fit}
 use Rattle.setting.specs.declared.Kind.{Kind}
 use Rattle.setting.specs.declared.Setting.{Setting}
-use Rattle.setting.specs.Counters.{firstStream, lastStream, lastSlot, within}
-use Rattle.setting.specs.Refusal.{NoneHolds, none, more}
+use Rattle.setting.specs.Counters.{firstStream, lastStream, lastSlot}
+use Rattle.setting.specs.Refusal.{none, more}
 use Rattle.setting.proofs.Refusals.{first-none, none-append}
 use Rattle.header.specs.declared.Reading.{Reading}
 use Rattle.header.specs.Header.{readRefusal, reading, readOf}
@@ -22,10 +22,9 @@ use Rattle.frame.specs.Composing.{leaves}
 use Rattle.receiver.specs.declared.table.Stage.{Stage}
 use Rattle.receiver.specs.declared.table.Event.{Event}
 use Rattle.receiver.specs.declared.table.Row.{Row}
-use Rattle.receiver.specs.declared.Receiver.{Receiver}
 use Rattle.receiver.specs.Store.{storeLength, numbered, slotsFor, over}
 use Rattle.receiver.specs.Table.{makesReady, Sort, good, broken, other, sortOf, counterStep, row, openRow, rowOf, storeAfter, isReady}
-use Rattle.receiver.specs.Receiving.{renumbered, receiverAfter, rowFor, receiveOf, receiverChecks, handOutRefusal, handOutOf, handOutBuffer}
+use Rattle.receiver.specs.Receiving.{renumbered, receiverAfter, rowFor, receiveOf, handOutRefusal, handOutOf, handOutBuffer}
 use Rattle.receiver.proofs.Handing.{length-numbered}
 use Rattle.runs.specs.Losses.{Reception, afterPacket, handed, handedOut}
 use Rattle.runs.specs.Demands.{Asked}

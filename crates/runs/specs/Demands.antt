@@ -13,7 +13,7 @@ use Rattle.receiver.specs.Store.{storeLength, slotsFor}
 use Rattle.runs.specs.Runs.{Call, Each, OfTypes, started, framesOf}
 use Rattle.runs.specs.Work.{Work, frameOf}
 use Rattle.runs.specs.Composed.{headedBy}
-use Rattle.runs.specs.Losses.{Fate, kept, Sent, MayHappen, InARowAtMost, arriving, freshWith, handedOut, wanted}
+use Rattle.runs.specs.Losses.{kept, Sent, MayHappen, InARowAtMost, arriving, freshWith, handedOut, wanted}
 
 -- a stream number, a store, and a buffer with room for every packet of a frame
 pub record Asked (r : ℕ) (store out : List ℕ) : Type 0 where
