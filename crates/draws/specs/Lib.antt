@@ -1,0 +1,2 @@
+-- Draws: what a state gives and becomes.
+pub mod Draws
