@@ -1,9 +1,8 @@
 // Numbers drawn from one state of 32 bits: what programs make their cases of.
 ghost use mathlib.Core.Path.{_≡_};
-ghost use mathlib.Core.List.{map};
 ghost use Prim.Native.Nat.{_-_, _≤_};
 ghost use lib.ListN.{length};
-ghost use Rattle.draws.specs.Draws.{next, drawn, after, drawnList, limited, limitedByte};
+ghost use Rattle.draws.specs.Draws.{next, drawn, after, drawnList, whole, limited, limitedByte};
 
 pub mod settings;
 
@@ -40,7 +39,7 @@ pub fn byte_below(state: &mut u32, n: u16) -> u8
 }
 
 pub fn draw_words(state: &mut u32, values: &mut [u16])
-    ensures { λ _. ⌜ now (values .exit) ≡ drawnList (length (now (values .entry))) (now (state .entry)) ⌝ }
+    ensures { λ _. ⌜ now (values .exit) ≡ drawnList whole (length (now (values .entry))) (now (state .entry)) ⌝ }
     ensures { λ _. ⌜ now (state .exit) ≡ after (length (now (values .entry))) (now (state .entry)) ⌝ }
 {
     let mut i = 0;
@@ -51,7 +50,7 @@ pub fn draw_words(state: &mut u32, values: &mut [u16])
 }
 
 pub fn draw_bytes(state: &mut u32, values: &mut [u8], n: u16)
-    ensures { λ _. ⌜ now (values .exit) ≡ map (limitedByte n) (drawnList (length (now (values .entry))) (now (state .entry))) ⌝ }
+    ensures { λ _. ⌜ now (values .exit) ≡ drawnList (limitedByte n) (length (now (values .entry))) (now (state .entry)) ⌝ }
     ensures { λ _. ⌜ now (state .exit) ≡ after (length (now (values .entry))) (now (state .entry)) ⌝ }
 {
     let mut i = 0;
