@@ -99,7 +99,7 @@ rules-rise Kind.Extended s t b =
 
 -- ---- no check of a part has the number 0: where it answers 0, none holds
 
-numbered-append : (cs ds : List Check) → numbered cs ≡ true → numbered ds ≡ true → numbered (cs ++ ds) ≡ true
+pub numbered-append : (cs ds : List Check) → numbered cs ≡ true → numbered ds ≡ true → numbered (cs ++ ds) ≡ true
 numbered-append [] ds e f = f
 numbered-append (c ∷ cs) ds e f =
     let p = both (leb 1 (c .0)) (numbered cs) e in
@@ -135,10 +135,12 @@ pub announced-none : (a : Announced) → firstOf (announcedChecks a) ≡ 0 → N
 unfolding announcedChecks
 announced-none a e = none-first (announcedChecks a) refl e
 
-pub state-none : (c : Composer) → firstOf (stateChecks c) ≡ 0 → NoneHolds (stateChecks c)
+pub state-numbered : (c : Composer) → numbered (stateChecks c) ≡ true
 unfolding stateChecks announcedChecks
-state-none c e =
-    none-first (stateChecks c) (numbered-asked (c .«is_open») (widthChecks (c .kind) (c .setting)) (widths-numbered (c .kind) (c .setting))) e
+state-numbered c = numbered-asked (c .«is_open») (widthChecks (c .kind) (c .setting)) (widths-numbered (c .kind) (c .setting))
+
+pub state-none : (c : Composer) → firstOf (stateChecks c) ≡ 0 → NoneHolds (stateChecks c)
+state-none c e = none-first (stateChecks c) (state-numbered c) e
 
 open-rules-numbered : (c : Composer) → numbered (openRuleChecks c) ≡ true
 unfolding openRuleChecks
@@ -151,6 +153,9 @@ pub both-rules-none : (c : Composer) (s : Setting) → firstOf (inTurn (openRule
 both-rules-none c s e =
     none-first (inTurn (openRuleChecks c) (ruleChecks (c .kind) s)) (numbered-turn (openRuleChecks c) (ruleChecks (c .kind) s) (open-rules-numbered c) (rules-numbered (c .kind) s)) e
 
-pub open-none : (c : Composer) → firstOf (openChecks c) ≡ 0 → NoneHolds (openChecks c)
+pub open-numbered : (c : Composer) → numbered (openChecks c) ≡ true
 unfolding openChecks markChecks
-open-none c e = none-first (openChecks c) (numbered-append (openRuleChecks c) (markChecks c) (open-rules-numbered c) refl) e
+open-numbered c = numbered-append (openRuleChecks c) (markChecks c) (open-rules-numbered c) refl
+
+pub open-none : (c : Composer) → firstOf (openChecks c) ≡ 0 → NoneHolds (openChecks c)
+open-none c e = none-first (openChecks c) (open-numbered c) e

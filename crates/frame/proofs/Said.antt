@@ -59,6 +59,11 @@ module _ (plan : List ℕ) (marks : List Bool) (l : length marks ≡ length plan
       planned j (yes h) = any-each (λ i. unavailable availability (getD plan i 0)) (length plan) e j h
       planned j (no h) = rw (List·getD-eq-default plan 0 {n = j} (omega arith))
 
+-- a version of three bits, raised or not, has three bits
+pub version-narrow : (b : Bool) (version : ℕ) → version < 2 ^ 3 → cond b ((version + 1) % 8) version < 2 ^ 3
+version-narrow true version h = omega arith
+version-narrow false version h = h
+
 -- ---- the setting with other numbers
 
 module _ (s : Setting) (counter version : ℕ) (numbers : List ℕ) where

@@ -9,13 +9,14 @@ use borrow.Author.Tests.{eq-eqb, ne-eqb, le-leb, lt-leb}
 use lib.Dec.{leb, eqb}
 use lib.ListN.{length, take, drop, replicate, length-append}
 use lib.Seq.{take-at, drop-at, drop-drop, take-add, take-nil}
+use Rattle.slices.proofs.Any.{neither}
 use Rattle.bits.specs.Fields.{bitsOf, number, run, cut}
 use Rattle.header.specs.Rows.{place, rowAt}
 use Rattle.header.specs.Layout.{startRows}
 use Rattle.frame.specs.Packets.{packetLength, nullPacket, slot, unfit}
 use Rattle.frame.specs.Slots.{nulls, numbersOf, numbered, slotsFor}
 use Rattle.runs.specs.Work.{carries, taken, slotsFilled, numbersFilled}
-use Rattle.runs.proofs.Filled.{marksFilled, unfitFilled, Whole, EachWhole, whole-none, whole-taken, Slot, carried, idle, neither}
+use Rattle.runs.proofs.Filled.{marksFilled, unfitFilled, Whole, EachWhole, whole-none, whole-taken, Slot, carried, idle}
 
 -- ---- by whether the first slot carries a packet
 

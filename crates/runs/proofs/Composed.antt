@@ -1,7 +1,7 @@
 -- The promises on the frames that a run closes. Assumes nothing.
 use Prim.Native.Nat.{ℕ, zero, suc, _+_, _*_, _%_, _^_, _≤_, _<_}
 use mathlib.Core.Path.{_≡_, refl, sym, ap, ap₂, subst, _∙_}
-use mathlib.Core.Bool.{Bool, true, false, cond, not, _&&_, _||_, or-true, false≢true}
+use mathlib.Core.Bool.{true, false, not, _&&_, _||_, or-true, false≢true}
 use mathlib.Core.List.{List, [], _∷_, _++_, map}
 use native.Mathlib.Omega.{arith}
 use native.Mathlib.Decide.{ℕ-discrete}
@@ -32,12 +32,12 @@ use Rattle.runs.specs.Work.{Work, noWork, worksOf, slotsFilled, numbersF
 use Rattle.runs.specs.Composed.{headedBy, FramesHold, HeadersRead, FrontsPlaced, PacketsFit}
 use Rattle.runs.proofs.Filled.{marksFilled, length-null}
 use Rattle.runs.proofs.Carried.{numbers-filled, length-slots, length-marks, front-lent, slot-first, slot-next, each-fit}
-use Rattle.frame.proofs.Said.{said-meets, said-types}
+use Rattle.frame.proofs.Said.{version-narrow, said-meets, said-types}
 use Rattle.runs.proofs.Held.{Sound, Done, holds, all-done}
 
 -- ---- the start
 
-fresh-run : (kind : Kind) (pid : ℕ) → pidAllowed pid ≡ true → started kind pid ≡ record { state = fresh kind pid; frame = [] }
+pub fresh-run : (kind : Kind) (pid : ℕ) → pidAllowed pid ≡ true → started kind pid ≡ record { state = fresh kind pid; frame = [] }
 unfolding started startOf answer firstOf
 fresh-run kind pid e = rw e
 
@@ -45,7 +45,7 @@ fresh-sound : (kind : Kind) (pid : ℕ) → Sound kind pid (record { state = fre
 unfolding fresh noWork
 fresh-sound kind pid = record { kind-is = refl; pid-is = refl; whole = λ n. refl; opened-as = λ e. absurd (false≢true e) }
 
-sound-start : (kind : Kind) (pid : ℕ) → pidAllowed pid ≡ true → Sound kind pid (started kind pid) noWork
+pub sound-start : (kind : Kind) (pid : ℕ) → pidAllowed pid ≡ true → Sound kind pid (started kind pid) noWork
 sound-start kind pid e = rw (fresh-run kind pid e) (fresh-sound kind pid)
 
 -- ---- the first header
@@ -115,11 +115,7 @@ module _ (kind : Kind) (pid : ℕ) (e : pidAllowed pid ≡ true) where
 
   -- a version behind one of three bits has three bits
   pub version-behind : (version : ℕ) (last : Announced) (s : Setting) → version < 2 ^ 3 → versionBehind version last s < 2 ^ 3
-  version-behind version last s h = by-test (differ (announced s) last)
-    where
-      by-test : (b : Bool) → cond b ((version + 1) % 8) version < 2 ^ 3
-      by-test true = omega arith
-      by-test false = h
+  version-behind version last s = version-narrow (differ (announced s) last) version
 
   behind-good : (counter version : ℕ) (last : Announced) (ks : List Work) → version < 2 ^ 3 → Each (Done kind pid) ks → Each (Good kind pid) (headedBehind counter version last ks)
   unfolding headedBehind

@@ -29,8 +29,8 @@ use Rattle.frame.specs.Receiving.{waiting, startReceiverOf}
 use Rattle.runs.specs.Runs.{Call, Each, none, more, OfTypes, started, framesOf}
 use Rattle.runs.specs.Work.{Work, noWork, worksOf, slotsFilled, said, versionBehind, headedBehind, headed, frameOf}
 use Rattle.runs.specs.Composed.{headedBy}
-use Rattle.runs.specs.Losses.{Fate, kept, isKept, Sent, MayHappen, FifteenAtMost, arriving, Reception, freshWith, handedOut, numbersIn, entire, wanted}
-use Rattle.runs.specs.Demands.{Asked, NothingMixed, whole, headerAlone, PacketForPacket, placedIn, RunForRun}
+use Rattle.runs.specs.Losses.{Fate, kept, isKept, Sent, MayHappen, InARowAtMost, arriving, Reception, freshWith, handedOut, numbersIn, entire, wanted}
+use Rattle.runs.specs.Demands.{Asked, DemandThree, whole, headerAlone, PacketForPacket, placedIn, RunForRun}
 use Rattle.runs.proofs.Held.{Done}
 use Rattle.runs.proofs.Composed.{Good, said-good, version-behind, header-read, front-placed, frame-length, packet-fit, works-done, hold, each-good}
 use Rattle.runs.proofs.Table.{Set, waits}
@@ -78,7 +78,7 @@ module _ (kind : Kind) (pid : ℕ) (e : pidAllowed pid ≡ true) where
   counted [] none = no-more
   counted (k ∷ ks) (more d ds) = and-then (said-frame 0 0 k (lit< tt) (lit< tt) d) (counted-behind 0 0 (announced (k .setting)) ks (lit< tt) ds)
 
-counted-run : (kind : Kind) (pid : ℕ) (calls : List Call) → pidAllowed pid ≡ true → Each OfTypes calls → Counted kind pid 0 (framesOf (started kind pid) calls)
+pub counted-run : (kind : Kind) (pid : ℕ) (calls : List Call) → pidAllowed pid ≡ true → Each OfTypes calls → Counted kind pid 0 (framesOf (started kind pid) calls)
 counted-run kind pid calls e t =
     subst (Counted kind pid 0) (sym (hold kind pid calls e t)) (counted kind pid e (worksOf (started kind pid) noWork calls) (works-done kind pid calls e t))
 
@@ -111,7 +111,7 @@ each-snoc x none m = more m none
 each-snoc x (more p ps) m = more p (each-snoc x ps m)
 
 -- of any frames, behind some whose headers are missing in a row
-in-row : (sent : List Sent) → FifteenAtMost sent → (before row rest : List Sent) → sent ≡ before ++ (row ++ rest) → Each Missing row → InRow (length row) rest
+in-row : (sent : List Sent) → InARowAtMost 15 sent → (before row rest : List Sent) → sent ≡ before ++ (row ++ rest) → Each Missing row → InRow (length row) rest
 in-row sent most before row [] e m = end
 in-row sent most before row (s ∷ ss) e m =
     by-fate (isKept (s .fate)) refl
@@ -139,11 +139,11 @@ zeros-fit : Fit 4 (replicate lastSlot 0)
 unfolding someAtLeast anyBelow
 zeros-fit = fit-some 4 (replicate lastSlot 0) refl
 
-fresh-waits : (kind : Kind) (pid : ℕ) → pidAllowed pid ≡ true → startReceiverOf kind pid .state ≡ waiting kind pid
+pub fresh-waits : (kind : Kind) (pid : ℕ) → pidAllowed pid ≡ true → startReceiverOf kind pid .state ≡ waiting kind pid
 unfolding startReceiverOf
 fresh-waits kind pid e = rw e
 
-waiting-set : (kind : Kind) (pid : ℕ) (store : List ℕ) → pidAllowed pid ≡ true → length store ≡ storeLength → Set kind pid (record { state = waiting kind pid; store = store })
+pub waiting-set : (kind : Kind) (pid : ℕ) (store : List ℕ) → pidAllowed pid ≡ true → length store ≡ storeLength → Set kind pid (record { state = waiting kind pid; store = store })
 unfolding waiting
 waiting-set kind pid store e l =
     record {
@@ -158,7 +158,7 @@ waiting-set kind pid store e l =
       store-long = l;
     }
 
-waiting-stage : (kind : Kind) (pid : ℕ) → waiting kind pid .stage ≡ Stage.Waiting
+pub waiting-stage : (kind : Kind) (pid : ℕ) → waiting kind pid .stage ≡ Stage.Waiting
 unfolding waiting
 waiting-stage kind pid = refl
 
@@ -176,7 +176,7 @@ module _ (kind : Kind) (pid r : ℕ) (store out : List ℕ) (e : pidAllowed pid 
 
 -- ---- demand 3
 
-pub nothing-mixed : NothingMixed
+pub nothing-mixed : DemandThree
 nothing-mixed kind pid calls e t before after sent q h most r store out a =
     let c = stretch kind pid calls e t before (map (λ s. s .frame) sent) after q in
     out-of-fresh kind pid r store out e a (c .n) sent (c .counts) h (in-row sent most [] [] sent refl none)
@@ -187,7 +187,7 @@ behind-header : (kind : Kind) (pid : ℕ) (h : Setting × Work) → drop packetL
 unfolding frameOf
 behind-header kind pid h = drop-at (header kind pid (h .0)) (slotsFilled (h .1 .setting .«relative_ts_number») (h .1 .lent)) packetLength (length-header kind pid (h .0))
 
-first-of : {A : Type 0} {P : A → Type 0} {x : A} {xs : List A} → Each P (x ∷ xs) → P x
+pub first-of : {A : Type 0} {P : A → Type 0} {x : A} {xs : List A} → Each P (x ∷ xs) → P x
 first-of (more p ps) = p
 
 -- the packets numbered r of a frame that was composed
@@ -229,7 +229,7 @@ each-rest : {A : Type 0} {P : A → Type 0} (xs ys : List A) → Each P (xs ++ y
 each-rest [] ys p = p
 each-rest (x ∷ xs) ys (more q p) = each-rest xs ys p
 
-map-append : {A B : Type 0} (g : A → B) (xs ys : List A) → map g (xs ++ ys) ≡ map g xs ++ map g ys
+pub map-append : {A B : Type 0} (g : A → B) (xs ys : List A) → map g (xs ++ ys) ≡ map g xs ++ map g ys
 map-append g [] ys = refl
 map-append g (x ∷ xs) ys = ap (λ (l : List _). g x ∷ l) (map-append g xs ys)
 

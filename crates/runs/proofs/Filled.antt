@@ -1,7 +1,7 @@
 -- What a put adds to the slots of a frame: they carry what was lent for each stream, one packet behind the other. Assumes nothing.
 use Prim.Native.Nat.{ℕ, _+_, _%_, _≤_, _<_}
 use mathlib.Core.Path.{_≡_, refl, sym, ap, ap₂, subst, _∙_}
-use mathlib.Core.Bool.{Bool, true, false, cond, not, _&&_, _||_, true≢false}
+use mathlib.Core.Bool.{Bool, true, false, cond, not, _&&_, _||_}
 use mathlib.Core.List.{List, [], _∷_, _++_, append-nil}
 use native.Mathlib.Omega.{arith}
 use native.Mathlib.Decide.{ℕ-discrete, decLe}
@@ -9,6 +9,7 @@ use borrow.Author.Tests.{eq-eqb, ne-eqb, le-leb, lt-leb}
 use lib.Dec.{leb, eqb}
 use lib.ListN.{length, take, drop, replicate, length-append, length-drop}
 use lib.Seq.{take-at, drop-at, take-append-le, drop-append-le, length-take-le}
+use Rattle.slices.proofs.Any.{neither}
 use Rattle.frame.specs.Packets.{packetLength, nullPacket, unfit}
 use Rattle.frame.specs.Slots.{takes, slotsAfter, marksAfter, someUnfit, numbersOf}
 use Rattle.runs.specs.Work.{added, carries, taken, slotsFilled, numbersFilled}
@@ -159,10 +160,6 @@ carried-as pid n ns lent p rest d h e f =
     subst (λ (x : List ℕ). Slot pid n ns lent x n true rest (unfit pid x)) e
     (subst (λ (x : ℕ → List ℕ). Slot pid n ns lent (take packetLength (lent n)) n true x (unfit pid (take packetLength (lent n)))) f
     (carried pid n ns lent d h))
-
-pub neither : (a b : Bool) → a || b ≡ false → (a ≡ false) × (b ≡ false)
-neither true b e = absurd (true≢false e)
-neither false b e = (refl, e)
 
 -- ---- a put, slot by slot
 

@@ -21,11 +21,11 @@ use Rattle.frame.specs.declared.composer.Composer.{Composer}
 use Rattle.frame.specs.Packets.{packetLength, frameLength}
 use Rattle.frame.specs.Slots.{nulls, cleared, slotsAfter, marksAfter, someUnfit, frameAfter, numbersOf}
 use Rattle.frame.specs.Composing.{announced, opened, marked, nextCounter, nextVersion, saying, closing, closedWith, closed, answer, leaves, beginOf, begunFrame, putOf, putFrame, closeOf, closedFrame}
+use Rattle.frame.proofs.Passed.{Passes, begin-passed, PutPassed, put-passed, ClosePassed, close-passed}
 use Rattle.runs.specs.Runs.{Call, begin, put, close, Each, none, more, OfTypes, Run, refusalOf, after, closedBy, framesOf}
 use Rattle.runs.specs.Work.{Work, added, workAfter, doneBy, worksOf, slotsFilled, numbersFilled, said, versionBehind, headedBehind, frameOf}
 use Rattle.runs.proofs.Filled.{marksFilled, unfitFilled, EachWhole, whole-added, put-adds}
 use Rattle.runs.proofs.Carried.{numbers-filled, slots-none, marks-none, unfit-none}
-use Rattle.runs.proofs.Passed.{Passes, begin-passed, PutPassed, put-passed, ClosePassed, close-passed}
 
 -- ---- a refused call changes nothing
 
@@ -43,12 +43,12 @@ refused-work w k close d = refl
 
 -- ---- what an accepted call makes
 
-begun-run : (w : Run) (buffer : List ℕ) (s : Setting) → refusalOf w (begin buffer s) ≡ 0
+pub begun-run : (w : Run) (buffer : List ℕ) (s : Setting) → refusalOf w (begin buffer s) ≡ 0
     → after w (begin buffer s) ≡ record { state = opened (w .state) s; frame = cleared buffer }
 unfolding after refusalOf beginOf answer begunFrame leaves
 begun-run w buffer s e = rw e
 
-put-run : (w : Run) (stream : List ℕ) (r : ℕ) → refusalOf w (put stream r) ≡ 0
+pub put-run : (w : Run) (stream : List ℕ) (r : ℕ) → refusalOf w (put stream r) ≡ 0
     → after w (put stream r)
     ≡ record {
       state = marked (w .state) (marksAfter r (w .state .setting .«relative_ts_number») (w .state .filled) stream);
@@ -57,7 +57,7 @@ put-run : (w : Run) (stream : List ℕ) (r : ℕ) → refusalOf w (put stream r)
 unfolding after refusalOf putOf putFrame leaves
 put-run w stream r e = rw e
 
-closed-run : (w : Run) → refusalOf w close ≡ 0
+pub closed-run : (w : Run) → refusalOf w close ≡ 0
     → after w close ≡ record { state = closed (w .state); frame = header (w .state .kind) (w .state .pid) (closing (w .state)) ++ drop packetLength (w .frame) }
 unfolding after refusalOf closeOf answer closedFrame leaves
 closed-run w e = rw e
@@ -71,17 +71,17 @@ marked-numbers : (c : Composer) (ms : List Bool) → (marked c ms .counter ≡ c
 unfolding marked
 marked-numbers c ms = (refl, refl, refl)
 
-begun-work : (w : Run) (k : Work) (buffer : List ℕ) (s : Setting) → refusalOf w (begin buffer s) ≡ 0
+pub begun-work : (w : Run) (k : Work) (buffer : List ℕ) (s : Setting) → refusalOf w (begin buffer s) ≡ 0
     → workAfter w k (begin buffer s) ≡ record { setting = s; lent = λ n. [] }
 unfolding workAfter
 begun-work w k buffer s e = rw e
 
-put-work : (w : Run) (k : Work) (stream : List ℕ) (r : ℕ) → refusalOf w (put stream r) ≡ 0
+pub put-work : (w : Run) (k : Work) (stream : List ℕ) (r : ℕ) → refusalOf w (put stream r) ≡ 0
     → workAfter w k (put stream r) ≡ record { setting = k .setting; lent = added r stream (k .lent) }
 unfolding workAfter
 put-work w k stream r e = rw e
 
-closed-work : (w : Run) (k : Work) → workAfter w k close ≡ k
+pub closed-work : (w : Run) (k : Work) → workAfter w k close ≡ k
 unfolding workAfter
 closed-work w k = refl
 
@@ -254,15 +254,15 @@ refused-none w k (begin buffer s) d = (refl, refl)
 refused-none w k (put stream r) d = (refl, refl)
 refused-none w k close d = (rw (ne-eqb _ 0 d), rw (ne-eqb _ 0 d))
 
-begin-none : (w : Run) (k : Work) (buffer : List ℕ) (s : Setting) → (closedBy w (begin buffer s) ≡ []) × (doneBy w k (begin buffer s) ≡ [])
+pub begin-none : (w : Run) (k : Work) (buffer : List ℕ) (s : Setting) → (closedBy w (begin buffer s) ≡ []) × (doneBy w k (begin buffer s) ≡ [])
 unfolding closedBy doneBy
 begin-none w k buffer s = (refl, refl)
 
-put-none : (w : Run) (k : Work) (stream : List ℕ) (r : ℕ) → (closedBy w (put stream r) ≡ []) × (doneBy w k (put stream r) ≡ [])
+pub put-none : (w : Run) (k : Work) (stream : List ℕ) (r : ℕ) → (closedBy w (put stream r) ≡ []) × (doneBy w k (put stream r) ≡ [])
 unfolding closedBy doneBy
 put-none w k stream r = (refl, refl)
 
-close-one : (w : Run) (k : Work) → refusalOf w close ≡ 0
+pub close-one : (w : Run) (k : Work) → refusalOf w close ≡ 0
     → (closedBy w close ≡ (header (w .state .kind) (w .state .pid) (closing (w .state)) ++ drop packetLength (w .frame)) ∷ []) × (doneBy w k close ≡ k ∷ [])
 unfolding closedBy doneBy closedFrame leaves refusalOf
 close-one w k e = (rw e, rw e)

@@ -1,9 +1,10 @@
+mod Accepts
 mod Carried
 pub mod Composed
+pub mod Demands
 mod Filled
 mod Held
-mod Passed
+mod Lost
+pub mod Sixteen
 mod Table
 mod Vouched
-mod Lost
-pub mod Demands

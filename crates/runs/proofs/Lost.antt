@@ -16,12 +16,17 @@ use Rattle.header.specs.Header.{readRefusal, readOf}
 use Rattle.frame.specs.declared.receiver.Stage.{Stage}
 use Rattle.frame.specs.Packets.{packetLength, frameLength, storeLength, slot, unfit}
 use Rattle.frame.specs.Slots.{numbered}
+use Rattle.frame.proofs.Sorts.{not-good}
 use Rattle.runs.specs.Runs.{Each, none, more}
 use Rattle.runs.specs.Losses.{Fate, kept, lost, spoiled, isKept, Sent, MayHappen, Refused, headerArrives, packetsArrive, arriving, Reception, afterPacket, handedOut, numbersIn, entire, wanted}
 use Rattle.runs.specs.Demands.{Asked}
 use Rattle.runs.proofs.Carried.{slot-next}
-use Rattle.runs.proofs.Table.{Opens, open-at, ready-at, Set, Follows, dropped, goes-on, Plain, not-good, joined, afterAll, StoredAll, stored-all, Bad, BadAll, bad-all, same-opens}
+use Rattle.runs.proofs.Table.{Opens, open-at, ready-at, Set, Follows, dropped, goes-on, Plain, joined, afterAll, StoredAll, stored-all, Bad, BadAll, bad-all, same-opens}
 use Rattle.runs.proofs.Vouched.{GoodFrame, good-set, good-opens, good-numbers, good-store, Owes, nothing, something, vouches}
+
+pub each-append : {A : Type 0} {P : A → Type 0} {xs ys : List A} → Each P xs → Each P ys → Each P (xs ++ ys)
+each-append none q = q
+each-append (more x p) q = more x (each-append p q)
 
 -- ---- the packets behind a header
 
@@ -32,7 +37,7 @@ slot-behind i bytes =
     ap (take packetLength) (drop-drop (packetLength * i) packetLength bytes) ∙ ap (λ (n : ℕ). take packetLength (drop n bytes)) e
 
 -- each is of 188 bytes and neither broken nor a header
-arrive-plain : (pid : ℕ) (marks : List Bool) (bytes : List ℕ) → length bytes ≡ packetLength * length marks
+pub arrive-plain : (pid : ℕ) (marks : List Bool) (bytes : List ℕ) → length bytes ≡ packetLength * length marks
     → ((i : ℕ) → i < length marks → unfit pid (slot i bytes) ≡ false) → Each (Plain pid) (packetsArrive marks bytes)
 unfolding packetsArrive slot
 arrive-plain pid [] bytes l f = none
@@ -56,7 +61,7 @@ arrive-length (a ∷ later) bytes = by-mark a (arrive-length later (drop packetL
     by-mark false h = omega arith
 
 -- all of them, or not all
-arrive-entire : (marks : List Bool) (bytes : List ℕ) → entire marks ≡ true → length bytes ≡ packetLength * length marks
+pub arrive-entire : (marks : List Bool) (bytes : List ℕ) → entire marks ≡ true → length bytes ≡ packetLength * length marks
     → (length (packetsArrive marks bytes) ≡ length marks) × (joined (packetsArrive marks bytes) ≡ bytes)
 unfolding packetsArrive joined
 arrive-entire [] [] e l = (refl, refl)
@@ -190,10 +195,6 @@ module _ (kind : Kind) (pid r : ℕ) (store out : List ℕ) (a : Asked r store o
   header-kept kept p e = refl
   header-kept lost p e = absurd (true≢false (sym e))
   header-kept (spoiled b) p e = absurd (true≢false (sym e))
-
-  each-append : {P : List ℕ → Type 0} {xs ys : List (List ℕ)} → Each P xs → Each P ys → Each P (xs ++ ys)
-  each-append none q = q
-  each-append (more x p) q = more x (each-append p q)
 
   -- ---- all frames
 

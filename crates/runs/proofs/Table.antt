@@ -28,8 +28,7 @@ use Rattle.frame.specs.Packets.{packetLength, storeLength, unfit}
 use Rattle.frame.specs.Slots.{numbered, slotsFor, over}
 use Rattle.frame.specs.Composing.{leaves}
 use Rattle.frame.specs.Receiving.{makesReady, Sort, good, broken, other, sortOf, counterStep, row, openRow, rowOf, storedOf, storeAfter, moved, renumbered, receiverAfter, stageChecks, receiverChecks, receiveRefusal, rowFor, receiveOf, receiveStore, isReady, handOutRefusal, handOutOf, handOutBuffer}
-use Rattle.runs.proofs.Filled.{neither}
-use Rattle.runs.proofs.Passed.{numbered-rules}
+use Rattle.frame.proofs.Sorts.{not-good}
 use Rattle.runs.specs.Runs.{Each, none, more}
 use Rattle.runs.specs.Losses.{Reception, afterPacket, handed, handedOut}
 
@@ -236,13 +235,6 @@ module _ (kind : Kind) (pid : ℕ) (w : Reception) (s : Set kind pid w) (p : Lis
 -- a packet of 188 bytes that is neither broken nor a header
 abbrev pub Plain : ℕ → List ℕ → Type 0
 Plain pid p = (length p ≡ packetLength) × (unfit pid p ≡ false)
-
--- it is none that the reader accepts
-pub not-good : (kind : Kind) (pid : ℕ) (p : List ℕ) → unfit pid p ≡ false → readRefusal kind pid p ≡ 0 → ⊥
-unfolding readRefusal packetChecks unfit
-not-good kind pid p u e =
-    let h = none-first (callChecks pid (length p) ++ (packetChecks pid p ++ ruleChecks kind (reading kind p))) (numbered-rules kind (reading kind p)) e in
-    true≢false (sym (not-false (eqb (startValue p 2) pid) (none-at h 3)) ∙ neither (not (eqb (startValue p 0) syncByte)) (eqb (startValue p 2) pid) u .1)
 
 unfoldable pub joined : List (List ℕ) → List ℕ
 joined [] = []

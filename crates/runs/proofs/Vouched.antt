@@ -25,6 +25,7 @@ use Rattle.frame.specs.Packets.{packetLength, frameLength, storeLength, slot, u
 use Rattle.frame.specs.Slots.{numbered, slotsFor, over}
 use Rattle.frame.specs.Composing.{leaves}
 use Rattle.frame.specs.Receiving.{makesReady, Sort, good, broken, other, sortOf, counterStep, row, openRow, rowOf, storeAfter, renumbered, receiverAfter, rowFor, receiveOf, isReady, receiverChecks, handOutRefusal, handOutOf, handOutBuffer}
+use Rattle.frame.proofs.Numbered.{length-numbered}
 use Rattle.runs.specs.Losses.{Reception, afterPacket, handed, handedOut}
 use Rattle.runs.specs.Demands.{Asked}
 use Rattle.runs.proofs.Table.{Opens, open-at, ready-at, InRange, waits, opens, Set, state-none, event-is, after-is, row-opens}
@@ -39,20 +40,6 @@ for-at-most r (n ∷ ns) = by-test (eqb n r) (for-at-most r ns)
     by-test : (b : Bool) → slotsFor r ns ≤ length ns → cond b 1 0 + slotsFor r ns ≤ suc (length ns)
     by-test true h = omega arith
     by-test false h = omega arith
-
-length-numbered : (r : ℕ) (ns bytes : List ℕ) → length bytes ≡ packetLength * length ns → length (numbered r ns bytes) ≡ packetLength * slotsFor r ns
-unfolding numbered slotsFor
-length-numbered r [] bytes e = refl
-length-numbered r (n ∷ ns) bytes e =
-    by-test (eqb n r) (length-numbered r ns (drop packetLength bytes) (length-drop packetLength bytes ∙ omega arith))
-  where
-    by-test : (b : Bool) → length (numbered r ns (drop packetLength bytes)) ≡ packetLength * slotsFor r ns
-        → length (cond b (take packetLength bytes ++ numbered r ns (drop packetLength bytes)) (numbered r ns (drop packetLength bytes)))
-        ≡ packetLength * (cond b 1 0 + slotsFor r ns)
-    by-test true h =
-        length-append (take packetLength bytes) (numbered r ns (drop packetLength bytes))
-        ∙ omega (arith, h, length-take-le packetLength bytes (omega arith))
-    by-test false h = omega (arith, h)
 
 -- it is not refused where a frame is ready
 not-refused : (kind : Kind) (pid r n : ℕ) (store out : List ℕ) (w : Reception) → Set kind pid w → Asked r store out → w .state .stage ≡ Stage.Ready n
@@ -73,7 +60,7 @@ pub handed-is : (kind : Kind) (pid r n : ℕ) (store out : List ℕ) (w : Recept
 unfolding handed handOutOf handOutBuffer leaves over
 handed-is kind pid r n store out w s a e =
     let whole : length (numbered r (w .state .before) (w .store)) ≡ packetLength * slotsFor r (w .state .before) =
-    length-numbered r (w .state .before) (w .store) (s .store-long ∙ omega (arith, s .before-long)) in
+    length-numbered r (w .state .before) (w .store) (omega (arith, s .store-long, s .before-long)) in
     rw (not-refused kind pid r n store out w s a e) (take-at (numbered r (w .state .before) (w .store)) (drop (0 + length (numbered r (w .state .before) (w .store))) out) (packetLength * slotsFor r (w .state .before)) whole)
 
 -- ---- the header of a frame that a run closed

@@ -13,7 +13,7 @@ use Rattle.frame.specs.Slots.{slotsFor}
 use Rattle.runs.specs.Runs.{Call, Each, OfTypes, started, framesOf}
 use Rattle.runs.specs.Work.{Work, frameOf}
 use Rattle.runs.specs.Composed.{headedBy}
-use Rattle.runs.specs.Losses.{Fate, kept, Sent, MayHappen, FifteenAtMost, arriving, freshWith, handedOut, wanted}
+use Rattle.runs.specs.Losses.{Fate, kept, Sent, MayHappen, InARowAtMost, arriving, freshWith, handedOut, wanted}
 
 -- a stream number, a store, and a buffer with room for every packet of a frame
 pub record Asked (r : ℕ) (store out : List ℕ) : Type 0 where
@@ -27,13 +27,20 @@ pub record Asked (r : ℕ) (store out : List ℕ) : Type 0 where
 -- fifteen headers in a row lost or spoiled. A fresh receiver set to both, and asked once, with room, for each stream number at every
 -- ready frame, then hands out, under each number, exactly the packets of those frames that arrived entire and unspoiled with the next
 -- frame's good header directly behind them, in order, and nothing besides.'
-abbrev pub NothingMixed : Type 0
-NothingMixed =
+abbrev pub NothingMixed : ℕ → Type 0
+NothingMixed limit =
     (kind : Kind) (pid : ℕ) (calls : List Call) → pidAllowed pid ≡ true → Each OfTypes calls
     → (before after : List (List ℕ)) (sent : List Sent) → framesOf (started kind pid) calls ≡ before ++ (map (λ s. s .frame) sent ++ after)
-    → Each (MayHappen kind pid) sent → FifteenAtMost sent
+    → Each (MayHappen kind pid) sent → InARowAtMost limit sent
     → (r : ℕ) (store out : List ℕ) → Asked r store out
     → handedOut r out (freshWith kind pid store) (arriving sent) ≡ wanted kind pid r sent
+
+abbrev pub DemandThree : Type 0
+DemandThree = NothingMixed 15
+
+-- the fifteen is needed: with sixteen the promise fails
+abbrev pub SixteenFail : Type 0
+SixteenFail = NothingMixed 16 → ⊥
 
 -- a frame of which everything arrives, and one of which the header alone is awaited
 abbrev pub whole : List ℕ → Sent

@@ -41,10 +41,10 @@ Refused kind pid (spoiled q) = (length q ≡ packetLength) × (readRefusal kind 
 abbrev pub MayHappen : Kind → ℕ → Sent → Type 0
 MayHappen kind pid s = (length (s .arrived) ≡ lastSlot) × Refused kind pid (s .fate)
 
--- 'never more than fifteen headers in a row lost or spoiled'
-abbrev pub FifteenAtMost : List Sent → Type 0
-FifteenAtMost sent =
-    (before row after : List Sent) → sent ≡ before ++ (row ++ after) → Each (λ s. isKept (s .fate) ≡ false) row → length row ≤ 15
+-- 'never more than fifteen headers in a row lost or spoiled', with the fifteen as a parameter
+abbrev pub InARowAtMost : ℕ → List Sent → Type 0
+InARowAtMost limit sent =
+    (before row after : List Sent) → sent ≡ before ++ (row ++ after) → Each (λ s. isKept (s .fate) ≡ false) row → length row ≤ limit
 
 -- what arrives of a header, and of the packets behind it
 unfoldable pub headerArrives : Fate → List ℕ → List (List ℕ)

@@ -1,8 +1,9 @@
 use mathlib.Core.Path.{sym, ap, _∙_}
 use borrow.Author.Needs.{needs}
 use Rattle.frame.specs.declared.composer.Composer.{Composer}
-use Rattle.frame.specs.Composing.{beginRefusal, beginOf, begunFrame}
-use Rattle.frame.proofs.Answers.{refused, kept, granted, written, frame-lent}
+use Rattle.frame.specs.Composing.{beginOf, begunFrame}
+use Rattle.frame.proofs.Answers.{refused, kept, granted, written}
+use Rattle.frame.proofs.Passed.{begin-passed}
 use Rattle.frame.proofs.composer.Composer.begin.Statement.{statement}
 use Rattle.frame.proofs.composer.Composer.begin.Tie as tie
 
@@ -16,8 +17,7 @@ returns c =
     (refused e _ _ (c .if1 .taken), kept e _ _ (c .if1 .taken))
 
 clear-requires : tie.Need-clear-requires
-unfolding beginRefusal
-clear-requires c κs = frame-lent _ _ (sym (c .before .before .begin-refusal .ensures) ∙ c .before .if1 .left)
+clear-requires c κs = begin-passed _ _ _ (sym (c .before .before .begin-refusal .ensures) ∙ c .before .if1 .left)
 
 begun-requires : tie.Need-begun-requires
 begun-requires c κs = search needs

@@ -1,59 +1,24 @@
 -- What a call of the composer that was not refused had: the facts behind its checks. Assumes nothing.
-use Prim.Native.Nat.{ℕ, zero, suc, _%_, _^_, _≤_, _<_}
+use Prim.Native.Nat.{ℕ, zero, suc, _%_, _^_, _<_}
 use mathlib.Core.Path.{_≡_, refl, sym, ap, _∙_}
-use mathlib.Core.Bool.{Bool, true, false, not, _&&_, false≢true}
+use mathlib.Core.Bool.{Bool, true, false, not, _&&_}
 use mathlib.Core.List.{List, [], _∷_, _++_}
 use native.Mathlib.Omega.{arith}
-use native.Mathlib.Decide.{ℕ-discrete}
-use borrow.Author.Tests.{leb-true, leb-false, eqb-true, ne-eqb, not-false}
+use borrow.Author.Tests.{leb-true, leb-false, eqb-true, not-false}
 use lib.Dec.{leb, eqb}
 use lib.ListN.{length, drop}
 use Rattle.slices.proofs.Any.{both}
-use Rattle.setting.specs.declared.Kind.{Kind}
 use Rattle.setting.specs.declared.Setting.{Setting}
 use Rattle.setting.specs.Counters.{firstStream, lastStream, within}
-use Rattle.setting.specs.Refusal.{Check, firstOf, NoneHolds, none, more}
-use Rattle.setting.specs.Rules.{absentChecks, widthChecks, bondingChecks, ruleChecks}
-use Rattle.setting.proofs.Refusals.{answers, numbered, none-first, none-at, none-before, none-behind}
+use Rattle.setting.specs.Refusal.{Check, NoneHolds, none, more}
+use Rattle.setting.specs.Rules.{pidAllowed, widthChecks, ruleChecks}
+use Rattle.setting.proofs.Refusals.{none-first, none-at, none-before, none-behind}
 use Rattle.frame.specs.declared.composer.Composer.{Composer}
 use Rattle.frame.specs.Packets.{packetLength, frameLength}
 use Rattle.frame.specs.Slots.{someUnfit}
-use Rattle.frame.specs.Composing.{asked, announcedChecks, stateChecks, openRuleChecks, markChecks, lengthCheck, inTurn, openChecks, streamChecks, beginRefusal, putRefusal, closeRefusal}
-
--- ---- each check has a number
-
-numbered-append : (cs ds : List Check) → numbered cs ≡ true → numbered ds ≡ true → numbered (cs ++ ds) ≡ true
-numbered-append [] ds p q = q
-numbered-append (c ∷ cs) ds p q =
-    let e = both (leb 1 (c .0)) (numbered cs) p in
-    rw (e .0) (numbered-append cs ds (e .1) q)
-
-numbered-asked : (b : Bool) (cs : List Check) → numbered cs ≡ true → numbered (asked b cs) ≡ true
-unfolding asked
-numbered-asked b [] p = refl
-numbered-asked b (c ∷ cs) p =
-    let e = both (leb 1 (c .0)) (numbered cs) p in
-    rw (e .0) (numbered-asked b cs (e .1))
-
-numbered-widths : (kind : Kind) (s : Setting) → numbered (widthChecks kind s) ≡ true
-unfolding widthChecks absentChecks
-numbered-widths Kind.Plain s = refl
-numbered-widths Kind.Extended s = refl
-
-pub numbered-rules : (kind : Kind) (s : Setting) → numbered (ruleChecks kind s) ≡ true
-unfolding ruleChecks bondingChecks
-numbered-rules Kind.Plain s = refl
-numbered-rules Kind.Extended s = refl
-
-numbered-state : (c : Composer) → numbered (stateChecks c) ≡ true
-unfolding stateChecks announcedChecks
-numbered-state c = numbered-asked (c .«is_open») (widthChecks (c .kind) (c .setting)) (numbered-widths (c .kind) (c .setting))
-
-numbered-open : (c : Composer) → numbered (openChecks c) ≡ true
-unfolding openChecks openRuleChecks markChecks
-numbered-open c =
-    numbered-append (asked (c .«is_open») (ruleChecks (c .kind) (c .setting))) (markChecks c)
-    (numbered-asked (c .«is_open») (ruleChecks (c .kind) (c .setting)) (numbered-rules (c .kind) (c .setting))) refl
+use Rattle.frame.specs.Composing.{asked, announcedChecks, stateChecks, openRuleChecks, markChecks, lengthCheck, openChecks, streamChecks, beginRefusal, putRefusal, closeRefusal}
+use Rattle.frame.proofs.Answers.{frame-lent}
+use Rattle.frame.proofs.Refusals.{numbered-append, state-numbered, open-numbered}
 
 -- ---- checks behind the first, and checks that are asked
 
@@ -69,20 +34,22 @@ none-asked (c ∷ cs) e (more f h) = more (sym (ap (λ (x : Bool). x && c .1) e)
 
 -- ---- an open state that passed
 
--- an open frame's setting meets the rules, and the state's numbers are in range
+-- an open frame's setting meets the rules, and the state's PID and numbers are in range
 pub record Passes (c : Composer) : Type 0 where
   pub is-open : c .«is_open» ≡ true
+  pub pid : pidAllowed (c .pid) ≡ true
   pub counter : c .counter < 2 ^ 4
   pub version : c .version < 2 ^ 3
   pub widths : NoneHolds (widthChecks (c .kind) (c .setting))
   pub rules : NoneHolds (ruleChecks (c .kind) (c .setting))
 
-pub passes : (c : Composer) → NoneHolds (stateChecks c) → NoneHolds (openChecks c) → Passes c
+passes : (c : Composer) → NoneHolds (stateChecks c) → NoneHolds (openChecks c) → Passes c
 unfolding stateChecks announcedChecks openChecks openRuleChecks
 passes c h g =
     let e = not-false (c .«is_open») (none-at g 0) in
     record {
       is-open = e;
+      pid = not-false (pidAllowed (c .pid)) (none-at h 0);
       counter = leb-false (2 ^ 4) (c .counter) (none-at h 1);
       version = leb-false (2 ^ 3) (c .version) (none-at h 2);
       widths = none-asked (widthChecks (c .kind) (c .setting)) e (none-drop h 8);
@@ -91,16 +58,9 @@ passes c h g =
 
 -- ---- the calls
 
-first-one : (c : Composer) (s : Setting) (lent : ℕ) → (lent ≡ frameLength → ⊥) → beginRefusal c s lent ≡ 1
-unfolding beginRefusal
-first-one c s lent d = answers 1 _ (ap not (ne-eqb lent frameLength d))
-
 pub begin-passed : (c : Composer) (s : Setting) (lent : ℕ) → beginRefusal c s lent ≡ 0 → lent ≡ frameLength
-begin-passed c s lent e = by-length (ℕ-discrete lent frameLength)
-  where
-    by-length : Dec (lent ≡ frameLength) → lent ≡ frameLength
-    by-length (yes f) = f
-    by-length (no d) = absurd (omega (arith, sym (first-one c s lent d) ∙ e))
+unfolding beginRefusal
+begin-passed c s lent e = frame-lent lent _ e
 
 within-not-0 : (r : ℕ) → within firstStream lastStream r ≡ true → r ≡ 0 → ⊥
 within-not-0 r e z =
@@ -119,7 +79,7 @@ pub put-passed : (c : Composer) (r : ℕ) (stream : List ℕ) (lent : ℕ) → p
 unfolding putRefusal streamChecks
 put-passed c r stream lent e =
     record {
-      long = eqb-true lent frameLength (not-false _ (none-at h 0));
+      long = frame-lent lent _ e;
       whole = eqb-true (length stream % packetLength) 0 (not-false _ (none-at h 1));
       number = λ z. within-not-0 r (not-false _ (none-at behind 0)) z;
       open-state = passes c (none-before (stateChecks c) (number ∷ rest) (none-drop h 2)) (none-before (openChecks c) (streamChecks c r stream) (none-drop behind 1));
@@ -134,7 +94,7 @@ put-passed c r stream lent e =
 
     h : NoneHolds (lengthCheck lent ∷ (1, not (eqb (length stream % packetLength) 0)) ∷ (stateChecks c ++ (number ∷ rest)))
     h = none-first (lengthCheck lent ∷ (1, not (eqb (length stream % packetLength) 0)) ∷ (stateChecks c ++ (number ∷ rest)))
-        (numbered-append (stateChecks c) (number ∷ rest) (numbered-state c) (numbered-append (openChecks c) (streamChecks c r stream) (numbered-open c) refl)) e
+        (numbered-append (stateChecks c) (number ∷ rest) (state-numbered c) (numbered-append (openChecks c) (streamChecks c r stream) (open-numbered c) refl)) e
 
     behind : NoneHolds (number ∷ rest)
     behind = none-behind (stateChecks c) (none-drop h 2)
@@ -146,8 +106,8 @@ pub record ClosePassed (c : Composer) (lent : ℕ) : Type 0 where
 pub close-passed : (c : Composer) (lent : ℕ) → closeRefusal c lent ≡ 0 → ClosePassed c lent
 unfolding closeRefusal
 close-passed c lent e =
-    let h = none-first (lengthCheck lent ∷ (stateChecks c ++ openChecks c)) (numbered-append (stateChecks c) (openChecks c) (numbered-state c) (numbered-open c)) e in
+    let h = none-first (lengthCheck lent ∷ (stateChecks c ++ openChecks c)) (numbered-append (stateChecks c) (openChecks c) (state-numbered c) (open-numbered c)) e in
     record {
-      long = eqb-true lent frameLength (not-false _ (none-at h 0));
+      long = frame-lent lent _ e;
       open-state = passes c (none-before (stateChecks c) (openChecks c) (none-drop h 1)) (none-behind (stateChecks c) (none-drop h 1));
     }
