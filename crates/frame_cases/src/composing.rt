@@ -18,8 +18,7 @@ const PACKETS: u16 = 8;
 
 const STREAM_BYTES: usize = PACKET_BYTES * 7;
 
-// Step 1: a setting, without a plan.
-pub(crate) fn draw_setting(state: &mut u32) -> Setting {
+fn draw_setting(state: &mut u32) -> Setting {
     let mut s = Setting::blank();
     s.frame_type = 1;
     s.slot_allocation_type = byte_below(state, 2);
@@ -27,6 +26,15 @@ pub(crate) fn draw_setting(state: &mut u32) -> Setting {
     let identified = settings::with_identifiers(state, s);
     let controlled = settings::with_control(state, identified);
     settings::with_private(state, controlled)
+}
+
+// Steps 1 and 2: a new setting or the last one, with a plan of its own.
+pub(crate) fn next_setting(f: u64, state: &mut u32, last: Setting) -> Setting {
+    if f % 5 != 0 {
+        return settings::with_numbers(state, last);
+    }
+    let drawn = draw_setting(state);
+    settings::with_numbers(state, drawn)
 }
 
 fn draw_packet(state: &mut u32, packet: &mut [u8])

@@ -32,11 +32,8 @@ fn main() {
     let mut setting = Setting::blank();
     let mut f = 0;
     while f < FRAMES {
-        if f % 5 == 0 {
-            setting = composing::draw_setting(&mut state);
-        }
-        let planned = draws::settings::with_numbers(&mut state, setting);
-        run = composing::compose(f, &mut state, run, &mut frame, planned);
+        setting = composing::next_setting(f, &mut state, setting);
+        run = composing::compose(f, &mut state, run, &mut frame, setting);
         sending::spoil(f, &mut frame);
         link = sending::send(f, link, &frame, &mut store);
         f += 1;
