@@ -14,7 +14,7 @@ use Rattle.header.specs.Layout.{startRows, identifierRows, controlRows, numberR
 use Rattle.header.specs.Header.{paired, startContent, identifierContent, controlContent, numberContent, privateContent, content, body, header}
 use Rattle.setting.specs.Setting.{blank}
 use Rattle.frame.specs.Composing.{someDiffer, announced, differ, nextCounter, nextVersion}
-use Rattle.frame.specs.Receiving.{openRow, rowOf}
+use Rattle.receiver.specs.Table.{openRow, rowOf}
 use Rattle.examples.specs.Examples.{Example, beyond, examples, ExamplesHold}
 
 -- whether two lists of numbers are the same

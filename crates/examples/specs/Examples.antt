@@ -10,10 +10,10 @@ use Rattle.setting.specs.Counters.{lastSlot, lastStream}
 use Rattle.setting.specs.Setting.{blank}
 use Rattle.header.specs.Header.{header}
 use Rattle.frame.specs.declared.composer.Composer.{Composer}
-use Rattle.frame.specs.declared.receiver.Stage.{Stage}
-use Rattle.frame.specs.declared.receiver.Row.{Row}
 use Rattle.frame.specs.Composing.{announced, nextCounter, nextVersion}
-use Rattle.frame.specs.Receiving.{good, other, rowOf, makesReady, droppedBy}
+use Rattle.receiver.specs.declared.table.Stage.{Stage}
+use Rattle.receiver.specs.declared.table.Row.{Row}
+use Rattle.receiver.specs.Table.{good, other, rowOf, makesReady, droppedBy}
 
 -- an example: its number in the document, what the definitions say, and what the document says
 pub record Example : Type 0 where

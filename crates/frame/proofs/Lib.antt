@@ -1,14 +1,9 @@
-mod Answers
+pub mod Answers
 mod Closing
 mod Differ
-pub mod Numbered
 pub mod Passed
 mod Placing
-mod Receipts
-mod ReceiverChecks
-mod Refusals
+pub mod Refusals
 mod Rest
 pub mod Said
-pub mod Sorts
-mod Table
 mod Walk

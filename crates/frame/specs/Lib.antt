@@ -1,5 +1,4 @@
--- Frames: what composing and receiving one answers and leaves.
+-- Frames: what composing one answers and leaves.
 pub mod Packets
 pub mod Slots
 pub mod Composing
-pub mod Receiving

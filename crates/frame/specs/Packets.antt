@@ -1,9 +1,10 @@
 -- Packets of 188 bytes, of which a frame has a header and one for each slot.
 use Prim.Native.Nat.{ℕ, _*_}
 use mathlib.Core.Bool.{Bool, not, _||_}
-use mathlib.Core.List.{List, _∷_}
+use mathlib.Core.List.{List, [], _∷_}
 use lib.Dec.{eqb}
-use lib.ListN.{take, drop, replicate}
+use lib.ListN.{length, take, drop, replicate}
+use Rattle.setting.specs.Refusal.{firstOf}
 use Rattle.header.specs.Layout.{syncByte}
 use Rattle.header.specs.Header.{startValue}
 
@@ -13,10 +14,6 @@ packetLength = 188
 -- 53 packets
 abbrev pub frameLength : ℕ
 frameLength = 9964
-
--- the receiver's store: the packets of slots 1 to 52
-abbrev pub storeLength : ℕ
-storeLength = 9776
 
 -- slot i: the 188 bytes that start at 188 × i. Slot 0 is the header
 unfoldable pub slot : ℕ → List ℕ → List ℕ
@@ -29,3 +26,7 @@ nullPacket = 0x47 ∷ 0x1F ∷ 0xFF ∷ 0x10 ∷ replicate 184 0xFF
 -- whether a packet lacks 0x47 or bears the header PID
 unfoldable pub unfit : ℕ → List ℕ → Bool
 unfit pid p = not (eqb (startValue p 0) syncByte) || eqb (startValue p 2) pid
+
+-- 1: it has not 188 bytes; 12: it is unfit; 0: it may stand in a slot
+unfoldable pub placeRefusal : ℕ → List ℕ → ℕ
+placeRefusal pid p = firstOf ((1, not (eqb (length p) packetLength)) ∷ (12, unfit pid p) ∷ [])

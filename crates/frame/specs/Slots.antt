@@ -1,5 +1,5 @@
 -- The slots of a frame, one after another: emptied, filled from a stream, and numbered.
-use Prim.Native.Nat.{ℕ, zero, suc, _+_, _*_}
+use Prim.Native.Nat.{ℕ, zero, suc, _+_}
 use mathlib.Core.Bool.{Bool, true, false, cond, not, _&&_, _||_}
 use mathlib.Core.List.{List, [], _∷_, _++_}
 use lib.Dec.{leb, eqb}
@@ -72,18 +72,3 @@ unfoldable pub numbersOf : List ℕ → List Bool → List ℕ
 numbersOf [] ms = []
 numbersOf (n ∷ ns) [] = []
 numbersOf (n ∷ ns) (m ∷ ms) = cond m n 0 ∷ numbersOf ns ms
-
--- the packets with number r, in slot order
-unfoldable pub numbered : ℕ → List ℕ → List ℕ → List ℕ
-numbered r [] bytes = []
-numbered r (n ∷ ns) bytes =
-    cond (eqb n r) (take packetLength bytes ++ numbered r ns (drop packetLength bytes)) (numbered r ns (drop packetLength bytes))
-
--- how many slots have number r
-unfoldable pub slotsFor : ℕ → List ℕ → ℕ
-slotsFor r [] = 0
-slotsFor r (n ∷ ns) = cond (eqb n r) 1 0 + slotsFor r ns
-
--- a packet over the bytes from a place on
-unfoldable pub over : ℕ → List ℕ → List ℕ → List ℕ
-over at p bytes = take at bytes ++ (p ++ drop (at + length p) bytes)

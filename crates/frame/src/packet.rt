@@ -2,7 +2,7 @@
 use setting::SLOTS;
 ghost use mathlib.Core.Path.{_≡_};
 ghost use lib.ListN.{length};
-ghost use Rattle.frame.specs.Packets.{packetLength, nullPacket, unfit};
+ghost use Rattle.frame.specs.Packets.{packetLength, nullPacket, unfit, placeRefusal};
 
 pub const PACKET_BYTES: usize = 188;
 
@@ -17,6 +17,19 @@ pub(crate) fn is_unfit(packet: &[u8], pid: u16) -> bool
         return true;
     }
     ((packet[1] % 32) as u16) * 256 + packet[2] as u16 == pid
+}
+
+// 1: not 188 bytes; 12: lacks 0x47 or bears the header PID; 0: may stand in a slot.
+pub fn place_refusal(packet: &[u8], pid: u16) -> u8
+    ensures { λ r. ⌜ r ≡ placeRefusal pid (now (packet .entry)) ⌝ }
+{
+    if packet.len() != PACKET_BYTES {
+        return 1;
+    }
+    if is_unfit(packet, pid) {
+        return 12;
+    }
+    0
 }
 
 // Writes a null packet into a slot.

@@ -3,11 +3,10 @@ use crate::packet;
 use crate::packet::PACKET_BYTES;
 use setting::SLOTS;
 ghost use mathlib.Core.Path.{_≡_};
-ghost use Prim.Native.Nat.{_*_, _≤_};
 ghost use lib.ListN.{length};
 ghost use Rattle.setting.specs.Counters.{lastSlot};
-ghost use Rattle.frame.specs.Packets.{packetLength, frameLength, storeLength};
-ghost use Rattle.frame.specs.Slots.{cleared, takes, someUnfit, frameAfter, marksAfter, restAfter, someUnplanned, numbersOf, numbered, slotsFor, over};
+ghost use Rattle.frame.specs.Packets.{frameLength};
+ghost use Rattle.frame.specs.Slots.{cleared, takes, someUnfit, frameAfter, marksAfter, restAfter, someUnplanned, numbersOf};
 
 // Writes null packets into slots 1 to 52.
 pub(crate) fn clear(frame: &mut [u8])
@@ -112,43 +111,6 @@ pub(crate) fn number(numbers: &mut [u8], filled: &[bool])
     while i < SLOTS {
         if !filled[i] {
             numbers[i] = 0;
-        }
-        i += 1;
-    }
-}
-
-// How many slots have number r.
-pub(crate) fn count(numbers: &[u8], r: u8) -> usize
-    requires { ⌜ length (now numbers) ≡ lastSlot ⌝ }
-    ensures { λ t. ⌜ t ≡ slotsFor r (now (numbers .entry)) ⌝ }
-{
-    let mut n = 0;
-    let mut i = 0;
-    while i < SLOTS {
-        if numbers[i] == r {
-            n += 1;
-        }
-        i += 1;
-    }
-    n
-}
-
-// Copies the store's packets with number r, in slot order, to the front of `out`.
-pub(crate) fn copy_numbered(out: &mut [u8], store: &[u8], numbers: &[u8], r: u8)
-    requires { ⌜ (length (now numbers) ≡ lastSlot) × (length (now store) ≡ storeLength) ⌝ }
-    requires { ⌜ packetLength * slotsFor r (now numbers) ≤ length (now out) ⌝ }
-    ensures { λ _. ⌜ now (out .exit) ≡ over 0 (numbered r (now (numbers .entry)) (now (store .entry))) (now (out .entry)) ⌝ }
-{
-    let mut i = 0;
-    let mut at = 0;
-    while i < SLOTS {
-        if numbers[i] == r {
-            let slot = PACKET_BYTES * i;
-            slices::copy(
-                &mut out[at..at + PACKET_BYTES],
-                &store[slot..slot + PACKET_BYTES],
-            );
-            at += PACKET_BYTES;
         }
         i += 1;
     }

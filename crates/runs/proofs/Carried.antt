@@ -14,7 +14,8 @@ use Rattle.bits.specs.Fields.{bitsOf, number, run, cut}
 use Rattle.header.specs.Rows.{place, rowAt}
 use Rattle.header.specs.Layout.{startRows}
 use Rattle.frame.specs.Packets.{packetLength, nullPacket, slot, unfit}
-use Rattle.frame.specs.Slots.{nulls, numbersOf, numbered, slotsFor}
+use Rattle.frame.specs.Slots.{nulls, numbersOf}
+use Rattle.receiver.specs.Store.{numbered, slotsFor}
 use Rattle.runs.specs.Work.{carries, taken, slotsFilled, numbersFilled}
 use Rattle.runs.proofs.Filled.{marksFilled, unfitFilled, Whole, EachWhole, whole-none, whole-taken, Slot, carried, idle}
 

@@ -25,8 +25,8 @@ use Rattle.header.proofs.Calls.{made}
 use Rattle.header.proofs.Whole.{length-header}
 use Rattle.frame.specs.declared.composer.Announced.{Announced}
 use Rattle.frame.specs.Packets.{packetLength, frameLength, nullPacket, slot, unfit}
-use Rattle.frame.specs.Slots.{numbered, slotsFor}
 use Rattle.frame.specs.Composing.{announced, differ, saying, fresh, answer, startOf}
+use Rattle.receiver.specs.Store.{numbered, slotsFor}
 use Rattle.runs.specs.Runs.{Call, Each, none, more, OfTypes, Run, started, framesOf}
 use Rattle.runs.specs.Work.{Work, noWork, worksOf, slotsFilled, numbersFilled, said, versionBehind, headedBehind, headed, frameOf}
 use Rattle.runs.specs.Composed.{headedBy, FramesHold, HeadersRead, FrontsPlaced, PacketsFit}

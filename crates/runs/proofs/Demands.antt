@@ -21,11 +21,11 @@ use Rattle.header.specs.declared.Reading.{Reading}
 use Rattle.header.specs.Header.{header}
 use Rattle.header.proofs.Whole.{length-header}
 use Rattle.frame.specs.declared.composer.Announced.{Announced}
-use Rattle.frame.specs.declared.receiver.Stage.{Stage}
-use Rattle.frame.specs.Packets.{packetLength, frameLength, storeLength, slot, unfit}
-use Rattle.frame.specs.Slots.{numbered, slotsFor}
+use Rattle.frame.specs.Packets.{packetLength, frameLength, slot, unfit}
 use Rattle.frame.specs.Composing.{announced, saying}
-use Rattle.frame.specs.Receiving.{waiting, startReceiverOf}
+use Rattle.receiver.specs.declared.table.Stage.{Stage}
+use Rattle.receiver.specs.Store.{storeLength, numbered, slotsFor}
+use Rattle.receiver.specs.Receiving.{waiting, startReceiverOf}
 use Rattle.runs.specs.Runs.{Call, Each, none, more, OfTypes, started, framesOf}
 use Rattle.runs.specs.Work.{Work, noWork, worksOf, slotsFilled, said, versionBehind, headedBehind, headed, frameOf}
 use Rattle.runs.specs.Composed.{headedBy}

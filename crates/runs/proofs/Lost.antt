@@ -13,10 +13,10 @@ use Rattle.setting.specs.declared.Setting.{Setting}
 use Rattle.setting.specs.Counters.{lastSlot}
 use Rattle.header.specs.declared.Reading.{Reading}
 use Rattle.header.specs.Header.{readRefusal, readOf}
-use Rattle.frame.specs.declared.receiver.Stage.{Stage}
-use Rattle.frame.specs.Packets.{packetLength, frameLength, storeLength, slot, unfit}
-use Rattle.frame.specs.Slots.{numbered}
-use Rattle.frame.proofs.Sorts.{not-good}
+use Rattle.frame.specs.Packets.{packetLength, frameLength, slot, unfit}
+use Rattle.receiver.specs.declared.table.Stage.{Stage}
+use Rattle.receiver.specs.Store.{storeLength, numbered}
+use Rattle.receiver.proofs.Sorts.{not-good}
 use Rattle.runs.specs.Runs.{Each, none, more}
 use Rattle.runs.specs.Losses.{Fate, kept, lost, spoiled, isKept, Sent, MayHappen, Refused, headerArrives, packetsArrive, arriving, Reception, afterPacket, handedOut, numbersIn, entire, wanted}
 use Rattle.runs.specs.Demands.{Asked}

@@ -14,12 +14,12 @@ use Rattle.setting.specs.declared.Setting.{Setting}
 use Rattle.setting.specs.Counters.{lastSlot}
 use Rattle.header.specs.declared.Reading.{Reading}
 use Rattle.frame.specs.declared.composer.Announced.{Announced}
-use Rattle.frame.specs.declared.receiver.Receiver.{Receiver}
-use Rattle.frame.specs.Packets.{packetLength, frameLength, storeLength, slot, unfit}
-use Rattle.frame.specs.Slots.{numbered, slotsFor}
+use Rattle.frame.specs.Packets.{packetLength, frameLength, slot, unfit}
 use Rattle.frame.specs.Composing.{announced, saying}
-use Rattle.frame.specs.Receiving.{waiting}
-use Rattle.frame.proofs.Numbered.{length-numbered}
+use Rattle.receiver.specs.declared.Receiver.{Receiver}
+use Rattle.receiver.specs.Store.{storeLength, numbered, slotsFor}
+use Rattle.receiver.specs.Receiving.{waiting}
+use Rattle.receiver.proofs.Handing.{length-numbered}
 use Rattle.runs.specs.Runs.{Call, Each, none, more, OfTypes, started, framesOf}
 use Rattle.runs.specs.Work.{Work, noWork, worksOf, numbersFilled, said, headedBehind, headed, frameOf, added, taken}
 use Rattle.runs.specs.Composed.{headedBy}

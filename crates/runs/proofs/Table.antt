@@ -20,15 +20,16 @@ use Rattle.setting.proofs.Refusals.{first-none, none-first, none-at, none-appen
 use Rattle.setting.proofs.Fields.{some-fit}
 use Rattle.header.specs.Layout.{syncByte}
 use Rattle.header.specs.Header.{startValue, callChecks, packetChecks, readRefusal, reading, readOf}
-use Rattle.frame.specs.declared.receiver.Stage.{Stage}
-use Rattle.frame.specs.declared.receiver.Event.{Event}
-use Rattle.frame.specs.declared.receiver.Row.{Row}
-use Rattle.frame.specs.declared.receiver.Receiver.{Receiver}
-use Rattle.frame.specs.Packets.{packetLength, storeLength, unfit}
-use Rattle.frame.specs.Slots.{numbered, slotsFor, over}
+use Rattle.frame.specs.Packets.{packetLength, unfit}
 use Rattle.frame.specs.Composing.{leaves}
-use Rattle.frame.specs.Receiving.{makesReady, Sort, good, broken, other, sortOf, counterStep, row, openRow, rowOf, storedOf, storeAfter, moved, renumbered, receiverAfter, stageChecks, receiverChecks, receiveRefusal, rowFor, receiveOf, receiveStore, isReady, handOutRefusal, handOutOf, handOutBuffer}
-use Rattle.frame.proofs.Sorts.{not-good}
+use Rattle.receiver.specs.declared.table.Stage.{Stage}
+use Rattle.receiver.specs.declared.table.Event.{Event}
+use Rattle.receiver.specs.declared.table.Row.{Row}
+use Rattle.receiver.specs.declared.Receiver.{Receiver}
+use Rattle.receiver.specs.Store.{storeLength, numbered, slotsFor, over}
+use Rattle.receiver.specs.Table.{makesReady, Sort, good, broken, other, sortOf, counterStep, row, openRow, rowOf, storedOf, storeAfter, isReady}
+use Rattle.receiver.specs.Receiving.{moved, renumbered, receiverAfter, stageChecks, receiverChecks, receiveRefusal, rowFor, receiveOf, receiveStore, handOutRefusal, handOutOf, handOutBuffer}
+use Rattle.receiver.proofs.Sorts.{not-good}
 use Rattle.runs.specs.Runs.{Each, none, more}
 use Rattle.runs.specs.Losses.{Reception, afterPacket, handed, handedOut}
 

@@ -17,15 +17,16 @@ use Rattle.setting.specs.Refusal.{NoneHolds, none, more}
 use Rattle.setting.proofs.Refusals.{first-none, none-append}
 use Rattle.header.specs.declared.Reading.{Reading}
 use Rattle.header.specs.Header.{readRefusal, reading, readOf}
-use Rattle.frame.specs.declared.receiver.Stage.{Stage}
-use Rattle.frame.specs.declared.receiver.Event.{Event}
-use Rattle.frame.specs.declared.receiver.Row.{Row}
-use Rattle.frame.specs.declared.receiver.Receiver.{Receiver}
-use Rattle.frame.specs.Packets.{packetLength, frameLength, storeLength, slot, unfit}
-use Rattle.frame.specs.Slots.{numbered, slotsFor, over}
+use Rattle.frame.specs.Packets.{packetLength, frameLength, slot, unfit}
 use Rattle.frame.specs.Composing.{leaves}
-use Rattle.frame.specs.Receiving.{makesReady, Sort, good, broken, other, sortOf, counterStep, row, openRow, rowOf, storeAfter, renumbered, receiverAfter, rowFor, receiveOf, isReady, receiverChecks, handOutRefusal, handOutOf, handOutBuffer}
-use Rattle.frame.proofs.Numbered.{length-numbered}
+use Rattle.receiver.specs.declared.table.Stage.{Stage}
+use Rattle.receiver.specs.declared.table.Event.{Event}
+use Rattle.receiver.specs.declared.table.Row.{Row}
+use Rattle.receiver.specs.declared.Receiver.{Receiver}
+use Rattle.receiver.specs.Store.{storeLength, numbered, slotsFor, over}
+use Rattle.receiver.specs.Table.{makesReady, Sort, good, broken, other, sortOf, counterStep, row, openRow, rowOf, storeAfter, isReady}
+use Rattle.receiver.specs.Receiving.{renumbered, receiverAfter, rowFor, receiveOf, receiverChecks, handOutRefusal, handOutOf, handOutBuffer}
+use Rattle.receiver.proofs.Handing.{length-numbered}
 use Rattle.runs.specs.Losses.{Reception, afterPacket, handed, handedOut}
 use Rattle.runs.specs.Demands.{Asked}
 use Rattle.runs.proofs.Table.{Opens, open-at, ready-at, InRange, waits, opens, Set, state-none, event-is, after-is, row-opens}

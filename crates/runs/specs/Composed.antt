@@ -11,7 +11,7 @@ use Rattle.setting.specs.Counters.{firstStream, firstSlot, lastSlot}
 use Rattle.setting.specs.Rules.{pidAllowed}
 use Rattle.header.specs.Header.{readOf}
 use Rattle.frame.specs.Packets.{packetLength, frameLength, slot, unfit}
-use Rattle.frame.specs.Slots.{numbered, slotsFor}
+use Rattle.receiver.specs.Store.{numbered, slotsFor}
 use Rattle.runs.specs.Runs.{Call, Each, OfTypes, started, framesOf}
 use Rattle.runs.specs.Work.{Work, noWork, worksOf, slotsFilled, headed, frameOf}
 

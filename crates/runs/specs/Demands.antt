@@ -8,8 +8,8 @@ use Rattle.setting.specs.declared.Kind.{Kind}
 use Rattle.setting.specs.declared.Setting.{Setting}
 use Rattle.setting.specs.Counters.{firstStream, lastStream, lastSlot}
 use Rattle.setting.specs.Rules.{pidAllowed}
-use Rattle.frame.specs.Packets.{packetLength, storeLength}
-use Rattle.frame.specs.Slots.{slotsFor}
+use Rattle.frame.specs.Packets.{packetLength}
+use Rattle.receiver.specs.Store.{storeLength, slotsFor}
 use Rattle.runs.specs.Runs.{Call, Each, OfTypes, started, framesOf}
 use Rattle.runs.specs.Work.{Work, frameOf}
 use Rattle.runs.specs.Composed.{headedBy}

@@ -7,10 +7,11 @@ use lib.ListN.{length, take, drop}
 use Rattle.setting.specs.declared.Kind.{Kind}
 use Rattle.setting.specs.Counters.{lastSlot}
 use Rattle.header.specs.Header.{readRefusal, readOf}
-use Rattle.frame.specs.declared.receiver.Receiver.{Receiver}
 use Rattle.frame.specs.Packets.{packetLength, slot}
-use Rattle.frame.specs.Slots.{numbered}
-use Rattle.frame.specs.Receiving.{makesReady, startReceiverOf, receiveOf, receiveStore, handOutOf, handOutBuffer}
+use Rattle.receiver.specs.declared.Receiver.{Receiver}
+use Rattle.receiver.specs.Store.{numbered}
+use Rattle.receiver.specs.Table.{makesReady}
+use Rattle.receiver.specs.Receiving.{startReceiverOf, receiveOf, receiveStore, handOutOf, handOutBuffer}
 use Rattle.runs.specs.Runs.{Each}
 
 -- ---- on the way

@@ -1,5 +1,6 @@
 -- `put` meets its contract: what is left of the stream says how many packets were placed. Assumes nothing.
 use mathlib.Core.Path.{_≡_, sym, _∙_}
+use native.Mathlib.Omega.{arith}
 use borrow.Author.Needs.{needs}
 use borrow.Author.Tests.{ne-eqb}
 use lib.ListN.{length}
@@ -44,7 +45,7 @@ place-requires c κs =
     (past checked .long, slots (start checked))
 
 sub-placed : tie.Need-sub-placed
-sub-placed c = left-within _ _ _ _ (c .before .before .before .place .ensures .0)
+sub-placed c = omega (arith, left-within _ _ _ _ (c .before .before .before .place .ensures .0))
 
 same-length : tie.Need-same-length
 same-length c = search needs

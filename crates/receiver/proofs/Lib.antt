@@ -1,0 +1,5 @@
+pub mod Handing
+mod Receipts
+mod ReceiverChecks
+mod Rows
+pub mod Sorts

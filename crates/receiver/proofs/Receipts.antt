@@ -1,0 +1,105 @@
+-- What a receiver's calls answer and leave, by whether they are refused and by the packet's sort. Assumes nothing.
+use Prim.Native.Nat.{ℕ}
+use mathlib.Core.Path.{_≡_, refl, sym, ap, _∙_}
+use mathlib.Core.List.{List}
+use borrow.Author.Tests.{eq-eqb, ne-eqb}
+use lib.ListN.{length}
+use Rattle.setting.specs.declared.Setting.{Setting}
+use Rattle.header.specs.Header.{reading}
+use Rattle.frame.proofs.Answers.{kept, written}
+use Rattle.receiver.specs.declared.table.Event.{Event}
+use Rattle.receiver.specs.declared.Received.{Received}
+use Rattle.receiver.specs.declared.Receiver.{Receiver}
+use Rattle.receiver.specs.declared.table.Row.{Row}
+use Rattle.receiver.specs.Store.{numbered, slotsFor, over}
+use Rattle.receiver.specs.Table.{Sort, good, broken, other, sortOf, rowOf, storeAfter}
+use Rattle.receiver.specs.Receiving.{rowFor, moved, renumbered, receiverAfter, receiveRefusal, receiveOf, receiveStore, handOutRefusal, handOutOf, handOutBuffer}
+use Rattle.receiver.proofs.Rows.{other-counter, broken-counter}
+
+-- ---- a packet
+
+module _ (c : Receiver) (p store : List ℕ) where
+  abbrev refusal : ℕ
+  refusal = receiveRefusal c (length p) (length store)
+
+  -- a row's answer that keeps the numbers
+  abbrev pub keeping : Row → Received
+  keeping row = record { refusal = 0; event = row .event; state = moved c (row .stage) }
+
+  -- and one that takes what a header says
+  abbrev pub renumbering : Row → Setting → Received
+  renumbering row said = record { refusal = 0; event = row .event; state = renumbered c (row .stage) (said .«relative_ts_number») }
+
+  module _ {n : ℕ} (e : n ≡ refusal) (h : n ≡ 0 → ⊥) where
+    pub refused-receipt : record { refusal = n; event = Event.Nothing; state = c } ≡ receiveOf c p (length store)
+    unfolding receiveOf
+    refused-receipt = rw (sym e, ne-eqb n 0 h) refl
+
+    pub refused-store : store ≡ receiveStore c p store
+    unfolding receiveStore
+    refused-store = kept e _ store h
+
+  module _ (e : refusal ≡ 0) where
+    taken-store : {s : Sort} → sortOf (c .kind) (c .pid) p ≡ s → receiveStore c p store ≡ storeAfter (c .stage) s p store
+    unfolding receiveStore
+    taken-store s = sym (written refl _ store e) ∙ ap (λ (t : Sort). storeAfter (c .stage) t p store) s
+
+    taken-receipt : {s : Sort} → sortOf (c .kind) (c .pid) p ≡ s
+        → receiveOf c p (length store)
+        ≡ record {
+          refusal = 0;
+          event = rowOf (c .stage) s (reading (c .kind) p .«continuity_counter») .event;
+          state = receiverAfter c s (rowOf (c .stage) s (reading (c .kind) p .«continuity_counter») .stage) (reading (c .kind) p .«relative_ts_number»);
+        }
+    unfolding receiveOf rowFor
+    taken-receipt s = rw (eq-eqb refusal 0 e, s) refl
+
+    module _ {row : Row} where
+      pub other-receipt : sortOf (c .kind) (c .pid) p ≡ other → row ≡ rowOf (c .stage) other 0 → keeping row ≡ receiveOf c p (length store)
+      unfolding receiverAfter
+      other-receipt s r = ap keeping (r ∙ other-counter (c .stage) (reading (c .kind) p .«continuity_counter»)) ∙ sym (taken-receipt s)
+
+      pub broken-receipt : sortOf (c .kind) (c .pid) p ≡ broken → row ≡ rowOf (c .stage) broken 0 → keeping row ≡ receiveOf c p (length store)
+      unfolding receiverAfter
+      broken-receipt s r = ap keeping (r ∙ broken-counter (c .stage) (reading (c .kind) p .«continuity_counter»)) ∙ sym (taken-receipt s)
+
+      pub good-receipt : sortOf (c .kind) (c .pid) p ≡ good → (said : Setting) → said ≡ reading (c .kind) p → row ≡ rowOf (c .stage) good (said .«continuity_counter»)
+          → renumbering row said ≡ receiveOf c p (length store)
+      unfolding receiverAfter
+      good-receipt s said t r =
+          ap (λ (w : Row). renumbering w said) r ∙ ap (λ (u : Setting). renumbering (rowOf (c .stage) good (u .«continuity_counter»)) u) t ∙ sym (taken-receipt s)
+
+    pub other-store : sortOf (c .kind) (c .pid) p ≡ other → storeAfter (c .stage) other p store ≡ receiveStore c p store
+    other-store s = sym (taken-store s)
+
+    pub broken-store : sortOf (c .kind) (c .pid) p ≡ broken → store ≡ receiveStore c p store
+    unfolding storeAfter
+    broken-store s = sym (taken-store s)
+
+    pub good-store : sortOf (c .kind) (c .pid) p ≡ good → store ≡ receiveStore c p store
+    unfolding storeAfter
+    good-store s = sym (taken-store s)
+
+-- ---- a ready frame
+
+module _ (c : Receiver) (r : ℕ) (store out : List ℕ) where
+  abbrev handing : ℕ
+  handing = handOutRefusal c r (length store) (length out)
+
+  module _ {n : ℕ} (e : n ≡ handing) (h : n ≡ 0 → ⊥) where
+    pub refused-frame : record { refusal = n; packets = 0 } ≡ handOutOf c r (length store) (length out)
+    unfolding handOutOf
+    refused-frame = rw (sym e, ne-eqb n 0 h) refl
+
+    pub refused-buffer : out ≡ handOutBuffer c r store out
+    unfolding handOutBuffer
+    refused-buffer = kept e _ out h
+
+  module _ (e : handing ≡ 0) where
+    pub handed-frame : {k : ℕ} → k ≡ slotsFor r (c .before) → record { refusal = 0; packets = k } ≡ handOutOf c r (length store) (length out)
+    unfolding handOutOf
+    handed-frame k = rw (e, k) refl
+
+    pub handed-buffer : over 0 (numbered r (c .before) store) out ≡ handOutBuffer c r store out
+    unfolding handOutBuffer
+    handed-buffer = written refl _ out e
