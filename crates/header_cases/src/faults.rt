@@ -1,6 +1,6 @@
 // Step 10 and the faults: each takes two draws, x and y, and changes what is lent to the writer.
-use crate::draws::below;
-use crate::draws::draw;
+use draws::below;
+use draws::draw;
 use setting::Kind;
 use setting::Setting;
 use setting::counters::FramePosition;

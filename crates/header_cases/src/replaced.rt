@@ -1,6 +1,6 @@
 // Steps 11 and 13: one byte of the header is replaced, and the CRC may be made right again.
-use crate::draws::below;
-use crate::draws::byte_below;
+use draws::below;
+use draws::byte_below;
 ghost use mathlib.Core.Path.{_≡_};
 ghost use lib.ListN.{length};
 

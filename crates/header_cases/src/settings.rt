@@ -1,12 +1,10 @@
 // Steps 4 to 9: a setting that meets the rules, but that identifier pairs may repeat.
-use crate::draws::below;
-use crate::draws::byte_below;
-use crate::draws::draw_bytes;
-use crate::draws::draw_words;
+use draws::below;
+use draws::byte_below;
+use draws::draw_bytes;
+use draws::settings;
 use setting::AUXILIARY_BYTES;
 use setting::Kind;
-use setting::PRIVATE_BYTES;
-use setting::SLOTS;
 use setting::STREAMS;
 use setting::Setting;
 use setting::counters::FramePosition;
@@ -49,57 +47,16 @@ fn repeat_unavailable(availability: u16, ids: &mut [u16; STREAMS]) {
     }
 }
 
-fn with_identifiers(state: &mut u32, mut s: Setting) -> Setting {
-    let mut ts = [0u16; STREAMS];
-    draw_words(state, &mut ts);
-    let mut os = [0u16; STREAMS];
-    draw_words(state, &mut os);
+// Once identifiers are drawn: whether unavailable streams repeat them.
+fn with_repeats(state: &mut u32, mut s: Setting) -> Setting {
     if below(state, 4) != 0 {
+        let mut ts = s.ts_id;
         repeat_unavailable(s.availability, &mut ts);
+        s.ts_id = ts;
+        let mut os = s.original_network_id;
         repeat_unavailable(s.availability, &mut os);
+        s.original_network_id = os;
     }
-    s.ts_id = ts;
-    s.original_network_id = os;
-    s
-}
-
-fn with_control(state: &mut u32, mut s: Setting) -> Setting {
-    let mut status = [0u8; STREAMS];
-    draw_bytes(state, &mut status, 4);
-    s.receive_status = status;
-    s.emergency_indicator = byte_below(state, 2);
-    s
-}
-
-// n, where stream n is available.
-fn number_of(availability: u16, n: u8) -> u8 {
-    if RelativeNumber(n).is_available(availability) {
-        n
-    } else {
-        0
-    }
-}
-
-fn draw_numbers(state: &mut u32, availability: u16, numbers: &mut [u8]) {
-    let mut i = 0;
-    while i < numbers.len() {
-        let n = byte_below(state, 16);
-        numbers[i] = number_of(availability, n);
-        i += 1;
-    }
-}
-
-fn with_numbers(state: &mut u32, mut s: Setting) -> Setting {
-    let mut numbers = [0u8; SLOTS];
-    draw_numbers(state, s.availability, &mut numbers);
-    s.relative_ts_number = numbers;
-    s
-}
-
-fn with_private(state: &mut u32, mut s: Setting) -> Setting {
-    let mut bytes = [0u8; PRIVATE_BYTES];
-    draw_bytes(state, &mut bytes, 256);
-    s.private_data = bytes;
     s
 }
 
@@ -121,11 +78,12 @@ fn with_extension(state: &mut u32, mut s: Setting) -> Setting {
 pub(crate) fn draw_setting(state: &mut u32, kind: Kind) -> Setting {
     let start = with_start(state, kind, Setting::blank());
     let available = with_availability(state, start);
-    let identified = with_identifiers(state, available);
-    let controlled = with_control(state, identified);
-    let numbered = with_numbers(state, controlled);
+    let identified = settings::with_identifiers(state, available);
+    let repeated = with_repeats(state, identified);
+    let controlled = settings::with_control(state, repeated);
+    let numbered = settings::with_numbers(state, controlled);
     match kind {
-        Kind::Plain => with_private(state, numbered),
+        Kind::Plain => settings::with_private(state, numbered),
         Kind::Extended => with_extension(state, numbered),
     }
 }

@@ -1,20 +1,21 @@
--- `draw_numbers` is safe and ends: each turn draws the next slot's number. Assumes nothing.
-use Prim.Native.Nat.{_-_, _≤_}
-use mathlib.Core.Path.{_≡_}
+-- `draw_numbers` meets its contract: each turn draws the next value. Assumes nothing.
+use Prim.Native.Nat.{_-_}
 use native.Mathlib.Omega.{arith}
 use borrow.Author.Needs.{needs}
-use lib.ListN.{length, length-set}
-use Rattle.header_cases.proofs.settings.draw_numbers.Statement.{statement}
-use Rattle.header_cases.proofs.settings.draw_numbers.Tie as tie
+use lib.ListN.{length}
+use Rattle.draws.specs.Settings.{numberFor}
+use Rattle.draws.proofs.Drawing.{Drawing, drawing-none, drawing-more, drawing-all}
+use Rattle.draws.proofs.settings.draw_numbers.Statement.{statement}
+use Rattle.draws.proofs.settings.draw_numbers.Tie as tie
 
 abbrev Inv-loop : tie.InvT-loop
-Inv-loop state₀ availability numbers₀ i₀ state numbers i = (i ≤ length numbers) × (length numbers ≡ length numbers₀)
+Inv-loop state₀ availability numbers₀ i₀ state numbers i = Drawing (numberFor availability) state₀ numbers₀ state numbers i
 
 abbrev μ-loop : tie.MeasureT-loop
 μ-loop state₀ availability numbers₀ i₀ state numbers i = length numbers₀ - i
 
 loop-holds : tie.Need-loop-holds Inv-loop μ-loop
-loop-holds c = search needs
+loop-holds c = drawing-none _ _ _
 
 byte-below-requires : tie.Need-byte-below-requires Inv-loop μ-loop
 byte-below-requires c κs = search needs
@@ -32,13 +33,16 @@ loop-less : tie.Need-loop-less Inv-loop μ-loop
 loop-less c = search needs
 
 loop-again : tie.Need-loop-again Inv-loop μ-loop
-loop-again c = simp length-set (omega arith)
+unfolding numberFor
+loop-again c =
+    let call = c .before in
+    drawing-more (call .before .before .before .loop .inv) (omega arith) (call .byte-below .ensures .1 .1) (rw (c .number-of .ensures, call .byte-below .ensures .0))
 
 same-length : tie.Need-same-length Inv-loop μ-loop
-same-length c = search needs
+same-length c = c .before .loop .inv .same
 
 returns : tie.Need-returns Inv-loop μ-loop
-returns c = search needs
+returns c = drawing-all (c .before .loop .inv) (omega arith)
 
 pub draw-numbers-spec : {M : Type 1} → statement M
 draw-numbers-spec =

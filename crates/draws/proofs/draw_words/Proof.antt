@@ -1,20 +1,21 @@
--- `draw_words` is safe and ends: each turn draws the next value. Assumes nothing.
-use Prim.Native.Nat.{_-_, _≤_}
-use mathlib.Core.Path.{_≡_}
+-- `draw_words` meets its contract: each turn draws the next value. Assumes nothing.
+use Prim.Native.Nat.{_-_}
 use native.Mathlib.Omega.{arith}
 use borrow.Author.Needs.{needs}
-use lib.ListN.{length, length-set}
-use Rattle.header_cases.proofs.draws.draw_words.Statement.{statement}
-use Rattle.header_cases.proofs.draws.draw_words.Tie as tie
+use lib.ListN.{length}
+use Rattle.draws.specs.Draws.{whole}
+use Rattle.draws.proofs.Drawing.{Drawing, drawing-none, drawing-more, drawing-all}
+use Rattle.draws.proofs.draw_words.Statement.{statement}
+use Rattle.draws.proofs.draw_words.Tie as tie
 
 abbrev Inv-loop : tie.InvT-loop
-Inv-loop state₀ values₀ i₀ state values i = (i ≤ length values) × (length values ≡ length values₀)
+Inv-loop state₀ values₀ i₀ state values i = Drawing whole state₀ values₀ state values i
 
 abbrev μ-loop : tie.MeasureT-loop
 μ-loop state₀ values₀ i₀ state values i = length values₀ - i
 
 loop-holds : tie.Need-loop-holds Inv-loop μ-loop
-loop-holds c = search needs
+loop-holds c = drawing-none _ _ _
 
 draw-requires : tie.Need-draw-requires Inv-loop μ-loop
 draw-requires c κs = search needs
@@ -32,13 +33,15 @@ loop-less : tie.Need-loop-less Inv-loop μ-loop
 loop-less c = search needs
 
 loop-again : tie.Need-loop-again Inv-loop μ-loop
-loop-again c = simp length-set (omega arith)
+unfolding whole
+loop-again c =
+    drawing-more (c .before .before .before .loop .inv) (omega arith) (c .draw .ensures .1) (c .draw .ensures .0)
 
 same-length : tie.Need-same-length Inv-loop μ-loop
-same-length c = search needs
+same-length c = c .before .loop .inv .same
 
 returns : tie.Need-returns Inv-loop μ-loop
-returns c = search needs
+returns c = drawing-all (c .before .loop .inv) (omega arith)
 
 pub draw-words-spec : {M : Type 1} → statement M
 draw-words-spec =
