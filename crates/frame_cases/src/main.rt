@@ -3,8 +3,8 @@
 use crate::receiving::Link;
 use frame::composer::Composer;
 use frame::packet::FRAME_BYTES;
-use frame::receiver::Receiver;
-use frame::receiver::STORE_BYTES;
+use receiver::Receiver;
+use receiver::STORE_BYTES;
 use setting::Kind;
 use setting::Setting;
 

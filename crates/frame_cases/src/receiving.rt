@@ -1,12 +1,12 @@
 // Packets received one after another, and ready frames handed out.
 use crate::lines;
 use frame::packet::PACKET_BYTES;
-use frame::receiver::Event;
-use frame::receiver::Receiver;
-use frame::receiver::STORE_BYTES;
+use receiver::Receiver;
+use receiver::STORE_BYTES;
+use receiver::table::Event;
 use setting::counters::RelativeNumber;
 
-// The receiver, and how many packets it received.
+// The receiver, and how many packets it received, a count that would wrap at 2^64.
 pub(crate) struct Link {
     pub(crate) received: u64,
     pub(crate) receiver: Receiver,

@@ -1,5 +1,5 @@
 pub mod Handing
 mod Receipts
-mod ReceiverChecks
+pub mod ReceiverChecks
 mod Rows
 pub mod Sorts

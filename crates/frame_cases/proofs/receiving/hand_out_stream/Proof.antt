@@ -1,21 +1,22 @@
 -- `hand_out_stream` is safe: what is handed out fits the buffer. Assumes nothing.
 use Prim.Native.Nat.{ℕ, _*_, _≤_}
-use mathlib.Core.Path.{_≡_, refl, ap}
+use mathlib.Core.Path.{_≡_, refl, subst⁻¹}
 use mathlib.Core.Bool.{Bool, true, false, cond}
 use native.Mathlib.Omega.{arith}
 use borrow.Author.Needs.{needs}
 use borrow.Author.Tests.{eqb-true}
 use lib.Dec.{eqb}
 use lib.ListN.{length}
-use Rattle.frame.specs.declared.receiver.HandedOut.{HandedOut}
-use Rattle.frame.specs.declared.receiver.Receiver.{Receiver}
+use Rattle.receiver.specs.declared.HandedOut.{HandedOut}
+use Rattle.receiver.specs.declared.Receiver.{Receiver}
 use Rattle.frame.specs.Packets.{packetLength}
-use Rattle.frame.specs.Slots.{slotsFor}
-use Rattle.frame.specs.Receiving.{handOutRefusal, handOutOf}
-use Rattle.frame.proofs.ReceiverChecks.{handed-room}
+use Rattle.receiver.specs.Store.{slotsFor}
+use Rattle.receiver.specs.Receiving.{handOutRefusal, handOutOf}
+use Rattle.receiver.proofs.ReceiverChecks.{handed-room}
 use Rattle.frame_cases.proofs.receiving.hand_out_stream.Statement.{statement}
 use Rattle.frame_cases.proofs.receiving.hand_out_stream.Tie as tie
 
+-- a refused call hands out nothing, and one that is not has room
 room : (c : Receiver) (r store out : ℕ) → packetLength * handOutOf c r store out .packets ≤ out
 unfolding handOutOf
 room c r store out = by-refusal (eqb (handOutRefusal c r store out) 0) refl
@@ -24,12 +25,12 @@ room c r store out = by-refusal (eqb (handOutRefusal c r store out) 0) refl
     by-refusal true e = handed-room c r store out (eqb-true _ _ e)
     by-refusal false e = omega arith
 
+-- so in the program's buffer
 fits : (c : tie.After-hand-out) → packetLength * c .hand-out .result .packets ≤ 9776
 fits c =
     let at = c .before .before .before .args in
-    let e = ap (λ (h : HandedOut). packetLength * h .packets) (c .hand-out .ensures .0) in
-    let few = room (at .receiver) (at .r) (length (at .store .now)) 9776 in
-    omega arith
+    let store = length (at .store .now) in
+    subst⁻¹ (λ (h : HandedOut). packetLength * h .packets ≤ 9776) {y = handOutOf (at .receiver) (at .r) store 9776} (c .hand-out .ensures .0) (room (at .receiver) (at .r) store 9776)
 
 slice-aggregate-hand-out : tie.Need-slice-aggregate-hand-out
 slice-aggregate-hand-out c = search needs
