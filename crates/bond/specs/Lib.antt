@@ -1,0 +1,2 @@
+-- Bonded carriers: the order of the places of a group.
+pub mod Order

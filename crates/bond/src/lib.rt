@@ -1,0 +1,1 @@
+// Bonded carriers: the order of their places.
