@@ -4,10 +4,11 @@ use mathlib.Core.Path.{_≡_}
 use mathlib.Core.Logic.{_⊎_}
 use mathlib.Core.Bool.{Bool, true, _&&_, _||_}
 use lib.Dec.{ltb, eqb}
+use Rattle.setting.specs.Counters.{firstSlot, lastSlot, firstPosition}
 
--- slot i of frame position f stands at p
+-- slot i of frame position f stands at p = 53 × (f − 1) + i
 abbrev pub placeOf : ℕ → ℕ → ℕ
-placeOf f i = 53 * (f - 1) + i
+placeOf f i = (lastSlot + 1) * (f - firstPosition) + i
 
 -- a place: its carrier's sequence number, how many frames that has, and where it stands
 pub record Place : Type 0 where
@@ -41,6 +42,6 @@ pub record StrictTotal : Type 0 where
 -- within a carrier it is the order of frame position, then slot
 abbrev pub ByPositionThenSlot : Type 0
 ByPositionThenSlot =
-    (carrier frames f i g j : ℕ) → (frames ≡ 3) ⊎ (frames ≡ 4) → 1 ≤ f → 1 ≤ g → 1 ≤ i → i ≤ 52 → 1 ≤ j → j ≤ 52
+    (carrier frames f i g j : ℕ) → (frames ≡ 3) ⊎ (frames ≡ 4) → firstPosition ≤ f → firstPosition ≤ g → firstSlot ≤ i → i ≤ lastSlot → firstSlot ≤ j → j ≤ lastSlot
     → comesBefore (record { carrier = carrier; frames = frames; at = placeOf f i }) (record { carrier = carrier; frames = frames; at = placeOf g j })
     ≡ ltb f g || (eqb f g && ltb i j)

@@ -20,12 +20,12 @@ use Rattle.frame.specs.Composing.{asked, inTurn, announcedChecks, stateC
 
 -- ---- asked
 
-ask-all : (cs : List Check) → asked true cs ≡ cs
+pub ask-all : (cs : List Check) → asked true cs ≡ cs
 unfolding asked
 ask-all [] = refl
 ask-all (c ∷ cs) = ap (λ (l : List Check). c ∷ l) (ask-all cs)
 
-ask-none : (cs : List Check) → NoneHolds (asked false cs)
+pub ask-none : (cs : List Check) → NoneHolds (asked false cs)
 unfolding asked
 ask-none [] = none
 ask-none (c ∷ cs) = more refl (ask-none cs)

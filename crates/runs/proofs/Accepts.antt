@@ -23,6 +23,7 @@ use Rattle.frame.specs.declared.composer.Composer.{Composer}
 use Rattle.frame.specs.Packets.{packetLength, frameLength, unfit}
 use Rattle.frame.specs.Slots.{marksAfter, someUnfit, someUnplanned}
 use Rattle.frame.specs.Composing.{announced, differ, fresh, opened, marked, nextCounter, nextVersion, closedWith, closed, asked, inTurn, announcedChecks, stateChecks, openRuleChecks, markChecks, openChecks, streamChecks, beginRefusal, putRefusal, closeRefusal}
+use Rattle.frame.proofs.Refusals.{ask-all, ask-none}
 use Rattle.frame.proofs.Said.{version-narrow}
 use Rattle.runs.specs.Runs.{Call, begin, put, close, Each, none, more, OfTypes, Run, started, refusalOf, after}
 use Rattle.runs.specs.Work.{Work, added, workAfter, doneBy, worksOf, noWork, numbersFilled}
@@ -150,16 +151,12 @@ pub record Busy (c : Composer) (marks : List Bool) : Type 0 where
   pub setting-is : c .setting ≡ oneSlot
   pub marks-are : c .filled ≡ marks
 
-ask-nothing : {b : Bool} (cs : List Check) → b ≡ false → NoneHolds (asked b cs)
-unfolding asked
-ask-nothing [] e = none
-ask-nothing (c ∷ cs) e = more (ap (λ (x : Bool). x && c .1) e) (ask-nothing cs e)
+shut-none : {b : Bool} (cs : List Check) → b ≡ false → NoneHolds (asked b cs)
+shut-none cs e = rw e (ask-none cs)
 
-ask-all : (b : Bool) {cs : List Check} → NoneHolds cs → NoneHolds (asked b cs)
-unfolding asked
-ask-all b none = none
-ask-all true (more e h) = more e (ask-all true h)
-ask-all false (more e h) = more refl (ask-all false h)
+asked-none : (b : Bool) {cs : List Check} → NoneHolds cs → NoneHolds (asked b cs)
+asked-none true {cs} h = rw (ask-all cs) h
+asked-none false {cs} h = ask-none cs
 
 in-turn-none : {cs ds : List Check} → NoneHolds cs → NoneHolds ds → NoneHolds (inTurn cs ds)
 unfolding inTurn
@@ -178,16 +175,16 @@ unfolding beginRefusal openRuleChecks markChecks
 begin-accepted c i =
     first-none
     (more refl
-    (none-append (fine-state c (i .fine) (ask-nothing (widthChecks (c .kind) (c .setting)) (i .shut)))
+    (none-append (fine-state c (i .fine) (shut-none (widthChecks (c .kind) (c .setting)) (i .shut)))
     (none-append (subst (λ (k : Kind). NoneHolds (widthChecks k oneSlot)) (sym (i .fine .kind-is)) one-widths)
     (none-append
-    (in-turn-none (ask-nothing (ruleChecks (c .kind) (c .setting)) (i .shut)) (subst (λ (k : Kind). NoneHolds (ruleChecks k oneSlot)) (sym (i .fine .kind-is)) one-rules))
+    (in-turn-none (shut-none (ruleChecks (c .kind) (c .setting)) (i .shut)) (subst (λ (k : Kind). NoneHolds (ruleChecks k oneSlot)) (sym (i .fine .kind-is)) one-rules))
     (more (ap (λ (b : Bool). b && someUnplanned (c .setting .«relative_ts_number») (c .filled)) (i .shut)) none)))))
 
 busy-state : (c : Composer) (marks : List Bool) → Busy c marks → NoneHolds (stateChecks c)
 busy-state c marks b =
     fine-state c (b .fine)
-    (ask-all (c .«is_open») (subst (λ (k : Kind). NoneHolds (widthChecks k (c .setting))) (sym (b .fine .kind-is)) (subst (λ (s : Setting). NoneHolds (widthChecks Kind.Plain s)) (sym (b .setting-is)) one-widths)))
+    (asked-none (c .«is_open») (subst (λ (k : Kind). NoneHolds (widthChecks k (c .setting))) (sym (b .fine .kind-is)) (subst (λ (s : Setting). NoneHolds (widthChecks Kind.Plain s)) (sym (b .setting-is)) one-widths)))
 
 one-plan : oneSlot .«relative_ts_number» ≡ plan
 unfolding oneSlot
@@ -201,7 +198,7 @@ unfolding openChecks openRuleChecks markChecks
 busy-open c marks b u =
     more (ap not (b .is-open))
     (none-append
-    (ask-all (c .«is_open») (subst (λ (k : Kind). NoneHolds (ruleChecks k (c .setting))) (sym (b .fine .kind-is)) (subst (λ (s : Setting). NoneHolds (ruleChecks Kind.Plain s)) (sym (b .setting-is)) one-rules)))
+    (asked-none (c .«is_open») (subst (λ (k : Kind). NoneHolds (ruleChecks k (c .setting))) (sym (b .fine .kind-is)) (subst (λ (s : Setting). NoneHolds (ruleChecks Kind.Plain s)) (sym (b .setting-is)) one-rules)))
     (more (ap₂ _&&_ (b .is-open) (ap₂ someUnplanned (busy-plan c marks b) (b .marks-are) ∙ u)) none))
 
 one-available : available (oneSlot .availability) 1 ≡ true

@@ -84,14 +84,6 @@ module _ (r : ℕ) (stream : List ℕ) (lent : ℕ → List ℕ) where
       at m (yes e) = rw (eq-eqb m r e, ap lent e ∙ h)
       at m (no d) = rw (ne-eqb m r d)
 
-  -- nothing is added
-  added-none : stream ≡ [] → added r stream lent ≡ lent
-  added-none h = λ i m. at m (ℕ-discrete m r) i
-    where
-      at : (m : ℕ) → Dec (m ≡ r) → added r stream lent m ≡ lent m
-      at m (yes e) = rw (eq-eqb m r e, h) (append-nil (lent m))
-      at m (no d) = rw (ne-eqb m r d)
-
 -- ---- one slot
 
 pub length-null : length nullPacket ≡ packetLength

@@ -226,7 +226,7 @@ module _ (kind : Kind) (pid r : ℕ) (store out : List ℕ) (a : Asked r store o
       by-marks false true = refl
       by-marks false false = refl
 
-  wanted-missing : (s : Sent) (ss : List Sent) → isKept (s .fate) ≡ false → wanted kind pid r ss ≡ wanted kind pid r (s ∷ ss)
+  pub wanted-missing : (s : Sent) (ss : List Sent) → isKept (s .fate) ≡ false → wanted kind pid r ss ≡ wanted kind pid r (s ∷ ss)
   unfolding wanted
   wanted-missing s [] k = refl
   wanted-missing s (t ∷ ss) k =

@@ -7,7 +7,7 @@ use mathlib.Core.List.{List, [], _∷_, _++_, map, append-nil, append-assoc}
 use native.Mathlib.Omega.{arith}
 use borrow.Author.Tests.{eq-eqb}
 use lib.Dec.{lit<}
-use lib.ListN.{length, take, drop, replicate, length-append, length-drop, length-replicate}
+use lib.ListN.{length, take, drop, replicate, length-append, length-drop, length-map, length-replicate}
 use lib.Seq.{length-take-le}
 use Rattle.setting.specs.declared.Kind.{Kind}
 use Rattle.setting.specs.declared.Setting.{Setting}
@@ -28,7 +28,7 @@ use Rattle.runs.specs.Demands.{Asked, SixteenFail, headerAlone}
 use Rattle.runs.proofs.Composed.{Good, header-read, hold, each-good}
 use Rattle.runs.proofs.Table.{Set, Plain, afterAll, StoredAll, stored-all}
 use Rattle.runs.proofs.Vouched.{GoodFrame, good-set, good-opens, good-numbers, Owes, nothing, something, vouches}
-use Rattle.runs.proofs.Lost.{slot-behind, arrive-plain, arrive-entire, Counted, and-then, each-append}
+use Rattle.runs.proofs.Lost.{slot-behind, arrive-plain, arrive-entire, Counted, and-then, each-append, wanted-missing}
 use Rattle.runs.proofs.Demands.{counted-run, first-of, fresh-waits, waiting-set, waiting-stage, map-append}
 use Rattle.runs.proofs.Accepts.{plan, thePid, oneSlot, thePacket, theWork, cycles, cycles-typed, zero-numbers, works-are}
 
@@ -106,10 +106,6 @@ counted-at {kind} {pid} n h (x ∷ xs) ys (and-then g c) =
     let e : ((n + 1) % 16 + length xs) % 16 ≡ (n + suc (length xs)) % 16 = omega arith in
     subst (λ (k : ℕ). Counted kind pid k ys) e (counted-at ((n + 1) % 16) (omega arith) xs ys c)
 
-map-length : {A B : Type 0} (g : A → B) (xs : List A) → length (map g xs) ≡ length xs
-map-length g [] = refl
-map-length g (x ∷ xs) = ap suc (map-length g xs)
-
 first-of-counted : {kind : Kind} {pid n : ℕ} {f : List ℕ} {fs : List (List ℕ)} → Counted kind pid n (f ∷ fs) → GoodFrame kind pid n f
 first-of-counted (and-then g c) = g
 
@@ -122,7 +118,7 @@ counted-all = subst (Counted Kind.Plain thePid 0) frames-are (counted-run Kind.P
 -- the first has counter 0, and so has the seventeenth
 counted-last : Counted Kind.Plain thePid 0 (f₁₆ ∷ f₁₇ ∷ [])
 counted-last =
-    let e : (1 + length middle) % 16 ≡ 0 = omega (arith, map-length framed (split .front), split .long) in
+    let e : (1 + length middle) % 16 ≡ 0 = omega (arith, length-map (split .front) framed, split .long) in
     subst (λ (k : ℕ). Counted Kind.Plain thePid k (f₁₆ ∷ f₁₇ ∷ [])) e (counted-at 1 (lit< tt) middle (f₁₆ ∷ f₁₇ ∷ []) (rest-of-counted counted-all))
 
 g₀ : GoodFrame Kind.Plain thePid 0 f₀
@@ -189,7 +185,7 @@ missing-sent =
       arith,
       missing-append (map allGone middle) (record { frame = f₁₆; fate = lost; arrived = true ∷ replicate 51 false } ∷ headerAlone f₁₇ ∷ []),
       missing-gone middle,
-      map-length framed (split .front),
+      length-map (split .front) framed,
       split .long,
     )
 
@@ -348,9 +344,7 @@ mixed-long =
 -- ---- nothing is wanted
 
 wanted-gone : (s : Sent) (ss : List Sent) → isKept (s .fate) ≡ false → wanted Kind.Plain thePid 1 (s ∷ ss) ≡ wanted Kind.Plain thePid 1 ss
-unfolding wanted
-wanted-gone s [] k = refl
-wanted-gone s (t ∷ ss) k = rw k
+wanted-gone s ss k = sym (wanted-missing Kind.Plain thePid 1 zeros zeros asked s ss k)
 
 all-gone : (fs : List (List ℕ)) (rest : List Sent) → wanted Kind.Plain thePid 1 (map allGone fs ++ rest) ≡ wanted Kind.Plain thePid 1 rest
 all-gone [] rest = refl
