@@ -32,6 +32,9 @@ pub const TSMF_SYNC: u32 = 0x1A86;
 /// The CRC leaves out the packet_header, which is this long.
 pub const PACKET_HEADER_BYTES: usize = 4;
 
+/// The carriers of a group are numbered from 1 to at most this.
+pub const LAST_CARRIER: u8 = 8;
+
 pub const FIRST_PID: u16 = 16;
 pub const LAST_PID: u16 = 8190;
 /// The header PID that the lister looks for.

@@ -1,9 +1,10 @@
-//! TSMF header, composer and receiver of ITU-T J.183, plain and extended,
-//! written from the documents alone, so that another implementation can be
-//! compared with them.
+//! TSMF header, composer, receiver and bonding of ITU-T J.183, plain and
+//! extended, written from the documents alone, so that another implementation
+//! can be compared with them.
 
 mod announced;
 mod bits;
+mod bond;
 mod composer;
 mod crc;
 mod layout;
@@ -16,6 +17,7 @@ mod setting;
 mod write;
 
 pub use announced::Announced;
+pub use bond::{gather, spread, Asked};
 pub use composer::{Composer, OpenFrame, Put};
 pub use crc::crc32;
 pub use layout::{
@@ -23,6 +25,7 @@ pub use layout::{
     STREAMS,
 };
 pub use list::list;
+pub use packet::null_packet;
 pub use read::read;
 pub use receiver::{Event, Receiver, Standing};
 pub use setting::{Kind, Setting};

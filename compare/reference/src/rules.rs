@@ -3,7 +3,9 @@
 //! a packet has no room for a field that is too large.
 
 use crate::announced::Announced;
-use crate::layout::{FIRST_PID, LAST_COUNTER, LAST_PID, LAST_VERSION, PACKET_BYTES, STREAMS};
+use crate::layout::{
+    FIRST_PID, LAST_CARRIER, LAST_COUNTER, LAST_PID, LAST_VERSION, PACKET_BYTES, STREAMS,
+};
 use crate::setting::{Kind, Setting};
 
 pub type Checked = Result<(), u8>;
@@ -120,7 +122,7 @@ fn available_pairs_differ(_: Kind, setting: &Setting) -> bool {
 /// A plain header has no bonding fields to break the rule with.
 fn bonding_is_allowed(kind: Kind, setting: &Setting) -> bool {
     kind == Kind::Plain
-        || (1..=8).contains(&setting.number_of_carriers)
+        || (1..=LAST_CARRIER).contains(&setting.number_of_carriers)
             && (1..=setting.number_of_carriers).contains(&setting.carrier_sequence)
             && (3..=4).contains(&setting.number_of_frames)
             && (1..=setting.number_of_frames).contains(&setting.frame_position)

@@ -1,2 +1,4 @@
--- Bonded carriers: the order of the places of a group.
-pub mod Order
+-- One stream spread over the slots of bonded carriers, and gathered again.
+pub mod Walking
+pub mod Bonding
+pub mod Demands

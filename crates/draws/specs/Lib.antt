@@ -1,3 +1,4 @@
--- Draws: what a state gives and becomes, and settings made of draws.
+-- Draws: what a state gives and becomes, and settings made of draws. Sums of bytes.
 pub mod Draws
 pub mod Settings
+pub mod Sums

@@ -15,7 +15,8 @@ use Rattle.header.specs.Header.{paired, startContent, identifierContent, contro
 use Rattle.setting.specs.Setting.{blank}
 use Rattle.frame.specs.Composing.{someDiffer, announced, differ, nextCounter, nextVersion}
 use Rattle.receiver.specs.Table.{openRow, rowOf}
-use Rattle.examples.specs.Examples.{Example, beyond, examples, ExamplesHold}
+use Rattle.examples.specs.Examples.{Example, beyond, placeOfPair, examples, ExamplesHold}
+use Rattle.examples.proofs.Pair.{first-places}
 
 -- whether two lists of numbers are the same
 same : List ℕ → List ℕ → Bool
@@ -44,8 +45,8 @@ each (x ∷ es) e zero = same-is (x .said) (x .written) (both (same (x .said) (x
 each (x ∷ es) e (suc k) = each es (both (same (x .said) (x .written)) (all-right es) e .1) k
 
 computed : all-right examples ≡ true
-unfolding all-right same examples header body content startContent identifierContent controlContent numberContent privateContent layout startRows identifierRows controlRows numberRows privateRows pack paired run bitsOf cut number registerFrom blank someDiffer announced differ nextCounter nextVersion openRow rowOf
-computed = refl
+unfolding all-right same examples header body content startContent identifierContent controlContent numberContent privateContent layout startRows identifierRows controlRows numberRows privateRows pack paired run bitsOf cut number registerFrom blank someDiffer announced differ nextCounter nextVersion placeOfPair openRow rowOf
+computed = rw first-places refl
 
 pub examples-hold : ExamplesHold
 examples-hold k = each examples computed k

@@ -1,1 +1,2 @@
+mod Pair
 pub mod Examples

@@ -1,8 +1,9 @@
 -- The small examples of the scope document: one table, which one statement says to be right.
-use Prim.Native.Nat.{ℕ, _+_}
+use Prim.Native.Nat.{ℕ, _+_, _-_, _*_, _%_}
 use mathlib.Core.Path.{_≡_}
-use mathlib.Core.Bool.{false, true, cond}
+use mathlib.Core.Bool.{Bool, false, true, cond, not}
 use mathlib.Core.List.{List, [], _∷_, _++_}
+use lib.Dec.{ltb, eqb}
 use lib.ListN.{getD, take, drop, set, replicate}
 use Rattle.setting.specs.declared.Kind.{Kind}
 use Rattle.setting.specs.declared.Setting.{Setting}
@@ -13,6 +14,7 @@ use Rattle.frame.specs.declared.composer.Composer.{Composer}
 use Rattle.frame.specs.Composing.{announced, nextCounter, nextVersion}
 use Rattle.receiver.specs.declared.table.Stage.{Stage}
 use Rattle.receiver.specs.declared.table.Row.{Row}
+use Rattle.places.specs.Order.{framePackets, Place, comesBefore, picked, sorted}
 use Rattle.receiver.specs.Table.{good, other, rowOf, makesReady, droppedBy}
 
 -- an example: its number in the document, what the definitions say, and what the document says
@@ -77,6 +79,30 @@ nextAfter counter version =
 abbrev pub told : Row → List ℕ
 told r = cond (makesReady (r .event)) 1 0 ∷ droppedBy (r .event) ∷ []
 
+-- carriers 1, with 3 frames, and 2, with 4, one behind the other: the place of packet m
+unfoldable pub placeOfPair : ℕ → Place
+placeOfPair m =
+    cond (ltb m (3 * framePackets))
+    (record { carrier = 1; frames = 3; at = m })
+    (record { carrier = 2; frames = 4; at = m - 3 * framePackets })
+
+-- all slots bonded
+abbrev pub notHeader : ℕ → Bool
+notHeader m = not (eqb (m % framePackets) 0)
+
+-- carrier and place of each packet
+abbrev pub shown : List ℕ → List ℕ
+shown [] = []
+shown (m ∷ ms) = placeOfPair m .carrier ∷ placeOfPair m .at ∷ shown ms
+
+-- those of the first seven, in order
+unfoldable pub firstPlaces : List ℕ
+firstPlaces = shown (take 7 (sorted (λ m n. comesBefore (placeOfPair m) (placeOfPair n)) (picked notHeader 0 (framePackets * 7))))
+
+-- 1 where two places tie: neither comes before the other but for the carriers
+abbrev pub tied : Place → Place → ℕ
+tied a b = cond (eqb (a .at * b .frames) (b .at * a .frames)) 1 0
+
 -- past the table's end
 abbrev pub beyond : Example
 beyond = record { number = 0; said = []; written = [] }
@@ -93,6 +119,11 @@ examples =
     ∷ record { number = 7; said = bytes (second 0) 72 1 ++ bytes (second 1) 72 1; written = 0x0D ∷ 0x0F ∷ [] }
     ∷ record { number = 8; said = bytes first 73 1 ++ bytes first 98 1; written = 0x3C ∷ 0x09 ∷ [] }
     ∷ record { number = 9; said = nextAfter 15 7; written = 0 ∷ 0 ∷ [] }
+    ∷ record {
+      number = 10;
+      said = firstPlaces ++ (tied (placeOfPair 3) (placeOfPair (3 * framePackets + 4)) ∷ []);
+      written = 2 ∷ 1 ∷ 1 ∷ 1 ∷ 2 ∷ 2 ∷ 1 ∷ 2 ∷ 2 ∷ 3 ∷ 1 ∷ 3 ∷ 2 ∷ 4 ∷ 1 ∷ [];
+    }
     ∷ record {
       number = 11;
       said = told (rowOf (Stage.Open 4 52) good 5) ++ (told (rowOf (Stage.Open 4 51) good 5) ++ told (rowOf (Stage.Open 4 52) other 0));

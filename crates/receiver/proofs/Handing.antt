@@ -11,7 +11,8 @@ use lib.Seq.{drop-cons, drop-drop, length-take-le}
 use Rattle.slices.proofs.Front.{put}
 use Rattle.slices.proofs.Toward.{Toward, toward-none, toward-part, toward-all}
 use Rattle.frame.specs.Packets.{packetLength}
-use Rattle.receiver.specs.Store.{numbered, slotsFor, over}
+use Rattle.slices.specs.Slices.{over}
+use Rattle.receiver.specs.Store.{numbered, slotsFor}
 
 -- as many bytes as slots with the number have
 pub length-numbered : (r : ℕ) (ns bytes : List ℕ) → packetLength * length ns ≤ length bytes → length (numbered r ns bytes) ≡ packetLength * slotsFor r ns
@@ -62,12 +63,6 @@ unfolding over
 over-front p bytes n e =
     let whole : 0 + length p ≡ n = omega arith in
     ap (λ (k : ℕ). p ++ drop k bytes) whole
-
--- k bytes were lent and came back as p
-pub put-over : (at k : ℕ) (bytes : List ℕ) {ys p : List ℕ} → ys ≡ p → length p ≡ k → put at k bytes ys ≡ over at p bytes
-unfolding over
-put-over at k bytes {ys} {p} y l =
-    ap₂ (λ (m q : List ℕ). take at bytes ++ (m ++ q)) y (drop-drop k at bytes ∙ ap (λ (n : ℕ). drop (at + n) bytes) (sym l))
 
 -- i slots were gone through, and `at` bytes stand over the front of the buffer
 module _ (r : ℕ) (ns store out₀ : List ℕ) where

@@ -11,7 +11,8 @@ use Rattle.receiver.specs.declared.table.Event.{Event}
 use Rattle.receiver.specs.declared.Received.{Received}
 use Rattle.receiver.specs.declared.Receiver.{Receiver}
 use Rattle.receiver.specs.declared.table.Row.{Row}
-use Rattle.receiver.specs.Store.{numbered, slotsFor, over}
+use Rattle.slices.specs.Slices.{over}
+use Rattle.receiver.specs.Store.{numbered, slotsFor}
 use Rattle.receiver.specs.Table.{Sort, good, broken, other, sortOf, rowOf, storeAfter}
 use Rattle.receiver.specs.Receiving.{rowFor, moved, renumbered, receiverAfter, receiveRefusal, receiveOf, receiveStore, handOutRefusal, handOutOf, handOutBuffer}
 use Rattle.receiver.proofs.Rows.{other-counter, broken-counter}

@@ -8,7 +8,7 @@ use Rattle.setting.specs.Counters.{lastSlot}
 use Rattle.frame.specs.Packets.{packetLength}
 use Rattle.receiver.specs.declared.table.Stage.{Stage}
 use Rattle.receiver.specs.declared.table.Event.{Event}
-use Rattle.receiver.specs.Store.{over}
+use Rattle.slices.specs.Slices.{over}
 use Rattle.receiver.specs.Table.{good, broken, other, counterStep, row, openRow, rowOf, storedOf, storeAfter}
 
 -- the step, by a byte that wraps

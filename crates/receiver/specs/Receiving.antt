@@ -4,7 +4,7 @@ use mathlib.Core.Bool.{cond, not}
 use mathlib.Core.List.{List, [], _∷_, _++_}
 use lib.Dec.{leb, ltb, eqb}
 use lib.ListN.{length, replicate}
-use Rattle.slices.specs.Slices.{someAtLeast}
+use Rattle.slices.specs.Slices.{someAtLeast, over}
 use Rattle.setting.specs.declared.Kind.{Kind}
 use Rattle.setting.specs.Counters.{firstStream, lastStream, lastSlot, within}
 use Rattle.setting.specs.Refusal.{Check, firstOf}
@@ -19,7 +19,7 @@ use Rattle.receiver.specs.declared.Receiver.{Receiver}
 use Rattle.receiver.specs.declared.Started.{Started}
 use Rattle.receiver.specs.declared.Received.{Received}
 use Rattle.receiver.specs.declared.HandedOut.{HandedOut}
-use Rattle.receiver.specs.Store.{storeLength, numbered, slotsFor, over}
+use Rattle.receiver.specs.Store.{storeLength, numbered, slotsFor}
 use Rattle.receiver.specs.Table.{Sort, good, broken, other, sortOf, rowOf, isReady, storeAfter}
 
 -- ---- the state

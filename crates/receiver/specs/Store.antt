@@ -1,9 +1,9 @@
--- The receiver's store: the packets of slots 1 to 52, those with one number, and a packet over its bytes.
+-- The receiver's store: the packets of slots 1 to 52, and those with one number.
 use Prim.Native.Nat.{ℕ, _+_}
 use mathlib.Core.Bool.{cond}
 use mathlib.Core.List.{List, [], _∷_, _++_}
 use lib.Dec.{eqb}
-use lib.ListN.{length, take, drop}
+use lib.ListN.{take, drop}
 use Rattle.frame.specs.Packets.{packetLength}
 
 -- 52 packets
@@ -20,7 +20,3 @@ numbered r (n ∷ ns) bytes =
 unfoldable pub slotsFor : ℕ → List ℕ → ℕ
 slotsFor r [] = 0
 slotsFor r (n ∷ ns) = cond (eqb n r) 1 0 + slotsFor r ns
-
--- a packet over the bytes from a place on
-unfoldable pub over : ℕ → List ℕ → List ℕ → List ℕ
-over at p bytes = take at bytes ++ (p ++ drop (at + length p) bytes)

@@ -10,7 +10,7 @@ use Rattle.frame.specs.Packets.{packetLength, unfit}
 use Rattle.receiver.specs.declared.table.Stage.{Stage}
 use Rattle.receiver.specs.declared.table.Event.{Event}
 use Rattle.receiver.specs.declared.table.Row.{Row}
-use Rattle.receiver.specs.Store.{over}
+use Rattle.slices.specs.Slices.{over}
 
 -- a good header is one that the reader accepts; a broken packet lacks 0x47 or bears the header PID without being one
 pub data Sort : Type 0 where

@@ -6,7 +6,8 @@ ghost use Prim.Native.Nat.{_*_, _≤_};
 ghost use lib.ListN.{length};
 ghost use Rattle.setting.specs.Counters.{lastSlot};
 ghost use Rattle.frame.specs.Packets.{packetLength};
-ghost use Rattle.receiver.specs.Store.{storeLength, numbered, slotsFor, over};
+ghost use Rattle.slices.specs.Slices.{over};
+ghost use Rattle.receiver.specs.Store.{storeLength, numbered, slotsFor};
 
 // How many slots have number r.
 pub(crate) fn count(numbers: &[u8], r: u8) -> usize

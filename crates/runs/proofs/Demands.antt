@@ -81,9 +81,9 @@ counted-run kind pid calls e t =
     subst (Counted kind pid 0) (sym (hold kind pid calls e t)) (counted kind pid e (worksOf (started kind pid) noWork calls) (works-done kind pid calls e t))
 
 -- a stretch of them
-record From (kind : Kind) (pid : ℕ) (fs : List (List ℕ)) : Type 0 where
-  n : ℕ
-  counts : Counted kind pid n fs
+pub record From (kind : Kind) (pid : ℕ) (fs : List (List ℕ)) : Type 0 where
+  pub n : ℕ
+  pub counts : Counted kind pid n fs
 
 counted-front : {kind : Kind} {pid n : ℕ} (xs ys : List (List ℕ)) → Counted kind pid n (xs ++ ys) → Counted kind pid n xs
 counted-front [] ys c = no-more
@@ -93,7 +93,7 @@ counted-rest : {kind : Kind} {pid n : ℕ} (xs : List (List ℕ)) {ys : List (Li
 counted-rest {n = n} [] c = record { n = n; counts = c }
 counted-rest (x ∷ xs) (and-then g c) = counted-rest xs c
 
-stretch : (kind : Kind) (pid : ℕ) (calls : List Call) → pidAllowed pid ≡ true → Each OfTypes calls → (before fs after : List (List ℕ))
+pub stretch : (kind : Kind) (pid : ℕ) (calls : List Call) → pidAllowed pid ≡ true → Each OfTypes calls → (before fs after : List (List ℕ))
     → framesOf (started kind pid) calls ≡ before ++ (fs ++ after) → From kind pid fs
 stretch kind pid calls e t before fs after q =
     let c = counted-rest before (subst (Counted kind pid 0) q (counted-run kind pid calls e t)) in

@@ -4,7 +4,7 @@ pub mod Composed
 pub mod Demands
 mod Filled
 mod Held
-mod Lost
+pub mod Lost
 pub mod Sixteen
-mod Table
-mod Vouched
+pub mod Table
+pub mod Vouched

@@ -23,7 +23,8 @@ use Rattle.receiver.specs.declared.table.Stage.{Stage}
 use Rattle.receiver.specs.declared.table.Event.{Event}
 use Rattle.receiver.specs.declared.table.Row.{Row}
 use Rattle.receiver.specs.declared.Receiver.{Receiver}
-use Rattle.receiver.specs.Store.{storeLength, over}
+use Rattle.slices.specs.Slices.{over}
+use Rattle.receiver.specs.Store.{storeLength}
 use Rattle.receiver.specs.Table.{makesReady, Sort, good, broken, other, sortOf, row, openRow, rowOf, storedOf, storeAfter}
 use Rattle.receiver.specs.Receiving.{moved, receiverAfter, stageChecks, receiverChecks, receiveRefusal, rowFor, receiveOf, receiveStore}
 use Rattle.receiver.proofs.Sorts.{not-good}
@@ -158,7 +159,7 @@ module _ (kind : Kind) (pid : ℕ) (w : Reception) (s : Set kind pid w) (p : Lis
   unfolding sortOf
   bad-sort = ap₂ (λ (a : Kind) (b : ℕ). cond (eqb (readRefusal a b p) 0) good (cond (unfit b p) broken other)) (s .kind-is) (s .pid-is) ∙ rw (ne-eqb (readRefusal kind pid p) 0 d)
 
-  bad-row : rowFor (w .state) p ≡ rowOf (w .state .stage) (badSort (unfit pid p)) (reading (w .state .kind) p .«continuity_counter»)
+  pub bad-row : rowFor (w .state) p ≡ rowOf (w .state .stage) (badSort (unfit pid p)) (reading (w .state .kind) p .«continuity_counter»)
   unfolding rowFor
   bad-row = rw bad-sort
 

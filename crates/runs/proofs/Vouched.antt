@@ -22,7 +22,8 @@ use Rattle.frame.specs.Composing.{leaves}
 use Rattle.receiver.specs.declared.table.Stage.{Stage}
 use Rattle.receiver.specs.declared.table.Event.{Event}
 use Rattle.receiver.specs.declared.table.Row.{Row}
-use Rattle.receiver.specs.Store.{storeLength, numbered, slotsFor, over}
+use Rattle.slices.specs.Slices.{over}
+use Rattle.receiver.specs.Store.{storeLength, numbered, slotsFor}
 use Rattle.receiver.specs.Table.{makesReady, Sort, good, broken, other, sortOf, counterStep, row, openRow, rowOf, storeAfter, isReady}
 use Rattle.receiver.specs.Receiving.{renumbered, receiverAfter, rowFor, receiveOf, handOutRefusal, handOutOf, handOutBuffer}
 use Rattle.receiver.proofs.Handing.{length-numbered}
@@ -122,7 +123,7 @@ module _ (kind : Kind) (pid n : ℕ) (f : List ℕ) (w : Reception) (s : Set kin
         store = w .store;
       }) said-is
 
-  good-event : receiveOf (w .state) (slot 0 f) (length (w .store)) .event ≡ rowOf (w .state .stage) good n .event
+  pub good-event : receiveOf (w .state) (slot 0 f) (length (w .store)) .event ≡ rowOf (w .state .stage) good n .event
   good-event = event-is kind pid w s (slot 0 f) first ∙ ap (λ (r : Row). r .event) good-row
 
   -- its frame is open, by its own numbers
@@ -179,7 +180,7 @@ pub data Owes (r n m : ℕ) (x : List ℕ) (w : Reception) : Type 0 where
       → x ≡ cond (eqb k lastSlot && eqb m 0) (numbered r (w .state .numbers) (w .store)) [] → Owes r n m x w
 
 -- the step to a header m + 1 frames later is 1 where m is 0, and nowhere else below 16
-step-one : (from m n : ℕ) → from < 2 ^ 4 → m ≤ 15 → (from + m + 1) % 16 ≡ n → eqb (counterStep from n) 1 ≡ eqb m 0
+pub step-one : (from m n : ℕ) → from < 2 ^ 4 → m ≤ 15 → (from + m + 1) % 16 ≡ n → eqb (counterStep from n) 1 ≡ eqb m 0
 step-one from m n h l e = by-missing (ℕ-discrete m 0)
   where
     step : counterStep from n ≡ (m + 1) % 16
@@ -190,7 +191,7 @@ step-one from m n h l e = by-missing (ℕ-discrete m 0)
     by-missing (no d) = ne-eqb (counterStep from n) 1 (λ q. d (omega (arith, step))) ∙ sym (ne-eqb m 0 d)
 
 -- the row of an open frame, by whether the header vouches for it
-vouched-row : (from k n : ℕ) → eqb k lastSlot && eqb (counterStep from n) 1 ≡ true → openRow from k good n ≡ row Event.Ready (Stage.Ready n)
+pub vouched-row : (from k n : ℕ) → eqb k lastSlot && eqb (counterStep from n) 1 ≡ true → openRow from k good n ≡ row Event.Ready (Stage.Ready n)
 unfolding openRow
 vouched-row from k n e = rw e
 

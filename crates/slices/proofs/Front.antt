@@ -6,7 +6,7 @@ use native.Mathlib.Omega.{arith}
 use native.Mathlib.Numerals.{add-one}
 use lib.ListN.{length, take, drop, set, getD, length-append, length-drop, drop-of-length-le, take-append-drop}
 use lib.Seq.{drop-cons, set-at, append-snoc, take-at, drop-at, getD-at, drop-drop, take-length, length-take-le}
-use Rattle.slices.specs.Slices.{copied}
+use Rattle.slices.specs.Slices.{copied, over}
 
 -- d is d₀ with the i elements of `done` over its front
 pub record Front {A : Type 0} (d₀ done d : List A) (i : ℕ) : Type 0 where
@@ -74,3 +74,9 @@ module _ {A : Type 0} where
 pub copied-over : (into from : List ℕ) → length into ≡ length from → copied into from ≡ from
 unfolding copied
 copied-over into from e = rw (e, take-length from, drop-of-length-le into {i = length from} (omega arith)) (append-nil from)
+
+-- k bytes were lent and came back as p
+pub put-over : (at k : ℕ) (bytes : List ℕ) {ys p : List ℕ} → ys ≡ p → length p ≡ k → put at k bytes ys ≡ over at p bytes
+unfolding over
+put-over at k bytes {ys} {p} y l =
+    ap₂ (λ (m q : List ℕ). take at bytes ++ (m ++ q)) y (drop-drop k at bytes ∙ ap (λ (n : ℕ). drop (at + n) bytes) (sym l))

@@ -1,5 +1,5 @@
 -- Slices of bytes: copied, filled, tested.
-use Prim.Native.Nat.{ℕ, zero, suc}
+use Prim.Native.Nat.{ℕ, zero, suc, _+_}
 use mathlib.Core.Bool.{Bool, false, _||_}
 use mathlib.Core.List.{List, _++_}
 use lib.Dec.{leb}
@@ -8,6 +8,10 @@ use lib.ListN.{length, getD, take, drop}
 -- the list `into` with the elements of `from` over its front, as many as there is room for
 unfoldable pub copied : List ℕ → List ℕ → List ℕ
 copied into from = take (length into) from ++ drop (length from) into
+
+-- the list `bytes` with the elements of `p` over it, from place `at` on
+unfoldable pub over : ℕ → List ℕ → List ℕ → List ℕ
+over at p bytes = take at bytes ++ (p ++ drop (at + length p) bytes)
 
 -- whether the test holds of some number below n
 unfoldable pub anyBelow : ℕ → (ℕ → Bool) → Bool

@@ -1,7 +1,8 @@
 //! What is drawn for a frame. No draw depends on an answer.
 
+use crate::drawn::{announced, stream};
 use crate::generator::Generator;
-use reference::{Setting, PACKET_BYTES};
+use reference::Setting;
 
 /// Step 1: a setting without a plan.
 pub fn setting(generator: &mut Generator) -> Setting {
@@ -9,16 +10,7 @@ pub fn setting(generator: &mut Generator) -> Setting {
         frame_type: 1,
         ..Setting::ZEROS
     };
-    setting.slot_allocation_type = generator.byte_below(2);
-    setting.availability = generator.below(32768);
-    for id in &mut setting.ts_id {
-        *id = generator.draw();
-    }
-    for id in &mut setting.original_network_id {
-        *id = generator.draw();
-    }
-    generator.fill(&mut setting.receive_status, 4);
-    setting.emergency_indicator = generator.byte_below(2);
+    announced(generator, &mut setting);
     generator.fill(&mut setting.private_data, 256);
     setting
 }
@@ -32,14 +24,8 @@ pub fn plan(generator: &mut Generator, setting: &mut Setting) {
     }
 }
 
-/// Step 4: a stream's packets. A PID below 4,096 is never the header's.
+/// Step 4: a stream's packets.
 pub fn packets(generator: &mut Generator) -> Vec<u8> {
     let number = usize::from(generator.below(8));
-    let mut stream = vec![0; PACKET_BYTES * number];
-    for packet in stream.chunks_exact_mut(PACKET_BYTES) {
-        generator.fill(packet, 256);
-        packet[0] = 0x47;
-        packet[1] %= 16;
-    }
-    stream
+    stream(generator, number)
 }

@@ -1,7 +1,9 @@
 //! Settings for the tests. Each test file uses a part of this.
 #![allow(dead_code)]
 
+pub mod bond_calls;
 pub mod frames;
+pub mod groups;
 
 use reference::{Kind, Setting};
 

@@ -1,14 +1,20 @@
 -- The order of the places of bonded carriers.
-use Prim.Native.Nat.{ℕ, _+_, _-_, _*_, _≤_}
+use Prim.Native.Nat.{ℕ, zero, suc, _+_, _-_, _*_, _≤_}
 use mathlib.Core.Path.{_≡_}
 use mathlib.Core.Logic.{_⊎_}
-use mathlib.Core.Bool.{Bool, true, _&&_, _||_}
+use mathlib.Core.Bool.{Bool, true, cond, _&&_, _||_}
+use mathlib.Core.List.{List, [], _∷_, _++_}
 use lib.Dec.{ltb, eqb}
+use Rattle.header.specs.Demands.{Among}
 use Rattle.setting.specs.Counters.{firstSlot, lastSlot, firstPosition}
+
+-- the packets of a frame: slot 0, which is the header, and slots 1 to 52
+abbrev pub framePackets : ℕ
+framePackets = lastSlot + 1
 
 -- slot i of frame position f stands at p = 53 × (f − 1) + i
 abbrev pub placeOf : ℕ → ℕ → ℕ
-placeOf f i = (lastSlot + 1) * (f - firstPosition) + i
+placeOf f i = framePackets * (f - firstPosition) + i
 
 -- a place: its carrier's sequence number, how many frames that has, and where it stands
 pub record Place : Type 0 where
@@ -45,3 +51,25 @@ ByPositionThenSlot =
     (carrier frames f i g j : ℕ) → (frames ≡ 3) ⊎ (frames ≡ 4) → firstPosition ≤ f → firstPosition ≤ g → firstSlot ≤ i → i ≤ lastSlot → firstSlot ≤ j → j ≤ lastSlot
     → comesBefore (record { carrier = carrier; frames = frames; at = placeOf f i }) (record { carrier = carrier; frames = frames; at = placeOf g j })
     ≡ ltb f g || (eqb f g && ltb i j)
+
+-- ---- sorted by it
+
+-- of the n numbers from s on, those that pass the test, rising
+unfoldable pub picked : (ℕ → Bool) → ℕ → ℕ → List ℕ
+picked test s zero = []
+picked test s (suc n) = cond (test s) (s ∷ []) [] ++ picked test (s + 1) n
+
+-- m in front of the first that it comes before
+unfoldable pub insert : (ℕ → ℕ → Bool) → ℕ → List ℕ → List ℕ
+insert before m [] = m ∷ []
+insert before m (n ∷ ns) = cond (before m n) (m ∷ n ∷ ns) (n ∷ insert before m ns)
+
+-- the numbers, sorted by what comes before what
+unfoldable pub sorted : (ℕ → ℕ → Bool) → List ℕ → List ℕ
+sorted before [] = []
+sorted before (m ∷ ms) = insert before m (sorted before ms)
+
+-- strictly rising: each comes before all behind it
+pub data Rising (before : ℕ → ℕ → Bool) : List ℕ → Type 0 where
+  none : Rising before []
+  more : {m : ℕ} {ms : List ℕ} → ((x : ℕ) → Among x ms → before m x ≡ true) → Rising before ms → Rising before (m ∷ ms)

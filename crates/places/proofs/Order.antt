@@ -8,7 +8,7 @@ use native.Mathlib.Decide.{decLt}
 use borrow.Author.Tests.{ltb-true, lt-ltb, le-ltb, eq-eqb, ne-eqb, eqb-true}
 use lib.Dec.{ltb, eqb}
 use Rattle.slices.proofs.Any.{both}
-use Rattle.bond.specs.Order.{placeOf, Place, comesBefore, Before, Framed, OfOneGroup, StrictTotal, ByPositionThenSlot}
+use Rattle.places.specs.Order.{placeOf, Place, comesBefore, Before, Framed, OfOneGroup, StrictTotal, ByPositionThenSlot}
 
 -- the order in words: less, or equal and on a lower carrier
 pub data Less (x y k l : ℕ) : Type 0 where
@@ -18,7 +18,7 @@ pub data Less (x y k l : ℕ) : Type 0 where
 abbrev LessThan : Place → Place → Type 0
 LessThan a b = Less (a .at * b .frames) (b .at * a .frames) (a .carrier) (b .carrier)
 
-from-test : (a b : Place) → Before a b → LessThan a b
+pub from-test : (a b : Place) → Before a b → LessThan a b
 unfolding comesBefore
 from-test a b e = by-test (ltb (a .at * b .frames) (b .at * a .frames)) refl e
   where
@@ -29,7 +29,7 @@ from-test a b e = by-test (ltb (a .at * b .frames) (b .at * a .frames)) refl e
         let p = both (eqb (a .at * b .frames) (b .at * a .frames)) (ltb (a .carrier) (b .carrier)) g in
         level (eqb-true (a .at * b .frames) (b .at * a .frames) (p .0)) (ltb-true (a .carrier) (b .carrier) (p .1))
 
-to-test : (a b : Place) → LessThan a b → Before a b
+pub to-test : (a b : Place) → LessThan a b → Before a b
 unfolding comesBefore
 to-test a b (less h) = rw (lt-ltb (a .at * b .frames) (b .at * a .frames) h)
 to-test a b (level e h) = rw (eq-eqb (a .at * b .frames) (b .at * a .frames) e, lt-ltb (a .carrier) (b .carrier) h) (or-true (ltb (a .at * b .frames) (b .at * a .frames)))
@@ -70,7 +70,7 @@ module _ (a b : Place) (fa : Framed a) (fb : Framed b) where
   to-key (less h) = less (scaled (a .at) (b .at) (a .frames) (b .frames) fa fb .0 h)
   to-key (level e h) = level (scaled (a .at) (b .at) (a .frames) (b .frames) fa fb .1 e) h
 
-  from-key : ByKey a b → LessThan a b
+  pub from-key : ByKey a b → LessThan a b
   from-key (less h) = less (scaled (a .at) (b .at) (a .frames) (b .frames) fa fb .2 h)
   from-key (level e h) = level (scaled (a .at) (b .at) (a .frames) (b .frames) fa fb .3 e) h
 

@@ -1,0 +1,191 @@
+-- What a spread and a gather answer and leave, by the check that they stopped at. Assumes nothing.
+use Prim.Native.Nat.{ℕ, _*_, _%_, _≤_}
+use mathlib.Core.Path.{_≡_, refl, sym, ap, subst, _∙_}
+use mathlib.Core.Bool.{Bool, false, cond, not}
+use mathlib.Core.List.{List, [], _∷_, map}
+use borrow.Author.Tests.{ltb-false, eq-eqb, ne-eqb}
+use lib.Dec.{ltb, eqb}
+use lib.ListN.{length, length-map}
+use Rattle.slices.specs.Slices.{copied}
+use Rattle.setting.specs.Refusal.{Check, NoneHolds, firstOf}
+use Rattle.setting.proofs.Refusals.{answers, passed, onward, at-once, none-first, none-at, none-before, none-behind}
+use Rattle.frame.specs.Packets.{packetLength}
+use Rattle.group.specs.declared.Bond.{Bond}
+use Rattle.group.specs.declared.headers.Plan.{Plan}
+use Rattle.group.specs.declared.headers.Planned.{Planned}
+use Rattle.group.specs.Group.{framesIn, order}
+use Rattle.group.specs.Standing.{callChecks, groupChecks, planChecks, someCarries}
+use Rattle.bond.specs.Bonding.{someUnfitIn, spreadChecks, gatherChecks, spreadOver, gathered, spreadRefusal, spreadOf, spreadGroup, gatherRefusal, gatherOf, gatherBuffer}
+use Rattle.places.specs.Walk.{mostFrames, packetAt, stops, Walkable, InBuffer}
+use Rattle.group.specs.Plan.{planAfter, plannedOf}
+use Rattle.group.proofs.Passing.{Called, called, numbered-plan}
+use Rattle.bond.proofs.Passing.{spread-none, gather-none}
+use Rattle.group.proofs.Standing.{Whole, whole}
+use Rattle.group.proofs.Grouping.{walkable}
+use Rattle.group.proofs.Planned.{carried, packets, slots-long, walked, in-buffer}
+use Rattle.bond.proofs.Demands.{exact}
+
+-- ---- what the headers leave to know
+
+-- the checks behind the headers, by the plan and by the definitions
+abbrev pub spreadRest : Bond → Bool → ℕ → List ℕ → List Check
+spreadRest b is-carried n stream = (13, not is-carried) ∷ (15, not (eqb (length stream) (packetLength * n))) ∷ (12, someUnfitIn (b .pid) stream) ∷ []
+
+abbrev pub gatherRest : Bool → ℕ → ℕ → List Check
+gatherRest is-carried n out = (13, not is-carried) ∷ (15, ltb out (packetLength * n)) ∷ []
+
+-- the plan of a group that was not refused
+pub record Known (b : Bond) (group : List ℕ) (plan : Plan) : Type 0 where
+  pub none-holds : NoneHolds (planChecks b group)
+  pub call : Called b (length group)
+  pub stand : Whole b group
+  pub plan-is : plan ≡ planAfter b group (framesIn group)
+  pub carried-is : plan .«is_carried» ≡ someCarries b group
+  pub packets-are : plan .packets ≡ length (order b group)
+
+module _ (b : Bond) (group : List ℕ) (p : Planned) (e : p ≡ plannedOf b group) where
+  pub refusal-is : p .refusal ≡ firstOf (planChecks b group)
+  unfolding plannedOf
+  refusal-is = ap (λ (x : Planned). x .refusal) e
+
+  module _ (z : p .refusal ≡ 0) where
+    plan-known : p .plan ≡ planAfter b group (framesIn group)
+    unfolding plannedOf
+    plan-known = ap (λ (x : Planned). x .plan) e ∙ rw (sym refusal-is ∙ z) refl
+
+    pub known : Known b group (p .plan)
+    unfolding someCarries planChecks
+    known =
+        let n = none-first (planChecks b group) (numbered-plan b group) (sym refusal-is ∙ z) in
+        let c = called b (length group) (none-before (callChecks b (length group)) (groupChecks b group) n) in
+        let w = whole b group (none-behind (callChecks b (length group)) n) in
+        record {
+          none-holds = n;
+          call = c;
+          stand = w;
+          plan-is = plan-known;
+          carried-is = ap (λ (x : Plan). x .«is_carried») plan-known ∙ carried b group (framesIn group);
+          packets-are = ap (λ (x : Plan). x .packets) plan-known ∙ packets b group (c .few) (c .one) w;
+        }
+
+-- ---- what the walk by a known plan needs, and finds
+
+module _ (b : Bond) (group : List ℕ) (plan : Plan) (k : Known b group plan) where
+  abbrev Walks : Plan → Type 0
+  Walks p = Walkable (b .carriers) (p .frames) × (length (p .slots) ≡ mostFrames)
+
+  pub walks : Walks plan
+  walks = subst Walks (sym (k .plan-is)) (walkable b group (k .call .few) (k .call .one) (k .stand), slots-long b group (k .call .few) (k .call .one) (k .stand))
+
+  pub walked-by : map (packetAt (plan .frames)) (stops (b .carriers) (plan .frames) (plan .slots) 0) ≡ order b group
+  walked-by =
+      ap (λ (p : Plan). map (packetAt (p .frames)) (stops (b .carriers) (p .frames) (p .slots) 0)) (k .plan-is)
+      ∙ walked b group (k .call .few) (k .call .one) (k .stand)
+
+  pub stops-counted : plan .packets ≡ length (stops (b .carriers) (plan .frames) (plan .slots) 0)
+  stops-counted =
+      k .packets-are ∙ sym (ap length walked-by)
+      ∙ length-map (stops (b .carriers) (plan .frames) (plan .slots) 0) (packetAt (plan .frames))
+
+  pub stops-in : InBuffer (b .carriers) (plan .frames) (plan .slots) (length group)
+  stops-in =
+      subst (λ (p : Plan). InBuffer (b .carriers) (p .frames) (p .slots) (length group)) (sym (k .plan-is))
+      (in-buffer b group (k .call .few) (k .call .one) (k .stand) (k .call .frames))
+
+-- ---- spread
+
+module _ (b : Bond) (group stream : List ℕ) where
+  pub spread-refused : (x : ℕ) → spreadRefusal b group stream ≡ x → (x ≡ 0 → ⊥) → record { refusal = x; packets = 0 } ≡ spreadOf b group stream
+  unfolding spreadOf
+  spread-refused x e d =
+      let f : cond (eqb (spreadRefusal b group stream) 0) (length (order b group)) 0 ≡ 0 = rw (e, ne-eqb x 0 d) refl in
+      λ i. record { refusal = sym e i; packets = sym f i }
+
+  pub spread-left : (x : ℕ) → spreadRefusal b group stream ≡ x → (x ≡ 0 → ⊥) → group ≡ spreadGroup b group stream
+  unfolding spreadGroup
+  spread-left x e d = sym (rw (e, ne-eqb x 0 d) refl)
+
+  pub spread-uncut : (length stream % packetLength ≡ 0 → ⊥) → spreadRefusal b group stream ≡ 1
+  unfolding spreadRefusal spreadChecks
+  spread-uncut d = answers 1 _ (ap not (ne-eqb (length stream % packetLength) 0 d))
+
+  module _ (c : length stream % packetLength ≡ 0) where
+    cut : not (eqb (length stream % packetLength) 0) ≡ false
+    cut = ap not (eq-eqb (length stream % packetLength) 0 c)
+
+    pub spread-headed : (firstOf (planChecks b group) ≡ 0 → ⊥) → spreadRefusal b group stream ≡ firstOf (planChecks b group)
+    unfolding spreadRefusal spreadChecks
+    spread-headed d = passed 1 _ cut ∙ at-once (planChecks b group) _ d
+
+    module _ (plan : Plan) (k : Known b group plan) where
+      pub spread-rest : spreadRefusal b group stream ≡ firstOf (spreadRest b (plan .«is_carried») (plan .packets) stream)
+      unfolding spreadRefusal spreadChecks
+      spread-rest = passed 1 _ cut ∙ onward _ (k .none-holds) ∙ sym (λ i. firstOf (spreadRest b (k .carried-is i) (k .packets-are i) stream))
+
+  pub spread-granted : (n : ℕ) → spreadRefusal b group stream ≡ 0 → n ≡ length (order b group) → record { refusal = 0; packets = n } ≡ spreadOf b group stream
+  unfolding spreadOf
+  spread-granted n e h = (λ i. record { refusal = 0; packets = h i }) ∙ sym (rw e refl)
+
+  pub spread-made : spreadRefusal b group stream ≡ 0 → spreadOver (order b group) stream group ≡ spreadGroup b group stream
+  unfolding spreadGroup
+  spread-made e = sym (rw e refl)
+
+  -- what the code that writes asks
+  module _ (plan : Plan) (k : Known b group plan) (z : spreadRefusal b group stream ≡ 0) where
+    exact-by : length stream ≡ packetLength * length (stops (b .carriers) (plan .frames) (plan .slots) 0)
+    unfolding spreadRefusal
+    exact-by =
+        exact b group stream (spread-none b group stream z)
+        ∙ ap (λ (n : ℕ). packetLength * n) (sym (k .packets-are) ∙ stops-counted b group plan k)
+
+    pub to-spread : Walkable (b .carriers) (plan .frames)
+        × ((length (plan .slots) ≡ mostFrames)
+        × ((length stream ≡ packetLength * length (stops (b .carriers) (plan .frames) (plan .slots) 0))
+        × InBuffer (b .carriers) (plan .frames) (plan .slots) (length group)))
+    to-spread = (walks b group plan k .0, (walks b group plan k .1, (exact-by, stops-in b group plan k)))
+
+-- ---- gather
+
+module _ (b : Bond) (group out : List ℕ) where
+  pub gather-refused : (x : ℕ) → gatherRefusal b group (length out) ≡ x → (x ≡ 0 → ⊥) → record { refusal = x; packets = 0 } ≡ gatherOf b group (length out)
+  unfolding gatherOf
+  gather-refused x e d =
+      let f : cond (eqb (gatherRefusal b group (length out)) 0) (length (order b group)) 0 ≡ 0 = rw (e, ne-eqb x 0 d) refl in
+      λ i. record { refusal = sym e i; packets = sym f i }
+
+  pub gather-left : (x : ℕ) → gatherRefusal b group (length out) ≡ x → (x ≡ 0 → ⊥) → out ≡ gatherBuffer b group out
+  unfolding gatherBuffer
+  gather-left x e d = sym (rw (e, ne-eqb x 0 d) refl)
+
+  pub gather-headed : (firstOf (planChecks b group) ≡ 0 → ⊥) → gatherRefusal b group (length out) ≡ firstOf (planChecks b group)
+  unfolding gatherRefusal gatherChecks
+  gather-headed d = at-once (planChecks b group) _ d
+
+  module _ (plan : Plan) (k : Known b group plan) where
+    pub gather-rest : gatherRefusal b group (length out) ≡ firstOf (gatherRest (plan .«is_carried») (plan .packets) (length out))
+    unfolding gatherRefusal gatherChecks
+    gather-rest = onward _ (k .none-holds) ∙ sym (λ i. firstOf (gatherRest (k .carried-is i) (k .packets-are i) (length out)))
+
+  pub gather-granted : (n : ℕ) → gatherRefusal b group (length out) ≡ 0 → n ≡ length (order b group) → record { refusal = 0; packets = n } ≡ gatherOf b group (length out)
+  unfolding gatherOf
+  gather-granted n e h = (λ i. record { refusal = 0; packets = h i }) ∙ sym (rw e refl)
+
+  pub gather-made : gatherRefusal b group (length out) ≡ 0 → copied out (gathered (order b group) group) ≡ gatherBuffer b group out
+  unfolding gatherBuffer
+  gather-made e = sym (rw e refl)
+
+  -- what the code that copies asks
+  module _ (plan : Plan) (k : Known b group plan) (z : gatherRefusal b group (length out) ≡ 0) where
+    room : packetLength * plan .packets ≤ length out
+    unfolding gatherRefusal gatherChecks
+    room =
+        rw (k .packets-are)
+        (ltb-false (length out) (packetLength * length (order b group))
+        (none-at (none-behind (planChecks b group) (gather-none b group (length out) z)) 1))
+
+    pub to-gather : Walkable (b .carriers) (plan .frames)
+        × ((length (plan .slots) ≡ mostFrames)
+        × ((plan .packets ≡ length (stops (b .carriers) (plan .frames) (plan .slots) 0))
+        × ((packetLength * plan .packets ≤ length out)
+        × InBuffer (b .carriers) (plan .frames) (plan .slots) (length group))))
+    to-gather = (walks b group plan k .0, (walks b group plan k .1, (stops-counted b group plan k, (room, stops-in b group plan k))))

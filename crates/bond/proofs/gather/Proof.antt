@@ -1,0 +1,96 @@
+-- `gather` meets its contract, check by check. Assumes nothing.
+use Prim.Native.Nat.{ℕ}
+use mathlib.Core.Path.{_≡_, sym, ap, _∙_}
+use mathlib.Core.List.{List}
+use borrow.Author.Needs.{needs}
+use lib.ListN.{length}
+use Rattle.slices.specs.Slices.{copied}
+use Rattle.bond.specs.Bonding.{gatherRefusal, gathered}
+use Rattle.bond.proofs.Outcomes.{Known, refusal-is, known, gather-refused, gather-left, gather-headed, gather-rest, gather-granted, gather-made, to-gather, walked-by}
+use Rattle.bond.proofs.gather.Statement.{statement}
+use Rattle.bond.proofs.gather.Tie as tie
+
+read-headers-requires : tie.Need-read-headers-requires
+read-headers-requires c κs = search needs
+
+returns : tie.Need-returns
+returns c =
+    let p = c .before .before in
+    let s = p .before .before .before in
+    let i = refusal-is (s .args .b) (s .args .group .now) (p .read-headers .result) (p .read-headers .ensures) in
+    let e = gather-headed (s .args .b) (s .args .group .now) (s .args .out .now) (λ z. c .if1 .taken (i ∙ z)) ∙ sym i in (
+      gather-refused (s .args .b) (s .args .group .now) (s .args .out .now) (p .read-headers .result .refusal) e (c .if1 .taken),
+      gather-left (s .args .b) (s .args .group .now) (s .args .out .now) (p .read-headers .result .refusal) e (c .if1 .taken),
+    )
+
+gather-refusal-requires : tie.Need-gather-refusal-requires
+gather-refusal-requires c κs = search needs
+
+-- what the plan says that was read
+planned : (c : tie.Else1) → Known (c .before .before .before .before .before .args .b) (c .before .before .before .before .before .args .group .now) (c .before .before .read-headers .result .plan)
+planned c =
+    let p = c .before .before in
+    let s = p .before .before .before in
+    known (s .args .b) (s .args .group .now) (p .read-headers .result) (p .read-headers .ensures) (c .if1 .left)
+
+-- what the checks behind the headers answered
+rest : (c : tie.After-gather-refusal) → gatherRefusal (c .before .before .before .before .before .before .before .args .b) (c .before .before .before .before .before .before .before .args .group .now) (length (c .before .before .before .before .before .before .before .args .out .now)) ≡ c .gather-refusal .result
+rest c =
+    let d = c .before .before in
+    let s = d .before .before .before .before .before in
+    gather-rest (s .args .b) (s .args .group .now) (s .args .out .now) (d .before .before .read-headers .result .plan) (planned d) ∙ sym (c .gather-refusal .ensures)
+
+returns-2 : tie.Need-returns-2
+returns-2 c =
+    let r = c .before in
+    let s = r .before .before .before .before .before .before .before in (
+      gather-refused (s .args .b) (s .args .group .now) (s .args .out .now) (r .gather-refusal .result) (rest r) (c .if2 .taken),
+      gather-left (s .args .b) (s .args .group .now) (s .args .out .now) (r .gather-refusal .result) (rest r) (c .if2 .taken),
+    )
+
+cast-gather-over : tie.Need-cast-gather-over
+cast-gather-over c = search needs
+
+slice-aggregate-gather-over : tie.Need-slice-aggregate-gather-over
+slice-aggregate-gather-over c = search needs
+
+slice-aggregate-gather-over-2 : tie.Need-slice-aggregate-gather-over-2
+slice-aggregate-gather-over-2 c = search needs
+
+gather-over-requires : tie.Need-gather-over-requires
+gather-over-requires c κs =
+    let t = c .before .before .before .before .before .before in
+    let d = t .before .before .before in
+    let s = d .before .before .before .before .before in
+    to-gather (s .args .b) (s .args .group .now) (s .args .out .now) (d .before .before .read-headers .result .plan) (planned d) (rest (t .before) ∙ t .if2 .left)
+
+same-length : tie.Need-same-length
+same-length c = search needs
+
+returns-3 : tie.Need-returns-3
+returns-3 c =
+    let o = c .before .before in
+    let t = o .before .before .before .before .before .before .before in
+    let d = t .before .before .before in
+    let s = d .before .before .before .before .before in
+    let plan = d .before .before .read-headers .result .plan in
+    let granted = rest (t .before) ∙ t .if2 .left in (
+      gather-granted (s .args .b) (s .args .group .now) (s .args .out .now) (plan .packets) granted (planned d .packets-are),
+      o .gather-over .ensures ∙ ap (λ (ms : List ℕ). copied (s .args .out .now) (gathered ms (s .args .group .now))) (walked-by (s .args .b) (s .args .group .now) plan (planned d))
+          ∙ gather-made (s .args .b) (s .args .group .now) (s .args .out .now) granted,
+    )
+
+pub gather-spec : {M : Type 1} → statement M
+gather-spec =
+    tie.close
+    (tie.spec
+    read-headers-requires
+    returns
+    gather-refusal-requires
+    returns-2
+    cast-gather-over
+    slice-aggregate-gather-over
+    slice-aggregate-gather-over-2
+    gather-over-requires
+    same-length
+    returns-3)

@@ -1,0 +1,112 @@
+-- `spread` meets its contract, check by check. Assumes nothing.
+use Prim.Native.Nat.{ℕ}
+use mathlib.Core.Path.{_≡_, sym, ap, _∙_}
+use mathlib.Core.List.{List}
+use native.Mathlib.Omega.{arith}
+use borrow.Author.Needs.{needs}
+use Rattle.bond.specs.Bonding.{spreadRefusal, spreadOver}
+use Rattle.bond.proofs.Outcomes.{Known, refusal-is, known, spread-refused, spread-left, spread-uncut, spread-headed, spread-rest, spread-granted, spread-made, to-spread, walked-by}
+use Rattle.bond.proofs.spread.Statement.{statement}
+use Rattle.bond.proofs.spread.Tie as tie
+
+returns : tie.Need-returns
+returns c =
+    let s = c .before .before .before in
+    let e = spread-uncut (s .args .b) (s .args .group .now) (s .args .stream .now) (c .if1 .taken) in
+    (spread-refused (s .args .b) (s .args .group .now) (s .args .stream .now) 1 e (λ z. omega arith), spread-left (s .args .b) (s .args .group .now) (s .args .stream .now) 1 e (λ z. omega arith))
+
+read-headers-requires : tie.Need-read-headers-requires
+read-headers-requires c κs = search needs
+
+same-length : tie.Need-same-length
+same-length c = search needs
+
+returns-2 : tie.Need-returns-2
+returns-2 c =
+    let p = c .before .before in
+    let a = p .before .before in
+    let s = a .before .before .before in
+    let i = refusal-is (s .args .b) (s .args .group .now) (p .read-headers .result) (p .read-headers .ensures) in
+    let e = spread-headed (s .args .b) (s .args .group .now) (s .args .stream .now) (a .if1 .left) (λ z. c .if2 .taken (i ∙ z)) ∙ sym i in (
+      spread-refused (s .args .b) (s .args .group .now) (s .args .stream .now) (p .read-headers .result .refusal) e (c .if2 .taken),
+      spread-left (s .args .b) (s .args .group .now) (s .args .stream .now) (p .read-headers .result .refusal) e (c .if2 .taken),
+    )
+
+spread-refusal-requires : tie.Need-spread-refusal-requires
+spread-refusal-requires c κs = search needs
+
+same-length-2 : tie.Need-same-length-2
+same-length-2 c = search needs
+
+-- what the plan says that was read
+planned : (c : tie.Else2) → Known (c .before .before .before .before .before .before .before .args .b) (c .before .before .before .before .before .before .before .args .group .now) (c .before .before .read-headers .result .plan)
+planned c =
+    let p = c .before .before in
+    let s = p .before .before .before .before .before in
+    known (s .args .b) (s .args .group .now) (p .read-headers .result) (p .read-headers .ensures) (c .if2 .left)
+
+-- what the checks behind the headers answered
+rest : (c : tie.After-spread-refusal) → spreadRefusal (c .before .before .before .before .before .before .before .before .before .args .b) (c .before .before .before .before .before .before .before .before .before .args .group .now) (c .before .before .before .before .before .before .before .before .before .args .stream .now) ≡ c .spread-refusal .result
+rest c =
+    let d = c .before .before in
+    let a = d .before .before .before .before in
+    let s = a .before .before .before in
+    spread-rest (s .args .b) (s .args .group .now) (s .args .stream .now) (a .if1 .left) (d .before .before .read-headers .result .plan) (planned d) ∙ sym (c .spread-refusal .ensures)
+
+returns-3 : tie.Need-returns-3
+returns-3 c =
+    let r = c .before in
+    let s = r .before .before .before .before .before .before .before .before .before in (
+      spread-refused (s .args .b) (s .args .group .now) (s .args .stream .now) (r .spread-refusal .result) (rest r) (c .if3 .taken),
+      spread-left (s .args .b) (s .args .group .now) (s .args .stream .now) (r .spread-refusal .result) (rest r) (c .if3 .taken),
+    )
+
+cast-spread-over : tie.Need-cast-spread-over
+cast-spread-over c = search needs
+
+slice-aggregate-spread-over : tie.Need-slice-aggregate-spread-over
+slice-aggregate-spread-over c = search needs
+
+slice-aggregate-spread-over-2 : tie.Need-slice-aggregate-spread-over-2
+slice-aggregate-spread-over-2 c = search needs
+
+spread-over-requires : tie.Need-spread-over-requires
+spread-over-requires c κs =
+    let t = c .before .before .before .before .before .before in
+    let d = t .before .before .before in
+    let s = d .before .before .before .before .before .before .before in
+    to-spread (s .args .b) (s .args .group .now) (s .args .stream .now) (d .before .before .read-headers .result .plan) (planned d) (rest (t .before) ∙ t .if3 .left)
+
+same-length-3 : tie.Need-same-length-3
+same-length-3 c = search needs
+
+returns-4 : tie.Need-returns-4
+returns-4 c =
+    let o = c .before .before in
+    let t = o .before .before .before .before .before .before .before in
+    let d = t .before .before .before in
+    let s = d .before .before .before .before .before .before .before in
+    let plan = d .before .before .read-headers .result .plan in
+    let granted = rest (t .before) ∙ t .if3 .left in (
+      spread-granted (s .args .b) (s .args .group .now) (s .args .stream .now) (plan .packets) granted (planned d .packets-are),
+      o .spread-over .ensures ∙ ap (λ (ms : List ℕ). spreadOver ms (s .args .stream .now) (s .args .group .now)) (walked-by (s .args .b) (s .args .group .now) plan (planned d))
+          ∙ spread-made (s .args .b) (s .args .group .now) (s .args .stream .now) granted,
+    )
+
+pub spread-spec : {M : Type 1} → statement M
+spread-spec =
+    tie.close
+    (tie.spec
+    returns
+    read-headers-requires
+    same-length
+    returns-2
+    spread-refusal-requires
+    same-length-2
+    returns-3
+    cast-spread-over
+    slice-aggregate-spread-over
+    slice-aggregate-spread-over-2
+    spread-over-requires
+    same-length-3
+    returns-4)

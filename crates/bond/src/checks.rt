@@ -1,0 +1,59 @@
+// What each call asks of what it is lent, in the table's order, but for the headers.
+use frame::packet;
+use frame::packet::PACKET_BYTES;
+use group::headers::Plan;
+ghost use mathlib.Core.Path.{_≡_};
+ghost use mathlib.Core.Bool.{not};
+ghost use mathlib.Core.List.{[], _∷_};
+ghost use Prim.Native.Nat.{_*_, _%_};
+ghost use lib.Dec.{ltb, eqb};
+ghost use lib.ListN.{length};
+ghost use Rattle.setting.specs.Refusal.{firstOf};
+ghost use Rattle.frame.specs.Packets.{packetLength};
+ghost use Rattle.bond.specs.Bonding.{someUnfitIn};
+
+// 12: whether some packet of the stream lacks 0x47 or bears the header PID.
+fn has_unfit(stream: &[u8], pid: u16) -> bool
+    ensures { λ r. ⌜ r ≡ someUnfitIn pid (now (stream .entry)) ⌝ }
+{
+    let count = stream.len() / PACKET_BYTES;
+    let mut k = 0;
+    while k < count {
+        let at = PACKET_BYTES * k;
+        if packet::place_refusal(&stream[at..at + PACKET_BYTES], pid) != 0 {
+            return true;
+        }
+        k += 1;
+    }
+    false
+}
+
+// 13, 15, 12: the stream by the plan.
+pub(crate) fn spread_refusal(plan: Plan, stream: &[u8], pid: u16) -> u8
+    requires { ⌜ length (now stream) % packetLength ≡ 0 ⌝ }
+    ensures { λ r. ⌜ r ≡ firstOf ((13, not (plan .«is_carried»)) ∷ (15, not (eqb (length (now (stream .entry))) (packetLength * plan .packets))) ∷ (12, someUnfitIn pid (now (stream .entry))) ∷ []) ⌝ }
+{
+    if !plan.is_carried {
+        return 13;
+    }
+    if stream.len() / PACKET_BYTES != plan.packets {
+        return 15;
+    }
+    if has_unfit(stream, pid) {
+        return 12;
+    }
+    0
+}
+
+// 13, 15: the lent buffer by the plan.
+pub(crate) fn gather_refusal(plan: Plan, out: usize) -> u8
+    ensures { λ r. ⌜ r ≡ firstOf ((13, not (plan .«is_carried»)) ∷ (15, ltb out (packetLength * plan .packets)) ∷ []) ⌝ }
+{
+    if !plan.is_carried {
+        return 13;
+    }
+    if out / PACKET_BYTES < plan.packets {
+        return 15;
+    }
+    0
+}

@@ -1,0 +1,162 @@
+-- What the caller of a receiver keeps of frames that arrive whole: each of them, once the next header is there. Assumes nothing.
+use Prim.Native.Nat.{ℕ, zero, suc, _+_, _*_, _%_, _^_, _≤_, _<_}
+use mathlib.Core.Path.{_≡_, refl, ap, ap₂, subst, _∙_}
+use mathlib.Core.Bool.{Bool, true, false, cond}
+use mathlib.Core.List.{List, [], _∷_, _++_, map, append-nil}
+use native.Mathlib.Omega.{arith}
+use borrow.Author.Tests.{lt-ltb}
+use lib.ListN.{length, take, drop, replicate, length-drop, drop-of-length-le, take-append-drop}
+use Rattle.setting.specs.declared.Kind.{Kind}
+use Rattle.setting.specs.Counters.{lastSlot}
+use Rattle.setting.specs.Rules.{pidAllowed}
+use Rattle.header.specs.Header.{reading}
+use Rattle.frame.specs.Packets.{packetLength, slot, unfit}
+use Rattle.receiver.specs.declared.table.Stage.{Stage}
+use Rattle.receiver.specs.declared.table.Event.{Event}
+use Rattle.receiver.specs.declared.table.Row.{Row}
+use Rattle.receiver.specs.declared.Receiver.{Receiver}
+use Rattle.receiver.specs.Store.{storeLength}
+use Rattle.receiver.specs.Table.{makesReady, good, broken, other, row, openRow, rowOf}
+use Rattle.receiver.specs.Receiving.{receiveOf}
+use Rattle.receiver.proofs.Sorts.{not-good}
+use Rattle.runs.specs.Runs.{Each, none, more}
+use Rattle.runs.specs.Losses.{headerArrives, packetsArrive, arriving, Reception, freshWith, afterPacket}
+use Rattle.runs.specs.Demands.{whole, headerAlone}
+use Rattle.runs.proofs.Table.{Opens, Set, event-is, row-opens, bad-row, bad-set, stored-stage, Plain, joined, afterAll, StoredAll, stored-all}
+use Rattle.runs.proofs.Vouched.{GoodFrame, good-event, good-set, good-store, good-opens, step-one, vouched-row}
+use Rattle.runs.proofs.Lost.{arrive-plain, arrive-entire, Counted, no-more, and-then}
+use Rattle.runs.proofs.Demands.{fresh-waits, waiting-set, waiting-stage}
+use Rattle.bonded.specs.Carriers.{opensFrame, framesKept}
+
+-- what framesKept does with a packet, by its event
+abbrev keptBy : Event → List ℕ → Reception → List ℕ → List (List ℕ) → List (List ℕ)
+keptBy e held w p ps =
+    cond (makesReady e) ((held ++ afterPacket w p .store) ∷ []) [] ++ framesKept (cond (opensFrame e) p held) (afterPacket w p) ps
+
+kept-by : (e : Event) (held : List ℕ) (w : Reception) (p : List ℕ) (ps : List (List ℕ))
+    → receiveOf (w .state) p (length (w .store)) .event ≡ e → framesKept held w (p ∷ ps) ≡ keptBy e held w p ps
+unfolding framesKept
+kept-by e held w p ps q = ap (λ (x : Event). keptBy x held w p ps) q
+
+module _ (kind : Kind) (pid : ℕ) where
+  -- ---- packets that are stored
+
+  stored-event : (from k : ℕ) (w : Reception) (p : List ℕ) → Set kind pid w → Plain pid p → Opens (w .state .stage) from k → k < lastSlot
+      → receiveOf (w .state) p (length (w .store)) .event ≡ Event.Stored
+  unfolding openRow
+  stored-event from k w p s (l, u) o h =
+      let to = reading (w .state .kind) p .«continuity_counter» in
+      let r : rowOf (w .state .stage) (cond (unfit pid p) broken other) to ≡ row Event.Stored (Stage.Open from (k + 1)) =
+      ap (λ (b : Bool). rowOf (w .state .stage) (cond b broken other) to) u ∙ row-opens other to o ∙ rw (lt-ltb k lastSlot h) in
+      event-is kind pid w s p l ∙ ap (λ (x : Row). x .event) (bad-row kind pid w s p l (not-good kind pid p u) ∙ r)
+
+  -- they make no frame ready and open none
+  stored-kept : (held : List ℕ) (from k : ℕ) (w : Reception) (ps later : List (List ℕ)) → Set kind pid w → Opens (w .state .stage) from k
+      → k + length ps ≤ lastSlot → Each (Plain pid) ps → framesKept held w (ps ++ later) ≡ framesKept held (afterAll w ps) later
+  unfolding afterAll
+  stored-kept held from k w [] later s o h none = refl
+  stored-kept held from k w (p ∷ ps) later s o h (more (l, u) fit) =
+      let d = not-good kind pid p u in
+      let q : k < lastSlot = omega arith in
+      kept-by Event.Stored held w p (ps ++ later) (stored-event from k w p s (l, u) o q)
+      ∙ stored-kept held from (k + 1) (afterPacket w p) ps later (bad-set kind pid w s p l d)
+      (stored-stage kind pid w s p l d from k o q u) (omega arith) fit
+
+  -- ---- a header
+
+  -- what the header with counter n brings: nothing where the receiver waits, and the frame that stands behind the header held where that
+  -- is whole and has the counter before
+  data Brings (n : ℕ) (held : List ℕ) (w : Reception) : List (List ℕ) → Type 0 where
+    nothing : w .state .stage ≡ Stage.Waiting → Brings n held w []
+    frame : (f : List ℕ) (from : ℕ) → Opens (w .state .stage) from lastSlot → from < 2 ^ 4 → (from + 1) % 16 ≡ n → held ++ w .store ≡ f
+        → Brings n held w (f ∷ [])
+
+  header-kept : (n : ℕ) (held f : List ℕ) (w : Reception) (owed ps : List (List ℕ)) → Set kind pid w → GoodFrame kind pid n f
+      → Brings n held w owed → framesKept held w (slot 0 f ∷ ps) ≡ owed ++ framesKept (slot 0 f) (afterPacket w (slot 0 f)) ps
+  unfolding rowOf
+  header-kept n held f w owed ps s g (nothing e) =
+      kept-by Event.Opened held w (slot 0 f) ps (good-event kind pid n f w s g ∙ ap (λ (x : Stage). rowOf x good n .event) e)
+  header-kept n held f w owed ps s g (frame x from o h c e) =
+      let step : (from + 0 + 1) % 16 ≡ n = omega (arith, c) in
+      let v = row-opens good n o ∙ vouched-row from lastSlot n (step-one from 0 n h (omega arith) step) in
+      kept-by Event.Ready held w (slot 0 f) ps (good-event kind pid n f w s g ∙ ap (λ (r : Row). r .event) v)
+      ∙ ap (λ (y : List ℕ). y ∷ framesKept (slot 0 f) (afterPacket w (slot 0 f)) ps)
+      (ap (λ (y : List ℕ). held ++ y) (good-store kind pid n f w s g) ∙ e)
+
+  -- ---- a frame that arrives whole
+
+  module _ (n : ℕ) (f : List ℕ) (w : Reception) (s : Set kind pid w) (g : GoodFrame kind pid n f) where
+    abbrev opened : Reception
+    opened = afterPacket w (slot 0 f)
+
+    abbrev packets : List (List ℕ)
+    packets = packetsArrive (replicate lastSlot true) (drop packetLength f)
+
+    bytes-long : length (drop packetLength f) ≡ packetLength * length (replicate lastSlot true)
+    bytes-long = length-drop packetLength f ∙ omega (arith, g .long)
+
+    entire-then : (length packets ≡ lastSlot) × (joined packets ≡ drop packetLength f)
+    entire-then = arrive-entire (replicate lastSlot true) (drop packetLength f) refl bytes-long
+
+    plain : Each (Plain pid) packets
+    plain = arrive-plain pid (replicate lastSlot true) (drop packetLength f) bytes-long (g .fit)
+
+    count : 0 + length packets ≡ lastSlot
+    count = omega (arith, entire-then .0)
+
+    few : 0 + length packets ≤ lastSlot
+    few = omega (arith, count)
+
+    all-stored : StoredAll kind pid 0 [] n 0 opened packets [] (opened .store)
+    all-stored =
+        stored-all kind pid 0 [] n 0 opened packets [] (opened .store) (good-set kind pid n f w s g)
+        (good-opens kind pid n f w s g) few plain refl refl
+
+    store-then : afterAll opened packets .store ≡ drop packetLength f
+    store-then =
+        let long : length (opened .store) ≡ storeLength = good-set kind pid n f w s g .store-long in
+        let all : length (opened .store) ≤ packetLength * (0 + length packets) = omega (arith, long, count) in
+        all-stored .store-then
+        ∙ ap₂ (λ (x y : List ℕ). x ++ y) (entire-then .1) (drop-of-length-le (opened .store) all) ∙ append-nil (drop packetLength f)
+
+    -- behind its header it stands in the store, for the next header to bring
+    brings-then : Brings ((n + 1) % 16) (slot 0 f) (afterAll opened packets) (f ∷ [])
+    unfolding slot
+    brings-then =
+        frame f n (subst (Opens (afterAll opened packets .state .stage) n) count (all-stored .stage-then)) (g .small) refl
+        (ap (λ (x : List ℕ). take packetLength f ++ x) store-then ∙ take-append-drop packetLength f)
+
+    frame-kept : (held : List ℕ) (owed later : List (List ℕ)) → Brings n held w owed
+        → framesKept held w (slot 0 f ∷ (packets ++ later)) ≡ owed ++ framesKept (slot 0 f) (afterAll opened packets) later
+    frame-kept held owed later b =
+        header-kept n held f w owed (packets ++ later) s g b
+        ∙ ap (λ (x : List (List ℕ)). owed ++ x)
+        (stored-kept (slot 0 f) n 0 opened packets later (good-set kind pid n f w s g) (good-opens kind pid n f w s g) few plain)
+
+  -- ---- all frames, and the next header behind them
+
+  none-arrive : (n : ℕ) (bytes : List ℕ) → packetsArrive (replicate n false) bytes ≡ []
+  unfolding packetsArrive
+  none-arrive zero bytes = refl
+  none-arrive (suc n) bytes = none-arrive n (drop packetLength bytes)
+
+  all-kept : (n : ℕ) (held : List ℕ) (w : Reception) (owed fs : List (List ℕ)) (next : List ℕ) → Set kind pid w → Brings n held w owed
+      → Counted kind pid n (fs ++ (next ∷ [])) → framesKept held w (arriving (map whole fs ++ (headerAlone next ∷ []))) ≡ owed ++ fs
+  unfolding arriving headerArrives framesKept
+  all-kept n held w owed [] next s b (and-then g no-more) =
+      ap (λ (ps : List (List ℕ)). framesKept held w (slot 0 next ∷ (ps ++ []))) (none-arrive lastSlot (drop packetLength next))
+      ∙ header-kept n held next w owed [] s g b
+  all-kept n held w owed (f ∷ fs) next s b (and-then g c) =
+      frame-kept n f w s g held owed (arriving (map whole fs ++ (headerAlone next ∷ []))) b
+      ∙ ap (λ (x : List (List ℕ)). owed ++ x)
+      (all-kept ((n + 1) % 16) (slot 0 f) (afterAll (opened n f w s g) (packets n f w s g)) (f ∷ []) fs next
+      (all-stored n f w s g .set-then) (brings-then n f w s g) c)
+
+  -- a fresh receiver brings them all
+  pub fresh-kept : (n : ℕ) (store : List ℕ) (fs : List (List ℕ)) (next : List ℕ) → pidAllowed pid ≡ true → length store ≡ storeLength
+      → Counted kind pid n (fs ++ (next ∷ []))
+      → framesKept [] (freshWith kind pid store) (arriving (map whole fs ++ (headerAlone next ∷ []))) ≡ fs
+  fresh-kept n store fs next e l c =
+      let sent = arriving (map whole fs ++ (headerAlone next ∷ [])) in
+      ap (λ (x : Receiver). framesKept [] (record { state = x; store = store }) sent) (fresh-waits kind pid e)
+      ∙ all-kept n [] _ [] fs next (waiting-set kind pid store e l) (nothing (waiting-stage kind pid)) c

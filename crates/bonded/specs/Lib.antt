@@ -1,0 +1,3 @@
+-- A bonded stream over the runs of several carriers, received carrier by carrier.
+pub mod Carriers
+pub mod Demands

@@ -1,0 +1,6 @@
+pub mod Standing
+pub mod Grouping
+pub mod Marks
+pub mod Planned
+pub mod Passing
+pub mod Through

@@ -1,0 +1,4 @@
+-- A group of bonded carriers: what its headers show, and where the slots of one stream stand in it.
+pub mod Group
+pub mod Standing
+pub mod Plan

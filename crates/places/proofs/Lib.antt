@@ -1,0 +1,4 @@
+pub mod Order
+pub mod Sorting
+pub mod Frames
+pub mod Sweep
