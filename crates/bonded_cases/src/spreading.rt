@@ -4,12 +4,11 @@ use crate::PID;
 use crate::TS_ID;
 use crate::lines;
 use crate::streams;
-use bond::Moved;
 use draws::sums::sum;
 use frame::packet::PACKET_BYTES;
 use group::Bond;
 ghost use mathlib.Core.Path.{_≡_};
-ghost use Prim.Native.Nat.{_≤_, _*_};
+ghost use Prim.Native.Nat.{_≤_};
 ghost use lib.ListN.{length};
 
 // The slots of seven frames.
