@@ -11,7 +11,6 @@ mod groups;
 mod lines;
 mod order;
 mod settings;
-mod streams;
 mod variants;
 mod whole;
 

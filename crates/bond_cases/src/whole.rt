@@ -5,7 +5,7 @@ use crate::calls::STREAM_BYTES;
 use crate::groups;
 use crate::groups::GROUPS;
 use crate::lines;
-use crate::streams;
+use draws::streams;
 use draws::sums::sum;
 use frame::packet::FRAME_BYTES;
 use frame::packet::PACKET_BYTES;

@@ -13,7 +13,6 @@ mod lines;
 mod receiving;
 mod settings;
 mod spreading;
-mod streams;
 
 const SEED: u32 = 23;
 

@@ -3,7 +3,7 @@ use crate::ORIGINAL_NETWORK_ID;
 use crate::PID;
 use crate::TS_ID;
 use crate::lines;
-use crate::streams;
+use draws::streams;
 use draws::sums::sum;
 use frame::packet::PACKET_BYTES;
 use group::Bond;

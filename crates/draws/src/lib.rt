@@ -5,6 +5,7 @@ ghost use lib.ListN.{length};
 ghost use Rattle.draws.specs.Draws.{next, drawn, after, drawnList, whole, limited, limitedByte};
 
 pub mod settings;
+pub mod streams;
 pub mod sums;
 
 // A draw: the state's high half once it has stepped.

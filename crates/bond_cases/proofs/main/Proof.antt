@@ -1,6 +1,6 @@
 -- `main` is safe: the group's buffer has the length that is asked for. Assumes nothing.
 use mathlib.Core.Path.{sym}
-use Rattle.bond_cases.proofs.Buffers.{filled}
+use Rattle.draws.proofs.Buffers.{filled}
 use Rattle.bond_cases.proofs.main.Statement.{statement}
 use Rattle.bond_cases.proofs.main.Tie as tie
 

@@ -1,6 +1,6 @@
 -- `bring_back` is safe: its buffer's length is known by a law. Assumes nothing.
 use mathlib.Core.Path.{sym}
-use Rattle.bonded_cases.proofs.Buffers.{filled}
+use Rattle.draws.proofs.Buffers.{filled}
 use Rattle.bonded_cases.proofs.bring_back.Statement.{statement}
 use Rattle.bonded_cases.proofs.bring_back.Tie as tie
 

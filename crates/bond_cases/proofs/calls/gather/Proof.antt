@@ -1,6 +1,6 @@
 -- `gather` is safe: the output buffer has the length that is asked for. Assumes nothing.
 use mathlib.Core.Path.{sym}
-use Rattle.bond_cases.proofs.Buffers.{filled}
+use Rattle.draws.proofs.Buffers.{filled}
 use Rattle.bond_cases.proofs.calls.gather.Statement.{statement}
 use Rattle.bond_cases.proofs.calls.gather.Tie as tie
 

@@ -2,7 +2,7 @@
 use Prim.Native.Nat.{_*_}
 use native.Mathlib.Omega.{arith}
 use borrow.Author.Needs.{needs}
-use Rattle.bond_cases.proofs.Buffers.{within}
+use Rattle.draws.proofs.Buffers.{within}
 use Rattle.bond_cases.proofs.cases.spread_case.Statement.{statement}
 use Rattle.bond_cases.proofs.cases.spread_case.Tie as tie
 

@@ -1,7 +1,7 @@
 -- `gather_again` is safe: what is lent fits the output buffer. Assumes nothing.
 use native.Mathlib.Omega.{arith}
 use borrow.Author.Needs.{needs}
-use Rattle.bonded_cases.proofs.Buffers.{within}
+use Rattle.draws.proofs.Buffers.{within}
 use Rattle.bonded_cases.proofs.spreading.gather_again.Statement.{statement}
 use Rattle.bonded_cases.proofs.spreading.gather_again.Tie as tie
 

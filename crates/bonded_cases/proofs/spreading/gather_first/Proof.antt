@@ -1,6 +1,6 @@
 -- `gather_first` is safe: the output buffer has the length that is asked for. Assumes nothing.
 use mathlib.Core.Path.{sym}
-use Rattle.bonded_cases.proofs.Buffers.{filled}
+use Rattle.draws.proofs.Buffers.{filled}
 use Rattle.bonded_cases.proofs.spreading.gather_first.Statement.{statement}
 use Rattle.bonded_cases.proofs.spreading.gather_first.Tie as tie
 

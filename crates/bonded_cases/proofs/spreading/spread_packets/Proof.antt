@@ -2,7 +2,7 @@
 use Prim.Native.Nat.{_*_}
 use native.Mathlib.Omega.{arith}
 use borrow.Author.Needs.{needs}
-use Rattle.bonded_cases.proofs.Buffers.{within}
+use Rattle.draws.proofs.Buffers.{within}
 use Rattle.bonded_cases.proofs.spreading.spread_packets.Statement.{statement}
 use Rattle.bonded_cases.proofs.spreading.spread_packets.Tie as tie
 
