@@ -2,16 +2,13 @@
 use crate::lines;
 use draws::below;
 use draws::byte_below;
-use draws::draw_bytes;
 use draws::settings;
+use draws::streams;
 use frame::composer;
 use frame::composer::Composer;
 use frame::packet::PACKET_BYTES;
 use setting::Setting;
 use setting::counters::RelativeNumber;
-ghost use mathlib.Core.Path.{_≡_};
-ghost use Prim.Native.Nat.{_≤_, _*_};
-ghost use lib.ListN.{length};
 
 // One more than the largest number of packets that are put for a stream, and the bytes of so many.
 const PACKETS: u16 = 8;
@@ -37,25 +34,6 @@ pub(crate) fn next_setting(f: u64, state: &mut u32, last: Setting) -> Setting {
     settings::with_numbers(state, drawn)
 }
 
-fn draw_packet(state: &mut u32, packet: &mut [u8])
-    requires { ⌜ length (now packet) ≡ 188 ⌝ }
-{
-    draw_bytes(state, packet, 256);
-    packet[0] = 0x47;
-    packet[1] = packet[1] % 16;
-}
-
-fn draw_packets(state: &mut u32, stream: &mut [u8], n: usize)
-    requires { ⌜ 188 * n ≤ length (now stream) ⌝ }
-{
-    let mut i = 0;
-    while i < n {
-        let at = PACKET_BYTES * i;
-        draw_packet(state, &mut stream[at..at + PACKET_BYTES]);
-        i += 1;
-    }
-}
-
 // Puts a stream for r, and prints what came of it.
 fn put_stream(f: u64, run: Composer, frame: &mut [u8], stream: &[u8], r: u8) -> Composer {
     let placed = run.put(frame, stream, RelativeNumber(r));
@@ -64,11 +42,22 @@ fn put_stream(f: u64, run: Composer, frame: &mut [u8], stream: &[u8], r: u8) -> 
     placed.state
 }
 
+fn fill_and_put(
+    f: u64,
+    state: &mut u32,
+    run: Composer,
+    frame: &mut [u8],
+    stream: &mut [u8],
+    r: u8,
+) -> Composer {
+    streams::draw_stream(state, stream);
+    put_stream(f, run, frame, stream, r)
+}
+
 fn put_drawn(f: u64, state: &mut u32, run: Composer, frame: &mut [u8], r: u8) -> Composer {
     let n = below(state, PACKETS) as usize;
     let mut stream = [0u8; STREAM_BYTES];
-    draw_packets(state, &mut stream, n);
-    put_stream(f, run, frame, &stream[0..PACKET_BYTES * n], r)
+    fill_and_put(f, state, run, frame, &mut stream[0..PACKET_BYTES * n], r)
 }
 
 // Step 4.

@@ -4,7 +4,6 @@ use crate::receiving::receive_packet;
 use frame::packet::PACKET_BYTES;
 use setting::SLOTS;
 ghost use mathlib.Core.Path.{_≡_};
-ghost use Prim.Native.Nat.{_≤_};
 ghost use lib.ListN.{length};
 
 fn is_lost(f: u64, slot: usize) -> bool {
