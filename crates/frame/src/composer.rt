@@ -52,7 +52,7 @@ pub struct Placed {
 }
 
 // What a header with this setting announces.
-fn announce(s: Setting) -> Announced
+pub fn announce(s: Setting) -> Announced
     ensures { λ r. ⌜ r ≡ announced s ⌝ }
 {
     let ts_id = s.ts_id;

@@ -1,0 +1,16 @@
+-- Kinds of headers as numbers.
+use Prim.Native.Nat.{ℕ}
+use mathlib.Core.Bool.{Bool, cond}
+use lib.Dec.{ltb, eqb}
+use Rattle.setting.specs.declared.Kind.{Kind}
+
+-- 0 is plain, 1 is extended, and no other number is a kind
+abbrev pub isKind : ℕ → Bool
+isKind n = ltb n 2
+
+unfoldable pub kindOf : ℕ → Kind
+kindOf n = cond (eqb n 1) Kind.Extended Kind.Plain
+
+unfoldable pub kindNumber : Kind → ℕ
+kindNumber Kind.Plain = 0
+kindNumber Kind.Extended = 1

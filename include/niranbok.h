@@ -1,0 +1,179 @@
+/* Niranbok: the transport streams multiplexing frame (TSMF) of ITU-T J.183, for C.
+ *
+ * Every call answers, whatever its bytes and numbers are. A call that can refuse answers 0, or the
+ * refusal's number; refused, it writes no byte of what it was lent, and the counts and the event
+ * that it answers are 0. Nothing is allocated or kept between calls: a composer's and a receiver's
+ * state is the caller's bytes.
+ *
+ * A pointer comes with its length in bytes. It points to that many bytes, also where a call will
+ * refuse the length, and is not null, also where the length is 0. What one call is lent twice does
+ * not overlap if the call writes to either. Pointers to one number (size_t *, uint8_t *event) point
+ * to one.
+ *
+ * Settings and states are bytes in the layouts below, numbers of 16 bits with the high byte first.
+ * They may hold anything: what is out of range is refused. A saved state may be kept and given
+ * again; a caller who changes its bytes gets an answer, and not always a refusal. */
+#ifndef NIRANBOK_H
+#define NIRANBOK_H
+
+#include <stdbool.h>
+#include <stddef.h>
+#include <stdint.h>
+
+#ifdef __cplusplus
+extern "C" {
+#endif
+
+/* Lengths in bytes. */
+#define NIRANBOK_PACKET_BYTES 188
+#define NIRANBOK_FRAME_BYTES 9964   /* a header and 52 slots; slot i is the 188 bytes at 188 * i */
+#define NIRANBOK_STORE_BYTES 9776   /* a receiver's store: slot i at 188 * (i - 1) */
+#define NIRANBOK_SETTING_BYTES 252  /* a setting's layout, below */
+#define NIRANBOK_COMPOSER_BYTES 390 /* a composer's state */
+#define NIRANBOK_RECEIVER_BYTES 110 /* a receiver's state */
+
+/* Kinds of headers. */
+#define NIRANBOK_PLAIN 0
+#define NIRANBOK_EXTENDED 1
+
+/* A setting: where each field starts. Every field may hold what its range below allows; the parts of
+ * the other kind are zeros. */
+#define NIRANBOK_CONTINUITY_COUNTER 0    /* 1 byte */
+#define NIRANBOK_VERSION_NUMBER 1        /* 1 byte */
+#define NIRANBOK_SLOT_ALLOCATION_TYPE 2  /* 1 byte */
+#define NIRANBOK_FRAME_TYPE 3            /* 1 byte */
+#define NIRANBOK_AVAILABILITY 4          /* 2 bytes; stream 1 is bit 14, stream 15 is bit 0 */
+#define NIRANBOK_TS_ID 6                 /* 2 bytes for each of streams 1 to 15 */
+#define NIRANBOK_ORIGINAL_NETWORK_ID 36  /* 2 bytes for each of streams 1 to 15 */
+#define NIRANBOK_RECEIVE_STATUS 66       /* 1 byte for each of streams 1 to 15 */
+#define NIRANBOK_EMERGENCY_INDICATOR 81  /* 1 byte */
+#define NIRANBOK_RELATIVE_TS_NUMBER 82   /* 1 byte for each of slots 1 to 52; 0: no stream */
+#define NIRANBOK_PRIVATE_DATA 134        /* 85 bytes, of a plain header */
+#define NIRANBOK_AUXILIARY 219           /* 28 bytes, of an extended header, as the rest is */
+#define NIRANBOK_GROUP_ID 247            /* 1 byte */
+#define NIRANBOK_NUMBER_OF_CARRIERS 248  /* 1 byte */
+#define NIRANBOK_CARRIER_SEQUENCE 249    /* 1 byte */
+#define NIRANBOK_NUMBER_OF_FRAMES 250    /* 1 byte */
+#define NIRANBOK_FRAME_POSITION 251      /* 1 byte */
+
+/* A composer's state, for who keeps one: header PID (2 bytes), kind, counter and version of the last
+ * closed header (15 and 7 before the first), what that header announced (slot_allocation_type,
+ * frame_type, 2 bytes of availability, 30 of TS_id, 30 of original_network_id, 15 of receive_status,
+ * emergency_indicator), whether a frame is open (0 or 1), its setting (252 bytes), and for each of
+ * slots 1 to 52 whether it is filled (0 or 1). A kind or a mark above 1 is a 17.
+ *
+ * A receiver's state: header PID (2 bytes), kind, stage (0 waiting, 1 a frame is open, 2 the frame
+ * before the open one is ready), the open frame's counter (0 while waiting), how many packets of it
+ * are stored (0 in stages 0 and 2), the 52 slots' numbers by its header, and by the header before
+ * it. A kind above 1, a stage above 2, or anything but 0 where 0 is said is a 17. */
+
+/* What receiving a packet did. */
+#define NIRANBOK_NOTHING 0 /* no frame is open, or the call was refused */
+#define NIRANBOK_OPENED 1  /* a frame opened */
+#define NIRANBOK_STORED 2  /* the packet was stored in the next slot */
+#define NIRANBOK_READY 3   /* the frame before is ready, and a new one opened */
+#define NIRANBOK_SHORT 4   /* the frame before had less than 52 packets and is dropped, a new one opened */
+#define NIRANBOK_JUMP 5    /* the counter did not step by 1: the frame before is dropped, a new one opened */
+#define NIRANBOK_LONG 6    /* a 53rd packet: the open frame is dropped */
+#define NIRANBOK_BROKEN 7  /* a broken packet: the open frame is dropped */
+
+/* The CRC register of H.222.0 that the bytes leave, 0 behind a header's own CRC (bytes 4 to 187). */
+uint32_t niranbok_crc(const uint8_t *bytes, size_t length);
+
+/* Whether a number is a header PID. */
+bool niranbok_pid_allowed(uint16_t pid);
+
+/* Whether a number is a slot, a relative number, a frame position: 0, or 17. */
+uint8_t niranbok_slot(uint8_t n);
+uint8_t niranbok_relative_number(uint8_t n);
+uint8_t niranbok_frame_position(uint8_t n);
+
+/* Whether stream r is available by an availability; how many of the fifteen are. */
+bool niranbok_is_available(uint8_t r, uint16_t availability);
+uint32_t niranbok_count_available(uint16_t availability);
+
+/* Writes a setting of zeros into the lent 252 bytes. Refuses 1. */
+uint8_t niranbok_setting_blank(uint8_t *setting, size_t setting_length);
+
+/* Whether every field of a setting fits its bits (refuses 1, 17), and whether it obeys the rules of a
+ * header of this kind (refuses 1, 17 for the kind alone, 8, 9, 10, 11). Writes nothing. */
+uint8_t niranbok_setting_widths(const uint8_t *setting, size_t setting_length, uint8_t kind);
+uint8_t niranbok_setting_rules(const uint8_t *setting, size_t setting_length, uint8_t kind);
+
+/* Writes the setting's header into the lent 188 bytes. Refuses 1, 2, 17, 8, 9, 10, 11. */
+uint8_t niranbok_header_write(uint8_t *packet, size_t packet_length, uint16_t pid, uint8_t kind,
+                              const uint8_t *setting, size_t setting_length);
+
+/* Reads the packet as a header and writes what it says into the lent 252 bytes. Refuses 1, 2, 17 (the
+ * kind), 3, 4, 5, 6, 7, 8, 9, 10, 11. */
+uint8_t niranbok_header_read(const uint8_t *packet, size_t packet_length, uint16_t pid, uint8_t kind,
+                             uint8_t *setting, size_t setting_length);
+
+/* Whether a packet may stand in a slot: 0; 1 if it has not 188 bytes; 12 if it lacks 0x47 or bears the
+ * header PID. Writes nothing. */
+uint8_t niranbok_place_refusal(const uint8_t *packet, size_t packet_length, uint16_t pid);
+
+/* Starts a run: writes its state into the lent 390 bytes. PID and kind stay for the run. Refuses 1, 2,
+ * 17 (the kind). */
+uint8_t niranbok_composer_start(uint8_t *state, size_t state_length, uint16_t pid, uint8_t kind);
+
+/* Opens a frame with a setting and its plan: null packets in slots 1 to 52 of the lent 9,964 bytes, and
+ * the new state. A frame still open is abandoned. Refuses 1, 2, 17, 8, 9, 10, 11. */
+uint8_t niranbok_composer_begin(uint8_t *state, size_t state_length, uint8_t *frame,
+                                size_t frame_length, const uint8_t *setting,
+                                size_t setting_length);
+
+/* Fills the empty slots planned for stream r, in rising order, from the front of the stream, until
+ * slots or packets run out: writes these slots, the new state, and how many packets were placed. The
+ * frame is the one that begin was lent. Refuses 1, 2, 17, 16, 8, 9, 10, 11, 13, 12. */
+uint8_t niranbok_composer_put(uint8_t *state, size_t state_length, uint8_t *frame,
+                              size_t frame_length, const uint8_t *stream, size_t stream_length,
+                              uint8_t r, size_t *placed);
+
+/* How many bytes of a stream are left behind so many placed packets: its last ones. */
+size_t niranbok_composer_rest(const uint8_t *stream, size_t stream_length, size_t placed);
+
+/* Closes the open frame: writes its header into slot 0, and the new state. Refuses 1, 2, 17, 16, 8, 9,
+ * 10, 11. */
+uint8_t niranbok_composer_close(uint8_t *state, size_t state_length, uint8_t *frame,
+                                size_t frame_length);
+
+/* Starts a receiver: writes its state into the lent 110 bytes. Refuses 1, 2, 17 (the kind). */
+uint8_t niranbok_receiver_start(uint8_t *state, size_t state_length, uint16_t pid, uint8_t kind);
+
+/* Takes one packet: writes the new state, what the packet did, and, where it was stored, its slot of
+ * the store. Refuses 1, 2, 17. */
+uint8_t niranbok_receiver_receive(uint8_t *state, size_t state_length, const uint8_t *packet,
+                                  size_t packet_length, uint8_t *store, size_t store_length,
+                                  uint8_t *event);
+
+/* Copies the ready frame's packets with number r, in slot order, to the front of `out`, and writes how
+ * many. The frame is ready until the next packet is received. Refuses 1, 2, 17, 16, 15. */
+uint8_t niranbok_receiver_hand_out(const uint8_t *state, size_t state_length, const uint8_t *store,
+                                   size_t store_length, uint8_t *out, size_t out_length, uint8_t r,
+                                   size_t *packets);
+
+/* Reads the headers of a group, the super frames of carriers 1 to `carriers` one behind another: writes
+ * whether one of them carries the stream as available (1, or 0), and how many bonded slots it has, which
+ * is how many packets spread takes and gather gives. Refuses 1, 2, 17, 3 to 11, 14. */
+uint8_t niranbok_read_headers(const uint8_t *group, size_t group_length, uint8_t carriers,
+                              uint16_t pid, uint16_t ts_id, uint16_t original_network_id,
+                              uint8_t *is_carried, size_t *packets);
+
+/* Writes a stream's packets into the bonded slots of a group, in order, and how many there were.
+ * Refuses 1, 2, 17, 3 to 11, 14, 13, 15, 12. */
+uint8_t niranbok_spread(uint8_t *group, size_t group_length, const uint8_t *stream,
+                        size_t stream_length, uint8_t carriers, uint16_t pid, uint16_t ts_id,
+                        uint16_t original_network_id, size_t *packets);
+
+/* Copies the bonded slots of a group, in order, to the front of `out`, and writes how many packets.
+ * Refuses 1, 2, 17, 3 to 11, 14, 13, 15. */
+uint8_t niranbok_gather(const uint8_t *group, size_t group_length, uint8_t *out, size_t out_length,
+                        uint8_t carriers, uint16_t pid, uint16_t ts_id,
+                        uint16_t original_network_id, size_t *packets);
+
+#ifdef __cplusplus
+}
+#endif
+
+#endif
