@@ -2,3 +2,4 @@
 pub mod Words
 pub mod Kinds
 pub mod Settings
+pub mod Demands
