@@ -76,7 +76,7 @@ module _ (s : Setting) (l : Long s) where
         byte-behind 4 75 i (t ++ (o ++ (r ++ e))) refl ∙ byte-behind 30 45 t (o ++ (r ++ e)) t-long ∙ byte-behind 30 15 o (r ++ e) o-long ∙ byte-behind 15 0 r e (l .statuses),
         words-back (s .«ts_id»),
         words-back (s .«original_network_id»),
-        same
+        same,
       ) refl
 
   -- a setting takes 252 bytes
@@ -92,7 +92,7 @@ module _ (s : Setting) (l : Long s) where
         length-append (announcedBytes a) (s .«relative_ts_number» ++ (s .«private_data» ++ (s .auxiliary ++ g))),
         length-append (s .«relative_ts_number») (s .«private_data» ++ (s .auxiliary ++ g)),
         length-append (s .«private_data») (s .auxiliary ++ g),
-        length-append (s .auxiliary) g
+        length-append (s .auxiliary) g,
       ) (omega arith)
 
   -- all of it
@@ -110,9 +110,9 @@ module _ (s : Setting) (l : Long s) where
       let n : List ℕ = s .«relative_ts_number» ++ p in
       let m : List ℕ = announcedBytes a ++ n in
       let bonding : (k : ℕ) → getD (c ++ m) (247 + k) 0 ≡ getD g k 0 =
-          λ k. byte-from 2 (247 + k) (245 + k) c m refl (omega arith) ∙ byte-from 80 (245 + k) (165 + k) (announcedBytes a) n la (omega arith)
-          ∙ byte-from 52 (165 + k) (113 + k) (s .«relative_ts_number») p ln (omega arith) ∙ byte-from 85 (113 + k) (28 + k) (s .«private_data») x lp (omega arith)
-          ∙ byte-behind 28 k (s .auxiliary) g lx in
+      λ k. byte-from 2 (247 + k) (245 + k) c m refl (omega arith) ∙ byte-from 80 (245 + k) (165 + k) (announcedBytes a) n la (omega arith)
+      ∙ byte-from 52 (165 + k) (113 + k) (s .«relative_ts_number») p ln (omega arith) ∙ byte-from 85 (113 + k) (28 + k) (s .«private_data») x lp (omega arith)
+      ∙ byte-behind 28 k (s .auxiliary) g lx in
       rw (
         eq-eqb (length (settingBytes s)) settingLength length-setting,
         part-behind 2 0 80 c m refl ∙ part-first 80 (announcedBytes a) n la,
@@ -120,31 +120,13 @@ module _ (s : Setting) (l : Long s) where
         part-behind 2 80 52 c m refl ∙ part-behind 80 0 52 (announcedBytes a) n la ∙ part-first 52 (s .«relative_ts_number») p ln,
         part-behind 2 132 85 c m refl ∙ part-behind 80 52 85 (announcedBytes a) n la ∙ part-behind 52 0 85 (s .«relative_ts_number») p ln ∙ part-first 85 (s .«private_data») x lp,
         part-behind 2 217 28 c m refl ∙ part-behind 80 137 28 (announcedBytes a) n la ∙ part-behind 52 85 28 (s .«relative_ts_number») p ln
-        ∙ part-behind 85 0 28 (s .«private_data») x lp ∙ part-first 28 (s .auxiliary) g lx,
+            ∙ part-behind 85 0 28 (s .«private_data») x lp ∙ part-first 28 (s .auxiliary) g lx,
         bonding 0,
         bonding 1,
         bonding 2,
         bonding 3,
-        bonding 4
-      ) (λ i. record {
-        «continuity_counter» = s .«continuity_counter»;
-        «version_number» = s .«version_number»;
-        «slot_allocation_type» = s .«slot_allocation_type»;
-        «frame_type» = s .«frame_type»;
-        availability = s .availability;
-        «ts_id» = s .«ts_id»;
-        «original_network_id» = s .«original_network_id»;
-        «receive_status» = s .«receive_status»;
-        «emergency_indicator» = s .«emergency_indicator»;
-        «relative_ts_number» = s .«relative_ts_number»;
-        «private_data» = s .«private_data»;
-        auxiliary = s .auxiliary;
-        «group_id» = s .«group_id»;
-        «number_of_carriers» = s .«number_of_carriers»;
-        «carrier_sequence» = s .«carrier_sequence»;
-        «number_of_frames» = s .«number_of_frames»;
-        «frame_position» = record { 0 = s .«frame_position» .0 };
-      })
+        bonding 4,
+      ) refl
 
 pub setting-back : SettingBack
 setting-back s t = back s (long s t)

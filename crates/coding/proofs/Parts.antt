@@ -71,9 +71,11 @@ length-announced s long =
     let n₁ = long .ts-id in
     let n₂ = long .network-id in
     let n₃ = long .statuses in
-    rw (length-append (wordBytes (s .«ts_id»)) (wordBytes (s .«original_network_id») ++ (s .«receive_status» ++ (s .«emergency_indicator» ∷ []))),
-    length-append (wordBytes (s .«original_network_id»)) (s .«receive_status» ++ (s .«emergency_indicator» ∷ [])),
-    length-append (s .«receive_status») (s .«emergency_indicator» ∷ [])) (omega arith)
+    rw (
+      length-append (wordBytes (s .«ts_id»)) (wordBytes (s .«original_network_id») ++ (s .«receive_status» ++ (s .«emergency_indicator» ∷ []))),
+      length-append (wordBytes (s .«original_network_id»)) (s .«receive_status» ++ (s .«emergency_indicator» ∷ [])),
+      length-append (s .«receive_status») (s .«emergency_indicator» ∷ []),
+    ) (omega arith)
 
 -- a setting: six parts of a list of 252 bytes, filled one after the other
 pub setting-parts : (s : Setting) (bytes c a n p x g : List ℕ) → length bytes ≡ settingLength → Long s

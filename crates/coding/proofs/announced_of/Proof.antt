@@ -89,8 +89,13 @@ returns-2 c =
     let ts = networks .before .before .before .before in
     let long = ts .before .before .before .if1 .left in
     let b = ts .before .before .before .before .before .args .bytes .now in
-    rw (eq-eqb (length b) announcedLength long, word .word .ensures, ts .read-words .ensures, networks .read-words2 .ensures,
-    copied .copy .ensures ∙ copied-over (replicate 15 0) (part 64 15 b) (sym (length-part 64 15 b (omega arith)))) refl
+    rw (
+      eq-eqb (length b) announcedLength long,
+      word .word .ensures,
+      ts .read-words .ensures,
+      networks .read-words2 .ensures,
+      copied .copy .ensures ∙ copied-over (replicate 15 0) (part 64 15 b) (sym (length-part 64 15 b (omega arith))),
+    ) refl
 
 pub announced-of-spec : {M : Type 1} → statement M
 announced-of-spec =

@@ -55,10 +55,11 @@ loop-again : tie.Need-loop-again Inv-loop μ-loop
 loop-again c =
     let turn = c .before .before .before .before .loop in
     let start = c .before .before .before .before .before .before .before in
-    let args = start .args in
-    (omega arith,
-    simp length-set (turn .inv .1),
-    rw (c .word .ensures) (word-read (turn .words) (args .part .now) (turn .k) (omega arith) (omega (arith, start .pre)) (turn .inv .2)))
+    let args = start .args in (
+      omega arith,
+      simp length-set (turn .inv .1),
+      rw (c .word .ensures) (word-read (turn .words) (args .part .now) (turn .k) (omega arith) (omega (arith, start .pre)) (turn .inv .2)),
+    )
 
 same-length : tie.Need-same-length Inv-loop μ-loop
 same-length c = search needs

@@ -118,10 +118,13 @@ returns-2 c =
     let announced = numbers .before .before .before in
     let long = announced .before .before .if1 .left in
     let b = announced .before .before .before .before .args .bytes .now in
-    rw (eq-eqb (length b) settingLength long, announced .announced-of .ensures,
-    numbers .copy .ensures ∙ copied-part lastSlot 82 b (omega arith),
-    private .copy2 .ensures ∙ copied-part privateBytes 134 b (omega arith),
-    auxiliary .copy3 .ensures ∙ copied-part auxiliaryBytes 219 b (omega arith)) refl
+    rw (
+      eq-eqb (length b) settingLength long,
+      announced .announced-of .ensures,
+      numbers .copy .ensures ∙ copied-part lastSlot 82 b (omega arith),
+      private .copy2 .ensures ∙ copied-part privateBytes 134 b (omega arith),
+      auxiliary .copy3 .ensures ∙ copied-part auxiliaryBytes 219 b (omega arith),
+    ) refl
 
 pub setting-of-spec : {M : Type 1} → statement M
 setting-of-spec =

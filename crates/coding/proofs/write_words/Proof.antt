@@ -58,10 +58,11 @@ loop-again : tie.Need-loop-again Inv-loop μ-loop
 loop-again c =
     let turn = c .before .before .loop in
     let start = c .before .before .before in
-    let args = start .args in
-    (omega arith,
-    simp length-set (turn .inv .1),
-    word-written (turn .part) (args .words .now) (turn .k) (omega arith) (omega (arith, start .pre)) (turn .inv .2))
+    let args = start .args in (
+      omega arith,
+      simp length-set (turn .inv .1),
+      word-written (turn .part) (args .words .now) (turn .k) (omega arith) (omega (arith, start .pre)) (turn .inv .2),
+    )
 
 same-length : tie.Need-same-length Inv-loop μ-loop
 same-length c = search needs

@@ -1,0 +1,120 @@
+// The composer for callers in other languages: its state is lent bytes, and each call is the composer's own under their coding.
+mod states;
+
+use coding::SETTING_BYTES;
+use frame::composer;
+use frame::composer::Composer;
+use frame::packet;
+use setting::counters::RelativeNumber;
+use setting::rules;
+use states::COMPOSER_BYTES;
+ghost use mathlib.Core.Path.{_≡_};
+ghost use lib.ListN.{length};
+ghost use Rattle.frame.specs.Packets.{placeRefusal};
+ghost use Rattle.frame.specs.Composing.{restOf};
+ghost use Rattle.board_frame.specs.Calls.{startRefused, startState, beginRefused, beginState, beginMemory, putRefused, putPlaced, putState, putMemory, closeRefused, closeState, closeMemory};
+
+// Whether a packet may stand in a slot.
+#[no_mangle]
+pub extern "C" fn niranbok_place_refusal(packet: &[u8], pid: u16) -> u8
+    ensures { λ r. ⌜ r ≡ placeRefusal pid (now (packet .entry)) ⌝ }
+{
+    packet::place_refusal(packet, pid)
+}
+
+// Starts a run: writes its state.
+#[no_mangle]
+pub extern "C" fn niranbok_composer_start(state: &mut [u8], pid: u16, kind: u8) -> u8
+    ensures { λ r. ⌜ r ≡ startRefused (now (state .entry)) pid kind ⌝ }
+    ensures { λ _. ⌜ now (state .exit) ≡ startState (now (state .entry)) pid kind ⌝ }
+{
+    if state.len() != COMPOSER_BYTES {
+        return 1;
+    }
+    if !rules::pid_allowed(pid) {
+        return 2;
+    }
+    if 1 < kind {
+        return 17;
+    }
+    let started = Composer::start(pid, coding::kind_of(kind));
+    states::write_composer(state, started.state);
+    0
+}
+
+// Opens a frame with a setting and its plan.
+#[no_mangle]
+pub extern "C" fn niranbok_composer_begin(state: &mut [u8], frame: &mut [u8], setting: &[u8]) -> u8
+    ensures { λ r. ⌜ r ≡ beginRefused (now (state .entry)) (now (setting .entry)) (now (frame .entry)) ⌝ }
+    ensures { λ _. ⌜ now (state .exit) ≡ beginState (now (state .entry)) (now (setting .entry)) (now (frame .entry)) ⌝ }
+    ensures { λ _. ⌜ now (frame .exit) ≡ beginMemory (now (state .entry)) (now (setting .entry)) (now (frame .entry)) ⌝ }
+{
+    if state.len() != COMPOSER_BYTES {
+        return 1;
+    }
+    if setting.len() != SETTING_BYTES {
+        return 1;
+    }
+    let run = states::composer_of(state);
+    let begun = run.begin(frame, coding::setting_of(setting));
+    if begun.refusal != 0 {
+        return begun.refusal;
+    }
+    states::write_composer(state, begun.state);
+    0
+}
+
+// Fills the empty slots planned for stream r from the front of the stream.
+#[no_mangle]
+pub extern "C" fn niranbok_composer_put(
+    state: &mut [u8],
+    frame: &mut [u8],
+    stream: &[u8],
+    r: u8,
+    placed: &mut usize,
+) -> u8
+    ensures { λ t. ⌜ t ≡ putRefused (now (state .entry)) r (now (stream .entry)) (now (frame .entry)) ⌝ }
+    ensures { λ _. ⌜ now (placed .exit) ≡ putPlaced (now (state .entry)) r (now (stream .entry)) (now (frame .entry)) ⌝ }
+    ensures { λ _. ⌜ now (state .exit) ≡ putState (now (state .entry)) r (now (stream .entry)) (now (frame .entry)) ⌝ }
+    ensures { λ _. ⌜ now (frame .exit) ≡ putMemory (now (state .entry)) r (now (stream .entry)) (now (frame .entry)) ⌝ }
+{
+    if state.len() != COMPOSER_BYTES {
+        *placed = 0;
+        return 1;
+    }
+    let run = states::composer_of(state);
+    let answer = run.put(frame, stream, RelativeNumber(r));
+    *placed = answer.placed;
+    if answer.refusal != 0 {
+        return answer.refusal;
+    }
+    states::write_composer(state, answer.state);
+    0
+}
+
+// How many bytes of a stream are left behind so many placed packets.
+#[no_mangle]
+pub extern "C" fn niranbok_composer_rest(stream: &[u8], placed: usize) -> usize
+    ensures { λ r. ⌜ r ≡ length (restOf (now (stream .entry)) placed) ⌝ }
+{
+    composer::rest(stream, placed).len()
+}
+
+// Closes the open frame: writes its header.
+#[no_mangle]
+pub extern "C" fn niranbok_composer_close(state: &mut [u8], frame: &mut [u8]) -> u8
+    ensures { λ r. ⌜ r ≡ closeRefused (now (state .entry)) (now (frame .entry)) ⌝ }
+    ensures { λ _. ⌜ now (state .exit) ≡ closeState (now (state .entry)) (now (frame .entry)) ⌝ }
+    ensures { λ _. ⌜ now (frame .exit) ≡ closeMemory (now (state .entry)) (now (frame .entry)) ⌝ }
+{
+    if state.len() != COMPOSER_BYTES {
+        return 1;
+    }
+    let run = states::composer_of(state);
+    let closed = run.close(frame);
+    if closed.refusal != 0 {
+        return closed.refusal;
+    }
+    states::write_composer(state, closed.state);
+    0
+}
