@@ -1,10 +1,10 @@
 -- Laws of the CRC. Most rest on one fact: the shift is linear under xor.
 -- Assumes nothing.
-use Prim.Native.Nat.{ℕ, zero, suc, _+_, _-_, _*_, _/_, _%_, _^_, _<_}
+use Prim.Native.Nat.{ℕ, zero, suc, _+_, _-_, _*_, _/_, _%_, _^_, _≤_, _<_}
 use mathlib.Core.Path.{_≡_, refl, sym, ap, ap₂, _∙_, subst}
 use mathlib.Core.List.{List, [], _∷_, _++_}
 use native.Mathlib.Omega.{arith}
-use native.Mathlib.Nat.{add-mul, add-suc, suc-add, mul-assoc, mod-lt, mod-eq-of-lt, mod-one, div-eq-of-lt, pow-suc, zero-mul, mul-mod-left, mul-one, le-of-eq, suc-inj}
+use native.Mathlib.Nat.{add-mul, add-suc, suc-add, zero-add, lt-of-lt-of-le, pow-le-pow-right, pow-succ', mul-assoc, mod-lt, mod-eq-of-lt, mod-one, div-eq-of-lt, pow-suc, zero-mul, mul-mod-left, mul-one, le-of-eq, suc-inj}
 use native.Mathlib.Numerals.{one-add}
 use lib.Dec.{lit<}
 use lib.Bits.{bitXor, xor-lt, xor-mod, xor-self, xor-shifted, xor-shr, xor-zero-r}
@@ -72,6 +72,27 @@ pub shifts-zero : (n : ℕ) → shifts n 0 ≡ 0
 unfolding shifts shift poly
 shifts-zero zero = refl
 shifts-zero (suc n) = shifts-zero n
+
+-- ---- several shifts
+
+pub shifts-add : (a b s : ℕ) → shifts (a + b) s ≡ shifts b (shifts a s)
+unfolding shifts
+shifts-add zero b s = rw zero-add
+shifts-add (suc a) b s = ap (λ (n : ℕ). shifts n s) (suc-add a b) ∙ shifts-add a b (shift s)
+
+pub shifts-linear : (n s t : ℕ) → shifts n (bitXor s t) ≡ bitXor (shifts n s) (shifts n t)
+unfolding shifts
+shifts-linear zero s t = refl
+shifts-linear (suc n) s t = ap (shifts n) (shift-linear s t) ∙ shifts-linear n (shift s) (shift t)
+
+-- nothing falls out at the top
+pub shifts-low : (w n v : ℕ) → w + n ≤ 32 → v < 2 ^ w → shifts n v ≡ v * 2 ^ n
+unfolding shifts
+shifts-low w zero v e h = sym (mul-one v)
+shifts-low w (suc n) v e h =
+    ap (shifts n) (shift-low v (lt-of-lt-of-le h (pow-le-pow-right (lit< tt) {i = w} {j = 31} (omega arith))))
+    ∙ shifts-low (w + 1) n (v * 2) (omega arith) (shl-lt w 1 h)
+    ∙ mul-assoc v 2 (2 ^ n) ∙ ap (λ (x : ℕ). v * x) (sym (pow-succ' 2 n))
 
 -- ---- the register
 

@@ -1,2 +1,3 @@
 -- The CRC of H.222.0.
 pub mod Crc
+pub mod Words
