@@ -1,10 +1,10 @@
 -- Lists written part by part. Assumes nothing.
 use Prim.Native.Nat.{ℕ, _+_, _≤_}
 use mathlib.Core.Path.{_≡_, refl, sym, ap, _∙_}
-use mathlib.Core.List.{List, [], _∷_, _++_, append-nil, append-assoc}
+use mathlib.Core.List.{List, [], _∷_, _++_, append-assoc}
 use native.Mathlib.Omega.{arith}
-use lib.ListN.{length, set, drop, replicate, length-append, length-drop, length-replicate, drop-of-length-le}
-use lib.Seq.{sets, sets-eq, length-take-le}
+use lib.ListN.{length, set, drop, replicate, length-append, length-drop, length-replicate}
+use lib.Seq.{length-take-le}
 use Rattle.slices.proofs.Front.{put, front-none, front-part, front-more, front-all, copied-over}
 use Rattle.slices.specs.Slices.{copied}
 use Rattle.setting.specs.Counters.{lastStream, lastSlot}
@@ -23,12 +23,6 @@ length-part k n b h = length-take-le n (drop k b) (rw (length-drop k b) (omega a
 -- a part of bytes copied over zeros, as many as it has
 pub copied-part : (n k : ℕ) (b : List ℕ) → k + n ≤ length b → copied (replicate n 0) (part k n b) ≡ part k n b
 copied-part n k b h = copied-over (replicate n 0) (part k n b) (length-replicate n 0 ∙ sym (length-part k n b h))
-
--- every element of a list stored over
-pub stored : (vs l : List ℕ) → length l ≡ length vs → sets l 0 vs ≡ vs
-stored vs l e =
-    let whole : length l ≤ 0 + length vs = omega arith in
-    sets-eq vs l 0 (omega arith) ∙ ap (λ (r : List ℕ). vs ++ r) (drop-of-length-le l whole) ∙ append-nil vs
 
 -- what is announced: five parts of a list of 80 bytes, filled one after the other
 pub announced-parts : (a : Announced) (bytes i t o r : List ℕ) → length bytes ≡ announcedLength

@@ -4,9 +4,9 @@ use crate::composer::Composer;
 use crate::packet::FRAME_BYTES;
 use crate::packet::PACKET_BYTES;
 use crate::slots;
-use setting::AVAILABILITIES;
 use setting::Setting;
 use setting::counters::RelativeNumber;
+use setting::limits;
 use setting::rules;
 ghost use mathlib.Core.Path.{_≡_};
 ghost use lib.ListN.{length};
@@ -78,20 +78,20 @@ pub(crate) fn differs(a: Announced, b: Announced) -> bool
 fn announced_refusal(a: Announced) -> u8
     ensures { λ r. ⌜ r ≡ firstOf (announcedChecks a) ⌝ }
 {
-    if 2 <= a.slot_allocation_type {
+    if limits::SLOT_ALLOCATION_TYPES <= a.slot_allocation_type {
         return 17;
     }
-    if 16 <= a.frame_type {
+    if limits::FRAME_TYPES <= a.frame_type {
         return 17;
     }
-    if AVAILABILITIES <= a.availability {
+    if limits::AVAILABILITIES <= a.availability {
         return 17;
     }
     let receive_status = a.receive_status;
-    if slices::some_at_least(&receive_status, 4) {
+    if slices::some_at_least(&receive_status, limits::RECEIVE_STATUSES) {
         return 17;
     }
-    if 2 <= a.emergency_indicator {
+    if limits::EMERGENCY_INDICATORS <= a.emergency_indicator {
         return 17;
     }
     0
@@ -116,10 +116,10 @@ fn state_refusal(c: Composer) -> u8
     if !rules::pid_allowed(c.pid) {
         return 2;
     }
-    if 16 <= c.counter {
+    if limits::COUNTERS <= c.counter {
         return 17;
     }
-    if 8 <= c.version {
+    if limits::VERSIONS <= c.version {
         return 17;
     }
     let last = c.last;

@@ -1,18 +1,10 @@
 -- Fields of a few bits as whole bytes: what byte-wise code needs of the bit-wise definition. Assumes nothing.
 use Prim.Native.Nat.{ℕ, _+_, _*_, _/_, _%_, _^_, _≤_, _<_}
 use mathlib.Core.Path.{_≡_, sym, ap, ap₂, _∙_}
-use mathlib.Core.List.{List, _++_, append-assoc, append-nil}
+use mathlib.Core.List.{List, _++_, append-assoc}
 use native.Mathlib.Omega.{arith}
-use lib.ListN.{length, drop-of-length-le}
-use lib.Seq.{sets, sets-eq}
 use Rattle.bits.specs.Fields.{bitsOf}
 use Rattle.bits.proofs.Laws.{bitsOf-split, bitsOf-join, bitsOf-mod}
-
--- what one store after another leaves where they fill the whole list
-pub stored : (vs l : List ℕ) → length l ≡ length vs → sets l 0 vs ≡ vs
-stored vs l e =
-    let whole : length l ≤ 0 + length vs = omega arith in
-    sets-eq vs l 0 (omega arith) ∙ ap (λ (r : List ℕ). vs ++ r) (drop-of-length-le l whole) ∙ append-nil vs
 
 -- numbers that agree in their lowest byte are the same byte
 pub byte : (a b : ℕ) → a % 256 ≡ b % 256 → bitsOf 8 a ≡ bitsOf 8 b

@@ -7,6 +7,7 @@ use crate::table::Stage;
 use frame::packet::PACKET_BYTES;
 use setting::SLOTS;
 use setting::counters::RelativeNumber;
+use setting::limits;
 use setting::rules;
 ghost use mathlib.Core.Path.{_≡_};
 ghost use Rattle.setting.specs.Refusal.{firstOf};
@@ -19,7 +20,7 @@ fn stage_refusal(stage: Stage) -> u8
     match stage {
         Stage::Waiting => 0,
         Stage::Open(from, k) => {
-            if 16 <= from {
+            if limits::COUNTERS <= from {
                 return 17;
             }
             if (SLOTS as u8) < k {
@@ -28,7 +29,7 @@ fn stage_refusal(stage: Stage) -> u8
             0
         }
         Stage::Ready(from) => {
-            if 16 <= from {
+            if limits::COUNTERS <= from {
                 return 17;
             }
             0
@@ -49,11 +50,11 @@ fn receiver_refusal(c: Receiver) -> u8
         return shown;
     }
     let numbers = c.numbers;
-    if slices::some_at_least(&numbers, 16) {
+    if slices::some_at_least(&numbers, limits::NUMBERS) {
         return 17;
     }
     let before = c.before;
-    if slices::some_at_least(&before, 16) {
+    if slices::some_at_least(&before, limits::NUMBERS) {
         return 17;
     }
     0

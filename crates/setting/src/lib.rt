@@ -7,15 +7,13 @@ ghost use Rattle.setting.specs.Setting.{blank};
 ghost use Rattle.setting.specs.Rules.{countAvailable};
 
 pub mod counters;
+pub mod limits;
 pub mod rules;
 
 // How many slots carry packets, and how many streams a header knows.
 pub const SLOTS: usize = Slot::LAST as usize;
 
 pub const STREAMS: usize = RelativeNumber::LAST as usize;
-
-// One more than the largest availability, which has a bit for each stream.
-pub const AVAILABILITIES: u16 = 1 << RelativeNumber::LAST;
 
 // The bytes of the private data; in an extended header the first are auxiliary information.
 pub const PRIVATE_BYTES: usize = 85;
@@ -84,5 +82,5 @@ impl Setting {
 pub fn count_available(availability: u16) -> u32
     ensures { λ r. ⌜ r ≡ countAvailable availability ⌝ }
 {
-    u16::count_ones(availability % AVAILABILITIES)
+    u16::count_ones(availability % limits::AVAILABILITIES)
 }

@@ -1,9 +1,9 @@
 // What a setting has to obey, each rule with its refusal's number, in the table's order.
-use crate::AVAILABILITIES;
 use crate::Kind;
 use crate::Setting;
 use crate::counters::FramePosition;
 use crate::counters::RelativeNumber;
+use crate::limits;
 ghost use mathlib.Core.Path.{_≡_};
 ghost use Prim.Native.Nat.{_<_};
 ghost use lib.Dec.{eqb};
@@ -17,10 +17,10 @@ ghost use Rattle.setting.specs.Rules.{byKind, pidAllowed, someUnavailabl
 pub fn pid_allowed(pid: u16) -> bool
     ensures { λ r. ⌜ r ≡ pidAllowed pid ⌝ }
 {
-    if pid < 16 {
+    if pid < limits::FIRST_PID {
         return false;
     }
-    pid <= 8190
+    pid <= limits::LAST_PID
 }
 
 // 17: a part that the kind does not have holds zeros alone.
@@ -69,30 +69,30 @@ fn plain_absent_refusal(s: Setting) -> u8
 pub fn width_refusal(kind: Kind, s: Setting) -> u8
     ensures { λ r. ⌜ r ≡ firstOf (widthChecks kind s) ⌝ }
 {
-    if 16 <= s.continuity_counter {
+    if limits::COUNTERS <= s.continuity_counter {
         return 17;
     }
-    if 8 <= s.version_number {
+    if limits::VERSIONS <= s.version_number {
         return 17;
     }
-    if 2 <= s.slot_allocation_type {
+    if limits::SLOT_ALLOCATION_TYPES <= s.slot_allocation_type {
         return 17;
     }
-    if 16 <= s.frame_type {
+    if limits::FRAME_TYPES <= s.frame_type {
         return 17;
     }
-    if AVAILABILITIES <= s.availability {
+    if limits::AVAILABILITIES <= s.availability {
         return 17;
     }
     let receive_status = s.receive_status;
-    if slices::some_at_least(&receive_status, 4) {
+    if slices::some_at_least(&receive_status, limits::RECEIVE_STATUSES) {
         return 17;
     }
-    if 2 <= s.emergency_indicator {
+    if limits::EMERGENCY_INDICATORS <= s.emergency_indicator {
         return 17;
     }
     let relative_ts_number = s.relative_ts_number;
-    if slices::some_at_least(&relative_ts_number, 16) {
+    if slices::some_at_least(&relative_ts_number, limits::NUMBERS) {
         return 17;
     }
     absent_refusal(kind, s)
@@ -172,13 +172,25 @@ fn bonding_refusal(kind: Kind, s: Setting) -> u8
         Kind::Plain => 0,
         Kind::Extended => {
             let position = s.frame_position;
-            if !is_within(1, 8, s.number_of_carriers) {
+            if !is_within(
+                limits::FIRST_CARRIER,
+                limits::LAST_CARRIER,
+                s.number_of_carriers,
+            ) {
                 return 11;
             }
-            if !is_within(1, s.number_of_carriers, s.carrier_sequence) {
+            if !is_within(
+                limits::FIRST_CARRIER,
+                s.number_of_carriers,
+                s.carrier_sequence,
+            ) {
                 return 11;
             }
-            if !is_within(3, FramePosition::LAST, s.number_of_frames) {
+            if !is_within(
+                limits::FEWEST_FRAMES,
+                limits::MOST_FRAMES,
+                s.number_of_frames,
+            ) {
                 return 11;
             }
             if !is_within(FramePosition::FIRST, s.number_of_frames, position.0) {
@@ -203,8 +215,12 @@ fn frame_type_allowed(kind: Kind, frame_type: u8) -> bool
     ensures { λ r. ⌜ r ≡ byKind kind (eqb «frame_type» 1) (within 1 2 «frame_type») ⌝ }
 {
     match kind {
-        Kind::Plain => frame_type == 1,
-        Kind::Extended => is_within(1, 2, frame_type),
+        Kind::Plain => frame_type == limits::FIRST_FRAME_TYPE,
+        Kind::Extended => is_within(
+            limits::FIRST_FRAME_TYPE,
+            limits::LAST_FRAME_TYPE,
+            frame_type,
+        ),
     }
 }
 

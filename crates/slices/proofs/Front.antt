@@ -5,7 +5,7 @@ use mathlib.Core.List.{List, [], _∷_, _++_, append-assoc, append-nil}
 use native.Mathlib.Omega.{arith}
 use native.Mathlib.Numerals.{add-one}
 use lib.ListN.{length, take, drop, set, getD, length-append, length-drop, drop-of-length-le, take-append-drop}
-use lib.Seq.{drop-cons, set-at, append-snoc, take-at, drop-at, getD-at, drop-drop, take-length, length-take-le}
+use lib.Seq.{sets, sets-eq, drop-cons, set-at, append-snoc, take-at, drop-at, getD-at, drop-drop, take-length, length-take-le}
 use Rattle.slices.specs.Slices.{copied, over}
 
 -- d is d₀ with the i elements of `done` over its front
@@ -69,6 +69,12 @@ module _ {A : Type 0} where
             ∙ sym (append-assoc done ys (drop (i + k) d₀));
         long = length-append done ys ∙ ap₂ _+_ (f .long) l;
       }
+
+-- every element of a list stored over
+pub stored : (vs l : List ℕ) → length l ≡ length vs → sets l 0 vs ≡ vs
+stored vs l e =
+    let whole : length l ≤ 0 + length vs = omega arith in
+    sets-eq vs l 0 (omega arith) ∙ ap (λ (r : List ℕ). vs ++ r) (drop-of-length-le l whole) ∙ append-nil vs
 
 -- as many elements as there are copied over all of them
 pub copied-over : (into from : List ℕ) → length into ≡ length from → copied into from ≡ from

@@ -1,3 +1,4 @@
 pub mod Any
 pub mod Front
+mod Most
 pub mod Toward

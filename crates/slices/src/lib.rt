@@ -29,16 +29,21 @@ pub fn fill(dst: &mut [u8], v: u8)
     }
 }
 
-// Whether some element of xs is `limit` or more.
+// Whether some element of xs is `limit` or more. Looks for the largest and does not stop early, so that many elements are
+// compared at a time.
 pub fn some_at_least(xs: &[u8], limit: u8) -> bool
     ensures { λ r. ⌜ r ≡ someAtLeast limit (now (xs .entry)) ⌝ }
 {
+    if limit == 0 {
+        return 0 < xs.len();
+    }
+    let mut most = 0;
     let mut i = 0;
     while i < xs.len() {
-        if limit <= xs[i] {
-            return true;
+        if most < xs[i] {
+            most = xs[i];
         }
         i += 1;
     }
-    false
+    limit <= most
 }

@@ -3,7 +3,7 @@ use mathlib.Core.List.{[], _∷_}
 use native.Mathlib.Omega.{arith}
 use lib.ListN.{length-set}
 use borrow.Author.Needs.{needs}
-use Rattle.coding.proofs.Parts.{stored}
+use Rattle.slices.proofs.Front.{stored}
 use Rattle.coding.proofs.write_bonding.Statement.{statement}
 use Rattle.coding.proofs.write_bonding.Tie as tie
 

@@ -1,6 +1,6 @@
 -- `write_counters` meets its contract. Assumes nothing.
 use mathlib.Core.List.{[], _∷_}
-use Rattle.coding.proofs.Parts.{stored}
+use Rattle.slices.proofs.Front.{stored}
 use borrow.Author.Needs.{needs}
 use Rattle.coding.proofs.write_counters.Statement.{statement}
 use Rattle.coding.proofs.write_counters.Tie as tie

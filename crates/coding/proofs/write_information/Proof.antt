@@ -2,7 +2,7 @@
 use Prim.Native.Nat.{_/_, _%_}
 use mathlib.Core.List.{[], _∷_}
 use Rattle.coding.specs.Words.{wordBytes}
-use Rattle.coding.proofs.Parts.{stored}
+use Rattle.slices.proofs.Front.{stored}
 use borrow.Author.Needs.{needs}
 use Rattle.coding.proofs.write_information.Statement.{statement}
 use Rattle.coding.proofs.write_information.Tie as tie

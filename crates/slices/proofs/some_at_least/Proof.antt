@@ -1,33 +1,36 @@
--- `some_at_least` meets its contract: no element before i is `limit` or more. Assumes nothing.
+-- `some_at_least` meets its contract: the largest of the elements before i tells whether one is `limit` or more. Assumes nothing.
 use Prim.Native.Nat.{_-_, _≤_}
-use mathlib.Core.Path.{_≡_, sym}
-use mathlib.Core.Bool.{false}
+use mathlib.Core.Path.{_≡_, sym, ap, _∙_}
+use mathlib.Core.Logic.{⊎-elim}
 use native.Mathlib.Omega.{arith}
 use borrow.Author.Needs.{needs}
-use borrow.Author.Tests.{le-leb, lt-leb}
+use borrow.Author.Tests.{lt-leb}
 use lib.Dec.{leb}
 use lib.ListN.{length, getD}
 use Rattle.slices.specs.Slices.{anyBelow, someAtLeast}
-use Rattle.slices.proofs.Any.{any-none, any-more, any-found}
+use Rattle.slices.proofs.Any.{any-none}
+use Rattle.slices.proofs.Most.{any-at-all, most-grows, most-stays}
 use Rattle.slices.proofs.some_at_least.Statement.{statement}
 use Rattle.slices.proofs.some_at_least.Tie as tie
 
 abbrev Inv-loop : tie.InvT-loop
-Inv-loop xs limit i₀ i = (i ≤ length xs) × (anyBelow i (λ k. leb limit (getD xs k 0)) ≡ false)
+Inv-loop xs limit most₀ i₀ most i = (i ≤ length xs) × (anyBelow i (λ k. leb limit (getD xs k 0)) ≡ leb limit most)
 
 abbrev μ-loop : tie.MeasureT-loop
-μ-loop xs limit i₀ i = length xs - i
-
-loop-holds : tie.Need-loop-holds Inv-loop μ-loop
-loop-holds c = (omega arith, any-none _)
-
-shared-slice-read-if1 : tie.Need-shared-slice-read-if1 Inv-loop μ-loop
-shared-slice-read-if1 c = search needs
+μ-loop xs limit most₀ i₀ most i = length xs - i
 
 returns : tie.Need-returns Inv-loop μ-loop
 unfolding someAtLeast
-returns c =
-    sym (any-found _ (length (c .before .before .before .before .args .xs .now)) (c .before .before .before .loop .i) (omega arith) (le-leb _ _ (c .if1 .taken)))
+returns c = let args = c .before .args in any-at-all (args .xs .now) (args .limit) (c .if1 .taken)
+
+loop-holds : tie.Need-loop-holds Inv-loop μ-loop
+loop-holds c = let limit = c .before .args .limit in (omega arith, any-none _ ∙ sym (lt-leb limit 0 (omega (arith, c .if1 .left))))
+
+shared-slice-read-if2 : tie.Need-shared-slice-read-if2 Inv-loop μ-loop
+shared-slice-read-if2 c = search needs
+
+shared-slice-read-most : tie.Need-shared-slice-read-most Inv-loop μ-loop
+shared-slice-read-most c = search needs
 
 add-i : tie.Need-add-i Inv-loop μ-loop
 add-i c = search needs
@@ -36,13 +39,23 @@ loop-less : tie.Need-loop-less Inv-loop μ-loop
 loop-less c = search needs
 
 loop-again : tie.Need-loop-again Inv-loop μ-loop
-loop-again c = (omega arith, any-more _ (c .before .before .before .loop .i) (c .before .before .before .loop .inv .1) (lt-leb _ _ (c .if1 .left)))
+loop-again c =
+    let turn = c .before .before .before .loop in
+    let args = c .before .before .before .before .before .args in (
+      omega arith,
+      ⊎-elim
+          (λ w. rw (w .2) (most-grows (args .xs .now) (args .limit) (turn .most) (turn .i) (turn .inv .1) (w .0 .taken)))
+          (λ w. rw (w .1) (most-stays (args .xs .now) (args .limit) (turn .most) (turn .i) (turn .inv .1) (w .0 .left)))
+          (c .if2 .came),
+    )
 
 returns-2 : tie.Need-returns-2 Inv-loop μ-loop
 unfolding someAtLeast
 returns-2 c =
-    let all : c .before .loop .i ≡ length (c .before .before .args .xs .now) = omega arith in
-    sym (rw all at (c .before .loop .inv .1))
+    let turn = c .before .loop in
+    let xs = c .before .before .before .args .xs .now in
+    let all : turn .i ≡ length xs = omega arith in
+    sym (rw all at (turn .inv .1))
 
 pub some-at-least-spec : {M : Type 1} → statement M
 some-at-least-spec =
@@ -50,9 +63,10 @@ some-at-least-spec =
     (tie.spec
     Inv-loop
     μ-loop
-    loop-holds
-    shared-slice-read-if1
     returns
+    loop-holds
+    shared-slice-read-if2
+    shared-slice-read-most
     add-i
     loop-less
     loop-again

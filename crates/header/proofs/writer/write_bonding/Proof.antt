@@ -6,7 +6,7 @@ use Rattle.setting.specs.Rules.{bondingChecks}
 use Rattle.setting.proofs.Fields.{Bonded, bonded}
 use Rattle.setting.proofs.Refusals.{none-first}
 use Rattle.header.specs.Bytes.{bondingBytes}
-use Rattle.header.proofs.Bytes.{stored}
+use Rattle.slices.proofs.Front.{stored}
 use borrow.Author.Needs.{needs}
 use Rattle.header.proofs.writer.write_bonding.Statement.{statement}
 use Rattle.header.proofs.writer.write_bonding.Tie as tie

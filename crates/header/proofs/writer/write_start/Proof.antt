@@ -3,7 +3,7 @@ use mathlib.Core.Path.{ap, _∙_}
 use native.Mathlib.Omega.{arith}
 use lib.ListN.{length-set}
 use Rattle.bits.specs.Fields.{run}
-use Rattle.header.proofs.Bytes.{stored}
+use Rattle.slices.proofs.Front.{stored}
 use Rattle.header.proofs.Start.{startBytes, start-bits}
 use borrow.Author.Needs.{needs}
 use Rattle.header.proofs.writer.write_start.Statement.{statement}

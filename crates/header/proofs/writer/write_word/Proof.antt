@@ -5,7 +5,8 @@ use mathlib.Core.List.{List, [], _∷_, _++_, append-nil}
 use native.Mathlib.Omega.{arith}
 use Rattle.bits.specs.Fields.{bitsOf, run}
 use Rattle.bits.proofs.Laws.{bitsOf-split}
-use Rattle.header.proofs.Bytes.{stored, split}
+use Rattle.slices.proofs.Front.{stored}
+use Rattle.header.proofs.Bytes.{split}
 use borrow.Author.Needs.{needs}
 use Rattle.header.proofs.writer.write_word.Statement.{statement}
 use Rattle.header.proofs.writer.write_word.Tie as tie

@@ -1,0 +1,2 @@
+-- Bonding for callers in other languages.
+pub mod Bonds
