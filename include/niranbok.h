@@ -16,7 +16,6 @@
 #ifndef NIRANBOK_H
 #define NIRANBOK_H
 
-#include <stdbool.h>
 #include <stddef.h>
 #include <stdint.h>
 
@@ -56,6 +55,74 @@ extern "C" {
 #define NIRANBOK_NUMBER_OF_FRAMES 250    /* 1 byte */
 #define NIRANBOK_FRAME_POSITION 251      /* 1 byte */
 
+/* The range of each field that a caller sets, as the program `limits` prints them, with the refusal that
+ * any other value gets. Identifiers, private data, auxiliary information and the group id may be
+ * anything. A carrier's sequence is at most the number of carriers, a frame's position at most the
+ * number of frames. */
+#define NIRANBOK_HEADER_PID_FIRST 16 /* 2 */
+#define NIRANBOK_HEADER_PID_LAST 8190
+#define NIRANBOK_CONTINUITY_COUNTER_FIRST 0 /* 17; in begin the run's own counter is used */
+#define NIRANBOK_CONTINUITY_COUNTER_LAST 15
+#define NIRANBOK_VERSION_NUMBER_FIRST 0 /* 17; in begin the run's own version is used */
+#define NIRANBOK_VERSION_NUMBER_LAST 7
+#define NIRANBOK_SLOT_ALLOCATION_TYPE_FIRST 0 /* 17 */
+#define NIRANBOK_SLOT_ALLOCATION_TYPE_LAST 1
+#define NIRANBOK_FRAME_TYPE_PLAIN_FIRST 1 /* 8, and 17 above 15 */
+#define NIRANBOK_FRAME_TYPE_PLAIN_LAST 1
+#define NIRANBOK_FRAME_TYPE_EXTENDED_FIRST 1 /* 8, and 17 above 15 */
+#define NIRANBOK_FRAME_TYPE_EXTENDED_LAST 2
+#define NIRANBOK_AVAILABILITY_FIRST 0 /* 17 */
+#define NIRANBOK_AVAILABILITY_LAST 32767
+#define NIRANBOK_TS_ID_FIRST 0
+#define NIRANBOK_TS_ID_LAST 65535
+#define NIRANBOK_ORIGINAL_NETWORK_ID_FIRST 0
+#define NIRANBOK_ORIGINAL_NETWORK_ID_LAST 65535
+#define NIRANBOK_RECEIVE_STATUS_FIRST 0 /* 17 */
+#define NIRANBOK_RECEIVE_STATUS_LAST 3
+#define NIRANBOK_EMERGENCY_INDICATOR_FIRST 0 /* 17 */
+#define NIRANBOK_EMERGENCY_INDICATOR_LAST 1
+#define NIRANBOK_RELATIVE_TS_NUMBER_FIRST 0 /* 17 */
+#define NIRANBOK_RELATIVE_TS_NUMBER_LAST 15
+#define NIRANBOK_PRIVATE_DATA_FIRST 0
+#define NIRANBOK_PRIVATE_DATA_LAST 255
+#define NIRANBOK_AUXILIARY_FIRST 0
+#define NIRANBOK_AUXILIARY_LAST 255
+#define NIRANBOK_GROUP_ID_FIRST 0
+#define NIRANBOK_GROUP_ID_LAST 255
+#define NIRANBOK_NUMBER_OF_CARRIERS_FIRST 1 /* 11 */
+#define NIRANBOK_NUMBER_OF_CARRIERS_LAST 8
+#define NIRANBOK_CARRIER_SEQUENCE_FIRST 1 /* 11 */
+#define NIRANBOK_CARRIER_SEQUENCE_LAST 8
+#define NIRANBOK_NUMBER_OF_FRAMES_FIRST 3 /* 11 */
+#define NIRANBOK_NUMBER_OF_FRAMES_LAST 4
+#define NIRANBOK_FRAME_POSITION_FIRST 1 /* 11 */
+#define NIRANBOK_FRAME_POSITION_LAST 4
+#define NIRANBOK_SLOT_FIRST 1 /* the slots of a plan */
+#define NIRANBOK_SLOT_LAST 52
+#define NIRANBOK_STREAM_FIRST 1 /* 17; the stream of put and hand out */
+#define NIRANBOK_STREAM_LAST 15
+#define NIRANBOK_CARRIERS_FIRST 1 /* 17; the carriers of spread and gather */
+#define NIRANBOK_CARRIERS_LAST 8
+
+/* Refusals, in the order in which a call asks. */
+#define NIRANBOK_REFUSED_LENGTH 1              /* what is lent has not the fixed length; a stream is no multiple of 188, a group none of 9,964 */
+#define NIRANBOK_REFUSED_HEADER_PID 2          /* header PID outside 16 to 8,190 */
+#define NIRANBOK_REFUSED_OUT_OF_RANGE 17       /* a field, a kind, a number of a state, a stream, a carrier count out of range */
+#define NIRANBOK_REFUSED_NO_FRAME 16           /* put or close with no open frame, hand out with none ready */
+#define NIRANBOK_REFUSED_SYNC_BYTE 3           /* the first byte is not 0x47 */
+#define NIRANBOK_REFUSED_OTHER_PID 4           /* the PID is not the header PID */
+#define NIRANBOK_REFUSED_FIXED_BITS 5          /* bits 000 or 0001 differ */
+#define NIRANBOK_REFUSED_SYNC_BITS 6           /* the 13 sync bits differ */
+#define NIRANBOK_REFUSED_CRC 7                 /* the CRC is wrong */
+#define NIRANBOK_REFUSED_FRAME_TYPE 8          /* frame_type is not allowed */
+#define NIRANBOK_REFUSED_UNAVAILABLE_NUMBER 9  /* a slot has the number of an unavailable stream */
+#define NIRANBOK_REFUSED_EQUAL_IDENTIFIERS 10  /* two available streams have equal identifier pairs */
+#define NIRANBOK_REFUSED_BONDING_FIELDS 11     /* number_of_carriers, carrier_sequence, number_of_frames or frame_position */
+#define NIRANBOK_REFUSED_GROUP 14              /* the headers of a group do not stand as they should, or frames are missing */
+#define NIRANBOK_REFUSED_UNAVAILABLE_STREAM 13 /* put for an unavailable stream; no header of a group carries the pair */
+#define NIRANBOK_REFUSED_ROOM 15               /* a buffer is too short; a spread stream is not as long as its slots */
+#define NIRANBOK_REFUSED_UNFIT_PACKET 12       /* a packet to be placed lacks 0x47 or bears the header PID */
+
 /* A composer's state, for who keeps one: header PID (2 bytes), kind, counter and version of the last
  * closed header (15 and 7 before the first), what that header announced (slot_allocation_type,
  * frame_type, 2 bytes of availability, 30 of TS_id, 30 of original_network_id, 15 of receive_status,
@@ -79,26 +146,6 @@ extern "C" {
 
 /* The CRC register of H.222.0 that the bytes leave, 0 behind a header's own CRC (bytes 4 to 187). */
 uint32_t niranbok_crc(const uint8_t *bytes, size_t length);
-
-/* Whether a number is a header PID. */
-bool niranbok_pid_allowed(uint16_t pid);
-
-/* Whether a number is a slot, a relative number, a frame position: 0, or 17. */
-uint8_t niranbok_slot(uint8_t n);
-uint8_t niranbok_relative_number(uint8_t n);
-uint8_t niranbok_frame_position(uint8_t n);
-
-/* Whether stream r is available by an availability; how many of the fifteen are. */
-bool niranbok_is_available(uint8_t r, uint16_t availability);
-uint32_t niranbok_count_available(uint16_t availability);
-
-/* Writes a setting of zeros into the lent 252 bytes. Refuses 1. */
-uint8_t niranbok_setting_blank(uint8_t *setting, size_t setting_length);
-
-/* Whether every field of a setting fits its bits (refuses 1, 17), and whether it obeys the rules of a
- * header of this kind (refuses 1, 17 for the kind alone, 8, 9, 10, 11). Writes nothing. */
-uint8_t niranbok_setting_widths(const uint8_t *setting, size_t setting_length, uint8_t kind);
-uint8_t niranbok_setting_rules(const uint8_t *setting, size_t setting_length, uint8_t kind);
 
 /* Writes the setting's header into the lent 188 bytes. Refuses 1, 2, 17, 8, 9, 10, 11. */
 uint8_t niranbok_header_write(uint8_t *packet, size_t packet_length, uint16_t pid, uint8_t kind,

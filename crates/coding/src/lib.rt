@@ -25,23 +25,23 @@ pub const ANNOUNCED_BYTES: usize = 80;
 pub const SETTING_BYTES: usize = 252;
 
 // Where the parts of what is announced start, and those of a setting.
-const TS_ID: usize = 4;
+pub const TS_ID: usize = 4;
 
-const ORIGINAL_NETWORK_ID: usize = TS_ID + 2 * STREAMS;
+pub const ORIGINAL_NETWORK_ID: usize = TS_ID + 2 * STREAMS;
 
-const RECEIVE_STATUS: usize = ORIGINAL_NETWORK_ID + 2 * STREAMS;
+pub const RECEIVE_STATUS: usize = ORIGINAL_NETWORK_ID + 2 * STREAMS;
 
-const EMERGENCY: usize = RECEIVE_STATUS + STREAMS;
+pub const EMERGENCY: usize = RECEIVE_STATUS + STREAMS;
 
-const ANNOUNCED: usize = 2;
+pub const ANNOUNCED: usize = 2;
 
-const NUMBERS: usize = ANNOUNCED + ANNOUNCED_BYTES;
+pub const NUMBERS: usize = ANNOUNCED + ANNOUNCED_BYTES;
 
-const PRIVATE: usize = NUMBERS + SLOTS;
+pub const PRIVATE: usize = NUMBERS + SLOTS;
 
-const AUXILIARY: usize = PRIVATE + PRIVATE_BYTES;
+pub const AUXILIARY: usize = PRIVATE + PRIVATE_BYTES;
 
-const BONDING: usize = AUXILIARY + AUXILIARY_BYTES;
+pub const BONDING: usize = AUXILIARY + AUXILIARY_BYTES;
 
 // A number of 16 bits from its two bytes.
 pub fn word(high: u8, low: u8) -> u16

@@ -1,0 +1,28 @@
+#!/bin/sh
+# Holds the constants of include/niranbok.h to what the program `limits` prints: each line of it becomes
+# an assertion that the C compiler checks, and each range, refusal, length and place of the header must
+# have such a line.
+#   compare/limits.sh LIMITS
+set -e
+cd "$(dirname "$0")/.."
+work=$(mktemp -d)
+trap 'rm -rf "$work"' EXIT
+"$1" >"$work/limits"
+awk -F '\t' '
+    function same(name, n) { print "_Static_assert(NIRANBOK_" toupper(name) " == " n ", \"" name "\");" }
+    BEGIN { print "#include \"niranbok.h\"" }
+    $1 == "field" && NF == 5 { same($2 "_FIRST", $3); same($2 "_LAST", $4); next }
+    $1 == "refusal" && NF == 3 { same("REFUSED_" $3, $2); next }
+    $1 == "length" && NF == 3 { same($2 "_BYTES", $3); next }
+    $1 == "place" && NF == 4 { same($2, $3); next }
+    { print "#error a line of limits that is none: " $0 }
+' "$work/limits" >"$work/limits.c"
+cc -std=c11 -Wall -Wextra -Werror -Iinclude -fsyntax-only "$work/limits.c"
+# kinds and events are the interface's own and have no line
+grep -o '^#define NIRANBOK_[A-Z_]* [0-9]' include/niranbok.h | awk '{ print $2 }' |
+    grep -v -x -e 'NIRANBOK_PLAIN' -e 'NIRANBOK_EXTENDED' -e 'NIRANBOK_NOTHING' -e 'NIRANBOK_OPENED' -e 'NIRANBOK_STORED' \
+        -e 'NIRANBOK_READY' -e 'NIRANBOK_SHORT' -e 'NIRANBOK_JUMP' -e 'NIRANBOK_LONG' -e 'NIRANBOK_BROKEN' |
+    while read -r name; do
+        grep -q "($name ==" "$work/limits.c" || { echo "limits prints nothing for $name"; exit 1; }
+    done
+echo "niranbok.h: $(grep -c _Static_assert "$work/limits.c") constants are as limits prints them"
