@@ -1,21 +1,20 @@
+-- `niranbok_gather` meets its contract. Assumes nothing.
+use mathlib.Core.Path.{ap}
+use Rattle.bond.specs.declared.Moved.{Moved}
 use borrow.Author.Needs.{needs}
 use Rattle.board_bond.proofs.niranbok_gather.Statement.{statement}
 use Rattle.board_bond.proofs.niranbok_gather.Tie as tie
-use Rattle.board_bond.proofs.niranbok_gather.Reads as reads
-use Rattle.board_bond.proofs.niranbok_gather.Lts as lts
-use Rattle.bond.proofs.gather.Reads as gather-reads
 
--- src/lib.rt:87:9
 gather-requires : tie.Need-gather-requires
 gather-requires c κs = search needs
 
--- src/lib.rt:73:1
 same-length : tie.Need-same-length
 same-length c = search needs
 
--- src/lib.rt:73:1
 returns : tie.Need-returns
-returns c = ?
+returns c =
+    let moved = c .before .before .gather .ensures in
+    (ap (λ (m : Moved). m .refusal) (moved .0), (ap (λ (m : Moved). m .packets) (moved .0), moved .1))
 
 pub niranbok-gather-spec : {M : Type 1} → statement M
 niranbok-gather-spec = tie.close (tie.spec gather-requires same-length returns)
