@@ -1,0 +1,49 @@
+-- Decoding what was encoded gives the value back. Assumes nothing.
+use Prim.Native.Nat.{ℕ}
+use mathlib.Core.Path.{_≡_, refl}
+use mathlib.Core.Bool.{true}
+use mathlib.Core.List.{[], _∷_}
+use native.Mathlib.Omega.{arith}
+use lib.Seq.{take-at, drop-at, take-all}
+use Rattle.setting.specs.declared.Kind.{Kind}
+use Rattle.coding.specs.Words.{wordBytes, wordAt}
+use Rattle.coding.specs.Kinds.{isKind, kindOf, kindNumber}
+use Rattle.receiver.specs.declared.table.Stage.{Stage}
+use Rattle.board_receiver.specs.States.{stageBytes, stageOf, receiverBytes, receiverOf}
+use Rattle.board_receiver.specs.Demands.{StateBack}
+
+kind-back : (kind : Kind) → (kindOf (kindNumber kind) ≡ kind) × (isKind (kindNumber kind) ≡ true)
+unfolding kindOf kindNumber
+kind-back Kind.Plain = (refl, refl)
+kind-back Kind.Extended = (refl, refl)
+
+-- a stage's three bytes, and the stage back from them
+record Coded (stage : Stage) : Type 0 where
+  tag : ℕ
+  from : ℕ
+  k : ℕ
+  bytes : stageBytes stage ≡ tag ∷ from ∷ k ∷ []
+  back : stageOf tag from k ≡ stage
+
+coded : (stage : Stage) → Coded stage
+unfolding stageBytes stageOf
+coded Stage.Waiting = record { tag = 0; from = 0; k = 0; bytes = refl; back = refl }
+coded (Stage.Open from k) = record { tag = 1; from = from; k = k; bytes = refl; back = refl }
+coded (Stage.Ready from) = record { tag = 2; from = from; k = 0; bytes = refl; back = refl }
+
+pub receiver-back : StateBack
+unfolding receiverOf receiverBytes wordBytes
+receiver-back c h =
+    let s = coded (c .stage) in
+    let pid : wordAt 0 (wordBytes (c .pid ∷ [])) ≡ c .pid = omega arith in
+    rw (
+      s .bytes,
+      pid,
+      kind-back (c .kind) .0,
+      kind-back (c .kind) .1,
+      s .back,
+      take-at (c .numbers) (c .before) 52 (h .numbers .0),
+      drop-at (c .numbers) (c .before) 52 (h .numbers .0),
+      take-all 52 (c .before) (omega (arith, h .before .0)),
+    )
+    refl

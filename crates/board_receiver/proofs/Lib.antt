@@ -1,0 +1,4 @@
+mod Answers
+pub mod Coding
+mod Parts
+pub mod Uncoded

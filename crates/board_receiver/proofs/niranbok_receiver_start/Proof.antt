@@ -1,0 +1,74 @@
+-- `niranbok_receiver_start` meets its contract, check by check. Assumes nothing.
+use mathlib.Core.Path.{_≡_, sym, ap, _∙_}
+use mathlib.Core.Bool.{true}
+use borrow.Author.Needs.{needs}
+use borrow.Author.Tests.{not-true, not-false}
+use Rattle.setting.specs.declared.Kind.{Kind}
+use Rattle.setting.specs.Rules.{pidAllowed}
+use Rattle.receiver.specs.Receiving.{startReceiverOf}
+use Rattle.board_receiver.proofs.Answers.{start-no-state, start-no-pid, start-no-kind, starts}
+use Rattle.board_receiver.proofs.niranbok_receiver_start.Statement.{statement}
+use Rattle.board_receiver.proofs.niranbok_receiver_start.Tie as tie
+
+-- from the place behind the PID's check to the start
+abbrev start : tie.Else2 → tie.Start
+start c = c .before .before .before .before
+
+allowed : (c : tie.Else2) → pidAllowed (start c .args .pid) ≡ true
+allowed c = sym (c .before .pid-allowed .ensures) ∙ not-false _ (c .if2 .left)
+
+returns : tie.Need-returns
+returns c =
+    let a = c .before .before .args in
+    start-no-state (a .state .now) (a .pid) (a .kind) (c .if1 .taken)
+
+pid-allowed-requires : tie.Need-pid-allowed-requires
+pid-allowed-requires c κs = search needs
+
+returns-2 : tie.Need-returns-2
+returns-2 c =
+    let a = c .before .before .before .before .args in
+    start-no-pid (a .state .now) (a .pid) (a .kind) (c .before .before .if1 .left) (sym (c .before .pid-allowed .ensures) ∙ not-true _ (c .if2 .taken))
+
+returns-3 : tie.Need-returns-3
+returns-3 c =
+    let k = c .before in
+    let a = start k .args in
+    start-no-kind (a .state .now) (a .pid) (a .kind) (k .before .before .if1 .left) (allowed k) (c .if3 .taken)
+
+kind-of-requires : tie.Need-kind-of-requires
+kind-of-requires c κs = search needs
+
+start-requires : tie.Need-start-requires
+start-requires c κs = search needs
+
+write-receiver-requires : tie.Need-write-receiver-requires
+write-receiver-requires c κs = search needs
+
+same-length : tie.Need-same-length
+same-length c = search needs
+
+returns-4 : tie.Need-returns-4
+returns-4 c =
+    let written = c .before .before in
+    let started = written .before .before in
+    let kind = started .before in
+    let k = kind .before .before in
+    let a = start k .args in
+    starts (a .state .now) (a .pid) (a .kind) (k .before .before .if1 .left) (allowed k) (kind .before .if3 .left)
+    (started .start .result) (started .start .ensures ∙ ap (λ (t : Kind). startReceiverOf t (a .pid)) (kind .kind-of .ensures))
+    (written .write-receiver .last .0) (written .write-receiver .ensures)
+
+pub niranbok-receiver-start-spec : {M : Type 1} → statement M
+niranbok-receiver-start-spec =
+    tie.close
+    (tie.spec
+    returns
+    pid-allowed-requires
+    returns-2
+    returns-3
+    kind-of-requires
+    start-requires
+    write-receiver-requires
+    same-length
+    returns-4)

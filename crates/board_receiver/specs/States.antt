@@ -1,0 +1,72 @@
+-- A receiver's state as bytes, and what bytes say as a state.
+use Prim.Native.Nat.{ℕ, _^_, _<_}
+use mathlib.Core.Bool.{Bool, cond, not, _&&_, _||_}
+use mathlib.Core.List.{List, [], _∷_, _++_}
+use lib.Dec.{leb, eqb}
+use lib.ListN.{getD, take, drop}
+use Rattle.coding.specs.Words.{wordBytes, wordAt}
+use Rattle.coding.specs.Kinds.{isKind, kindOf, kindNumber}
+use Rattle.setting.specs.Counters.{lastSlot}
+use Rattle.setting.specs.Setting.{Array}
+use Rattle.receiver.specs.declared.table.Stage.{Stage}
+use Rattle.receiver.specs.declared.table.Event.{Event}
+use Rattle.receiver.specs.declared.Receiver.{Receiver}
+
+abbrev pub receiverLength : ℕ
+receiverLength = 110
+
+-- where a receiver stands: 0 waiting, 1 open, 2 ready; the open frame's counter; how many packets of it are stored
+unfoldable pub stageBytes : Stage → List ℕ
+stageBytes Stage.Waiting = 0 ∷ 0 ∷ 0 ∷ []
+stageBytes (Stage.Open from k) = 1 ∷ from ∷ k ∷ []
+stageBytes (Stage.Ready from) = 2 ∷ from ∷ 0 ∷ []
+
+-- a stage that every call refuses with 17, since no header has this counter: what bytes say that are no stage's
+abbrev pub noStage : Stage
+noStage = Stage.Open 255 0
+
+unfoldable pub stageOf : ℕ → ℕ → ℕ → Stage
+stageOf tag from k =
+    cond (eqb tag 0 && (eqb from 0 && eqb k 0)) Stage.Waiting
+    (cond (eqb tag 1) (Stage.Open from k)
+    (cond (eqb tag 2 && eqb k 0) (Stage.Ready from) noStage))
+
+-- PID, kind, stage, the slots' numbers by the open frame's header and by the one before
+unfoldable pub receiverBytes : Receiver → List ℕ
+receiverBytes c =
+    (wordBytes (c .pid ∷ []) ++ (kindNumber (c .kind) ∷ [])) ++ (stageBytes (c .stage) ++ (c .numbers ++ c .before))
+
+unfoldable pub receiverOf : List ℕ → Receiver
+receiverOf b =
+    record {
+      pid = wordAt 0 b;
+      kind = kindOf (getD b 2 0);
+      stage = cond (isKind (getD b 2 0)) (stageOf (getD b 3 0) (getD b 4 0) (getD b 5 0)) noStage;
+      numbers = take 52 (drop 6 b);
+      before = take 52 (drop 58 b);
+    }
+
+-- what the code's types say of a receiver
+pub record OfItsTypes (c : Receiver) : Type 0 where
+  pub pid : c .pid < 2 ^ 16
+  pub numbers : Array lastSlot 8 (c .numbers)
+  pub before : Array lastSlot 8 (c .before)
+
+-- whether three bytes are a stage's: 0 to 2; waiting has no counter and nothing stored; ready has nothing stored
+abbrev pub isStage : ℕ → ℕ → ℕ → Bool
+isStage tag from k = leb tag 2 && ((not (eqb tag 0) || (eqb from 0 && eqb k 0)) && (not (eqb tag 2) || eqb k 0))
+
+-- whether bytes code a state: their kind is one, and their stage is one
+unfoldable pub isCoded : List ℕ → Bool
+isCoded b = isKind (getD b 2 0) && isStage (getD b 3 0) (getD b 4 0) (getD b 5 0)
+
+-- what a packet did, as a number
+unfoldable pub eventNumber : Event → ℕ
+eventNumber Event.Nothing = 0
+eventNumber Event.Opened = 1
+eventNumber Event.Stored = 2
+eventNumber Event.Ready = 3
+eventNumber Event.Short = 4
+eventNumber Event.Jump = 5
+eventNumber Event.Long = 6
+eventNumber Event.Broken = 7

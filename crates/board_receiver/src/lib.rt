@@ -1,0 +1,80 @@
+// The receiver for callers in other languages: its state is lent bytes, and each call is the receiver's own under their coding.
+mod states;
+
+use receiver::Receiver;
+use setting::counters::RelativeNumber;
+use setting::rules;
+use states::RECEIVER_BYTES;
+ghost use mathlib.Core.Path.{_≡_};
+ghost use Rattle.board_receiver.specs.Calls.{startRefused, startState, receiveRefused, receiveEvent, receiveState, receiveMemory, handOutRefused, handOutPackets, handOutMemory};
+
+// Starts a receiver: writes its state.
+#[no_mangle]
+pub extern "C" fn niranbok_receiver_start(state: &mut [u8], pid: u16, kind: u8) -> u8
+    ensures { λ r. ⌜ r ≡ startRefused (now (state .entry)) pid kind ⌝ }
+    ensures { λ _. ⌜ now (state .exit) ≡ startState (now (state .entry)) pid kind ⌝ }
+{
+    if state.len() != RECEIVER_BYTES {
+        return 1;
+    }
+    if !rules::pid_allowed(pid) {
+        return 2;
+    }
+    if 1 < kind {
+        return 17;
+    }
+    let started = Receiver::start(pid, coding::kind_of(kind));
+    states::write_receiver(state, started.state);
+    0
+}
+
+// Takes one packet.
+#[no_mangle]
+pub extern "C" fn niranbok_receiver_receive(
+    state: &mut [u8],
+    packet: &[u8],
+    store: &mut [u8],
+    event: &mut u8,
+) -> u8
+    ensures { λ r. ⌜ r ≡ receiveRefused (now (state .entry)) (now (packet .entry)) (now (store .entry)) ⌝ }
+    ensures { λ _. ⌜ now (event .exit) ≡ receiveEvent (now (state .entry)) (now (packet .entry)) (now (store .entry)) ⌝ }
+    ensures { λ _. ⌜ now (state .exit) ≡ receiveState (now (state .entry)) (now (packet .entry)) (now (store .entry)) ⌝ }
+    ensures { λ _. ⌜ now (store .exit) ≡ receiveMemory (now (state .entry)) (now (packet .entry)) (now (store .entry)) ⌝ }
+{
+    if state.len() != RECEIVER_BYTES {
+        *event = 0;
+        return 1;
+    }
+    let receiver = states::receiver_of(state);
+    let received = receiver.receive(packet, store);
+    let did = received.event;
+    *event = states::event_number(did);
+    if received.refusal != 0 {
+        return received.refusal;
+    }
+    states::write_receiver(state, received.state);
+    0
+}
+
+// Copies the ready frame's packets with number r to the front of `out`.
+#[no_mangle]
+pub extern "C" fn niranbok_receiver_hand_out(
+    state: &[u8],
+    store: &[u8],
+    out: &mut [u8],
+    r: u8,
+    packets: &mut usize,
+) -> u8
+    ensures { λ t. ⌜ t ≡ handOutRefused (now (state .entry)) r (now (store .entry)) (now (out .entry)) ⌝ }
+    ensures { λ _. ⌜ now (packets .exit) ≡ handOutPackets (now (state .entry)) r (now (store .entry)) (now (out .entry)) ⌝ }
+    ensures { λ _. ⌜ now (out .exit) ≡ handOutMemory (now (state .entry)) r (now (store .entry)) (now (out .entry)) ⌝ }
+{
+    if state.len() != RECEIVER_BYTES {
+        *packets = 0;
+        return 1;
+    }
+    let receiver = states::receiver_of(state);
+    let handed = receiver.hand_out(store, out, RelativeNumber(r));
+    *packets = handed.packets;
+    handed.refusal
+}
