@@ -6,18 +6,17 @@ use std::path::{Path, PathBuf};
 const ARCHIVE: &str = "libniranbok.a";
 
 fn main() {
-    println!("cargo:rerun-if-env-changed=NIRANBOK_LIB");
+    println!("cargo::rerun-if-env-changed=NIRANBOK_LIB");
     let folder = folder();
     let archive = folder.join(ARCHIVE);
+    println!("cargo::rerun-if-changed={}", archive.display());
     if !archive.is_file() {
-        panic!(
-            "there is no {}: name its folder in NIRANBOK_LIB",
-            archive.display()
-        );
+        let archive = archive.display();
+        println!("cargo::error=there is no {archive}: name its folder in NIRANBOK_LIB");
+        return;
     }
-    println!("cargo:rerun-if-changed={}", archive.display());
-    println!("cargo:rustc-link-search=native={}", folder.display());
-    println!("cargo:rustc-link-lib=static=niranbok");
+    println!("cargo::rustc-link-search=native={}", folder.display());
+    println!("cargo::rustc-link-lib=static=niranbok");
 }
 
 fn folder() -> PathBuf {

@@ -1,8 +1,7 @@
 //! The rows of bonding: all slots of a group are the stream's.
 
 use super::inputs::{group, stream};
-use super::measure::{measure, Row};
-use super::rows::copy;
+use super::measure::{copy, measure, Row};
 use crate::archive;
 use reference::{gather, spread, PACKET_BYTES, SLOTS};
 use std::hint::black_box;

@@ -4,6 +4,8 @@
 use reference::{Asked, Kind, Setting, FRAME_BYTES, PACKET_BYTES, SLOTS, STREAMS};
 
 pub const PID: u16 = 0x1FF0;
+/// The kind, as the archive is told it.
+pub const PLAIN: u8 = 0;
 const NETWORK: u16 = 0x0020;
 const FIRST_TS_ID: u16 = 0x4000;
 

@@ -1,6 +1,7 @@
 //! Measuring: the best of many rounds, in each of which all sides take their
 //! turn, so that what else the machine does hits all alike.
 
+use std::hint::black_box;
 use std::time::{Duration, Instant};
 
 const ROUNDS: usize = 30;
@@ -69,4 +70,10 @@ fn times_in_a_turn(work: &mut impl FnMut()) -> u32 {
         times *= 2;
     }
     times
+}
+
+/// Copies all bytes, as fast as it goes.
+pub fn copy(from: &[u8], to: &mut [u8]) {
+    black_box(&mut *to).copy_from_slice(black_box(from));
+    black_box(to);
 }

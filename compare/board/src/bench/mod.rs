@@ -1,10 +1,11 @@
 //! The benchmark: what each side needs for the same work, and a plain copy of
 //! the same bytes.
 
+mod frames;
 mod groups;
+mod headers;
 mod inputs;
 mod measure;
-mod rows;
 mod table;
 
 use measure::Row;
@@ -27,11 +28,11 @@ pub fn rows() -> Vec<Row> {
 
 fn pass() -> Vec<Row> {
     let mut rows = vec![
-        rows::crc(),
-        rows::write(),
-        rows::read(),
-        rows::compose(),
-        rows::receive(),
+        headers::crc(),
+        headers::write(),
+        headers::read(),
+        frames::compose(),
+        frames::receive(),
     ];
     for (name, frames) in [("3 + 4 frames", &[3, 4][..]), ("8 x 4 frames", &[4; 8])] {
         rows.extend(groups::spread_and_gather(name, frames));

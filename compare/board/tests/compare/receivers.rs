@@ -99,7 +99,7 @@ impl Run {
     /// Hand out at any time, lengths that are wrong, and changed states.
     fn odd_calls(&mut self, judge: &mut Judge, random: &mut Random, packet: &[u8]) {
         let mut out = Lent::new(&random.bytes(2 * PACKET_BYTES));
-        let r = 1 + random.byte_below(15);
+        let r = random.byte_below(17);
         self.hand_out(judge, &mut out, r);
         let packet_length = length(random, PACKET_BYTES);
         let store_length = length(random, STORE_BYTES);

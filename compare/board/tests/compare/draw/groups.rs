@@ -11,10 +11,10 @@ pub struct Group {
     pub asked: Asked,
 }
 
-/// One to eight carriers of three or four frames, mostly few. Once in a while
-/// no header carries the stream.
+/// One to eight carriers of three frames, of four, or of both, mostly few. Once
+/// in a while no header carries the stream.
 pub fn group(random: &mut Random) -> Group {
-    let carriers = random.of(&[1, 1, 2, 2, 2, 3, 3, 4, 6, 8]);
+    let carriers = random.of(&[1, 1, 2, 2, 2, 3, 4, 5, 7, 8]);
     let asked = Asked {
         carriers,
         pid: pid(random),
@@ -22,10 +22,11 @@ pub fn group(random: &mut Random) -> Group {
         original_network_id: random.sixteen(),
     };
     let often = random.of(&[0, 2, 3, 3, 4, 4, 4, 4]);
+    let frames = random.of(&[[3, 3], [4, 4], [3, 4], [3, 4]]);
     let group_id = random.byte();
     let mut bytes = Vec::new();
     for carrier_sequence in 1..=carriers {
-        let number_of_frames = 3 + random.byte_below(2);
+        let number_of_frames = random.of(&frames);
         for frame_position in 1..=number_of_frames {
             let mut setting = good(random, Kind::Extended);
             setting.group_id = group_id;
@@ -35,6 +36,9 @@ pub fn group(random: &mut Random) -> Group {
             setting.frame_position = frame_position;
             if random.below(4) < often {
                 carry(random, &mut setting, &asked);
+            }
+            if random.one_in(3) {
+                name_unavailable(random, &mut setting, &asked);
             }
             bytes.extend(frame(random, &setting, asked.pid));
         }
@@ -53,6 +57,15 @@ fn carry(random: &mut Random, setting: &mut Setting, asked: &Asked) {
         if random.below(8) < share || usize::from(*number) == r {
             *number = r as u8;
         }
+    }
+}
+
+/// An unavailable stream, if this one is, has the identifiers as well.
+fn name_unavailable(random: &mut Random, setting: &mut Setting, asked: &Asked) {
+    let r = random.between(1, 15);
+    if !setting.is_available(r) {
+        setting.ts_id[r - 1] = asked.ts_id;
+        setting.original_network_id[r - 1] = asked.original_network_id;
     }
 }
 
