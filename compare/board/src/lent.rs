@@ -44,13 +44,6 @@ impl Lent {
         }
     }
 
-    /// Lends these bytes from now on, as many as before.
-    pub fn set(&mut self, bytes: &[u8]) {
-        self.archives().copy_from_slice(bytes);
-        self.ours.copy_from_slice(bytes);
-        self.before.copy_from_slice(bytes);
-    }
-
     /// Changes lent bytes between two calls.
     pub fn change(&mut self, change: impl Fn(&mut [u8])) {
         change(self.archives());
