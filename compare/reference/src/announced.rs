@@ -29,6 +29,7 @@ impl Announced {
         emergency_indicator: 0,
     };
 
+    #[inline]
     pub fn of(setting: &Setting) -> Announced {
         Announced {
             slot_allocation_type: setting.slot_allocation_type,
@@ -39,5 +40,15 @@ impl Announced {
             receive_status: setting.receive_status,
             emergency_indicator: setting.emergency_indicator,
         }
+    }
+
+    /// Becomes the setting's, and answers whether it differed.
+    pub(crate) fn renew(&mut self, setting: &Setting) -> bool {
+        let announced = Announced::of(setting);
+        let differed = *self != announced;
+        if differed {
+            *self = announced;
+        }
+        differed
     }
 }

@@ -1,9 +1,10 @@
 //! TSMF header, composer, receiver and bonding of ITU-T J.183, plain and
 //! extended, written from the documents alone, so that another implementation
-//! can be compared with them.
+//! can be compared with them. Nothing is allocated but the lister's text.
+
+#![forbid(unsafe_code)]
 
 mod announced;
-mod bits;
 mod bond;
 mod composer;
 mod crc;
@@ -17,7 +18,7 @@ mod setting;
 mod write;
 
 pub use announced::Announced;
-pub use bond::{gather, spread, Asked};
+pub use bond::{gather, read_headers, spread, Asked, Carried};
 pub use composer::{Composer, OpenFrame, Put};
 pub use crc::crc32;
 pub use layout::{
@@ -25,8 +26,9 @@ pub use layout::{
     STREAMS,
 };
 pub use list::list;
-pub use packet::null_packet;
+pub use packet::{fits_a_slot, null_packet};
 pub use read::read;
 pub use receiver::{Event, Receiver, Standing};
+pub use rules::{content, fields_fit, header_pid};
 pub use setting::{Kind, Setting};
 pub use write::write;

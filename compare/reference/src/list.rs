@@ -3,28 +3,34 @@
 use crate::layout::{LISTER_PID, PACKET_BYTES};
 use crate::read::read;
 use crate::setting::Kind;
+use std::fmt::{Result, Write};
 
 pub fn list(input: &[u8]) -> String {
-    let packets = input.chunks_exact(PACKET_BYTES);
-    let tail = packets.remainder().len();
     let mut lines = String::new();
-    for (number, packet) in packets.enumerate() {
-        lines += &line(number, packet);
-    }
-    if tail > 0 {
-        lines += &format!("tail {tail}\n");
-    }
+    write_lines(&mut lines, input).expect("a text takes every line");
     lines
 }
 
-fn line(number: usize, packet: &[u8]) -> String {
+fn write_lines(lines: &mut String, input: &[u8]) -> Result {
+    let (packets, tail) = input.as_chunks::<PACKET_BYTES>();
+    for (number, packet) in packets.iter().enumerate() {
+        write_line(lines, number, packet)?;
+    }
+    if !tail.is_empty() {
+        writeln!(lines, "tail {}", tail.len())?;
+    }
+    Ok(())
+}
+
+fn write_line(lines: &mut String, number: usize, packet: &[u8]) -> Result {
     match read(packet, LISTER_PID, Kind::Plain) {
-        Ok(setting) => format!(
-            "{number} header {} {} {}\n",
+        Ok(setting) => writeln!(
+            lines,
+            "{number} header {} {} {}",
             setting.continuity_counter,
             setting.version_number,
             setting.available_streams()
         ),
-        Err(refusal) => format!("{number} refused {refusal}\n"),
+        Err(refusal) => writeln!(lines, "{number} refused {refusal}"),
     }
 }

@@ -1,21 +1,21 @@
 //! The header reader.
 
-use crate::bits::BitReader;
 use crate::crc::crc32;
 use crate::layout::{
-    BEFORE_COUNTER, BEFORE_PID, PACKET_HEADER_BYTES, STREAMS, SYNC_BYTE, TSMF_SYNC,
+    AUXILIARY, BEFORE_COUNTER, BONDING, CONTROL, IDENTIFIERS, PACKET_BYTES, PRIVATE_DATA,
+    SLOT_NUMBERS, STREAMS, SYNC_BYTE, THIRTEEN_BITS, TSMF_SYNC, UNDER_CRC,
 };
-use crate::rules::{content, length_and_pid, Checked};
+use crate::packet::{found_pid, sixteen};
+use crate::rules::{content, header_pid, unless, Checked};
 use crate::setting::{Kind, Setting};
 
 /// The setting of a good header, or the refusal.
 pub fn read(packet: &[u8], pid: u16, kind: Kind) -> Result<Setting, u8> {
-    length_and_pid(packet.len(), pid)?;
+    let packet = packet.try_into().map_err(|_| 1)?;
+    header_pid(pid)?;
     fixed_bits(packet, pid)?;
     // Behind its own CRC the register is zero.
-    if crc32(&packet[PACKET_HEADER_BYTES..]) != 0 {
-        return Err(7);
-    }
+    unless(crc32(&packet[UNDER_CRC.start..]) == 0, 7)?;
     let setting = fields(packet, kind);
     content(kind, &setting)?;
     Ok(setting)
@@ -23,63 +23,61 @@ pub fn read(packet: &[u8], pid: u16, kind: Kind) -> Result<Setting, u8> {
 
 /// 3 to 6. The order is the table's, not that of the bits: the three bits in
 /// front of the PID are looked at behind it.
-fn fixed_bits(packet: &[u8], pid: u16) -> Checked {
-    let mut bits = BitReader::new(packet);
-    let sync_byte = bits.take(8);
-    let before_pid = bits.take(3);
-    let found_pid = bits.take_u16(13);
-    let before_counter = bits.take(4);
-    bits.take(4 + 3);
-    let tsmf_sync = bits.take(13);
-    if sync_byte != SYNC_BYTE {
-        Err(3)
-    } else if found_pid != pid {
-        Err(4)
-    } else if before_pid != BEFORE_PID || before_counter != BEFORE_COUNTER {
-        Err(5)
-    } else if tsmf_sync != TSMF_SYNC {
-        Err(6)
-    } else {
-        Ok(())
-    }
+fn fixed_bits(packet: &[u8; PACKET_BYTES], pid: u16) -> Checked {
+    unless(packet[0] == SYNC_BYTE, 3)?;
+    unless(found_pid(packet) == pid, 4)?;
+    unless(packet[1] >> 5 == 0 && packet[3] & 0xF0 == BEFORE_COUNTER, 5)?;
+    unless(sixteen(packet, 4) & THIRTEEN_BITS == TSMF_SYNC, 6)
 }
 
-fn fields(packet: &[u8], kind: Kind) -> Setting {
-    let mut setting = Setting::ZEROS;
-    let mut bits = BitReader::new(packet);
-    bits.take(8 + 3 + 13 + 4);
-    setting.continuity_counter = bits.take_u8(4);
-    bits.take(3 + 13);
-    setting.version_number = bits.take_u8(3);
-    setting.slot_allocation_type = bits.take_u8(1);
-    setting.frame_type = bits.take_u8(4);
-    setting.availability = bits.take_u16(STREAMS);
-    bits.take(1);
-    for stream in 0..STREAMS {
-        setting.ts_id[stream] = bits.take_u16(16);
-        setting.original_network_id[stream] = bits.take_u16(16);
-    }
-    for status in &mut setting.receive_status {
-        *status = bits.take_u8(2);
-    }
-    setting.emergency_indicator = bits.take_u8(1);
-    bits.take(1);
-    for number in &mut setting.relative_ts_number {
-        *number = bits.take_u8(4);
-    }
+fn fields(packet: &[u8; PACKET_BYTES], kind: Kind) -> Setting {
+    let mut setting = Setting {
+        continuity_counter: packet[3] & 0x0F,
+        version_number: packet[6] >> 5,
+        slot_allocation_type: packet[6] >> 4 & 1,
+        frame_type: packet[6] & 0x0F,
+        availability: sixteen(packet, 7) >> 1,
+        emergency_indicator: packet[CONTROL.end - 1] >> 1 & 1,
+        ..Setting::ZEROS
+    };
+    identifiers(&packet[IDENTIFIERS], &mut setting);
+    receive_status(&packet[CONTROL], &mut setting);
+    slot_numbers(&packet[SLOT_NUMBERS], &mut setting);
     match kind {
-        Kind::Plain => bits.take_bytes(&mut setting.private_data),
-        Kind::Extended => extension(&mut bits, &mut setting),
+        Kind::Plain => setting.private_data.copy_from_slice(&packet[PRIVATE_DATA]),
+        Kind::Extended => extension(packet, &mut setting),
     }
     setting
 }
 
+fn identifiers(bytes: &[u8], setting: &mut Setting) {
+    let (pairs, _) = bytes.as_chunks::<4>();
+    for (stream, &[a, b, c, d]) in pairs.iter().enumerate().take(STREAMS) {
+        setting.ts_id[stream] = u16::from_be_bytes([a, b]);
+        setting.original_network_id[stream] = u16::from_be_bytes([c, d]);
+    }
+}
+
+/// Four statuses a byte; the last two bits of all are not one.
+fn receive_status(bytes: &[u8], setting: &mut Setting) {
+    for (stream, status) in setting.receive_status.iter_mut().enumerate() {
+        *status = bytes[stream / 4] >> (6 - 2 * (stream % 4)) & 3;
+    }
+}
+
+fn slot_numbers(bytes: &[u8], setting: &mut Setting) {
+    let (twos, _) = setting.relative_ts_number.as_chunks_mut::<2>();
+    for (two, byte) in twos.iter_mut().zip(bytes) {
+        *two = [byte >> 4, byte & 0x0F];
+    }
+}
+
 /// What stands in the place of private_data; the bytes behind are reserved.
-fn extension(bits: &mut BitReader, setting: &mut Setting) {
-    bits.take_bytes(&mut setting.auxiliary);
-    setting.group_id = bits.take_u8(8);
-    setting.number_of_carriers = bits.take_u8(8);
-    setting.carrier_sequence = bits.take_u8(8);
-    setting.number_of_frames = bits.take_u8(4);
-    setting.frame_position = bits.take_u8(4);
+fn extension(packet: &[u8; PACKET_BYTES], setting: &mut Setting) {
+    setting.auxiliary.copy_from_slice(&packet[AUXILIARY]);
+    setting.group_id = packet[BONDING.start];
+    setting.number_of_carriers = packet[BONDING.start + 1];
+    setting.carrier_sequence = packet[BONDING.start + 2];
+    setting.number_of_frames = packet[BONDING.start + 3] >> 4;
+    setting.frame_position = packet[BONDING.start + 3] & 0x0F;
 }

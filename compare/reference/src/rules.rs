@@ -3,13 +3,12 @@
 //! a packet has no room for a field that is too large.
 
 use crate::announced::Announced;
-use crate::layout::{
-    FIRST_PID, LAST_CARRIER, LAST_COUNTER, LAST_PID, LAST_VERSION, PACKET_BYTES, STREAMS,
-};
+use crate::layout::{FIRST_PID, LAST_CARRIER, LAST_COUNTER, LAST_PID, LAST_VERSION, STREAMS};
 use crate::setting::{Kind, Setting};
 
 pub type Checked = Result<(), u8>;
 
+#[inline]
 pub fn unless(met: bool, refusal: u8) -> Checked {
     if met {
         Ok(())
@@ -18,30 +17,41 @@ pub fn unless(met: bool, refusal: u8) -> Checked {
     }
 }
 
+/// Of two settings' answers the one that stands first in the table, both
+/// being 8 to 11.
+#[inline]
+pub fn earlier(one: Checked, other: Checked) -> Checked {
+    match (one, other) {
+        (Err(one), Err(other)) => Err(one.min(other)),
+        (one, other) => one.and(other),
+    }
+}
+
+#[inline]
 pub fn fixed_length(length: usize, fixed: usize) -> Checked {
     unless(length == fixed, 1)
 }
 
+/// 2
+#[inline]
 pub fn header_pid(pid: u16) -> Checked {
     unless((FIRST_PID..=LAST_PID).contains(&pid), 2)
 }
 
-pub fn length_and_pid(length: usize, pid: u16) -> Checked {
-    fixed_length(length, PACKET_BYTES)?;
-    header_pid(pid)
-}
-
 /// 17: the number of a stream, which 0 is not.
+#[inline]
 pub fn stream_number(number: u8) -> Checked {
     unless((1..=STREAMS).contains(&usize::from(number)), 17)
 }
 
 /// 17: a number of each slot, of which 0 is one.
+#[inline]
 pub fn slot_numbers_fit(numbers: &[u8]) -> Checked {
-    unless(numbers.iter().all(|&r| usize::from(r) <= STREAMS), 17)
+    unless(any_bit(numbers) <= STREAMS as u8, 17)
 }
 
 /// 17: counter and version, in a setting or in a state.
+#[inline]
 pub fn counts_fit(continuity_counter: u8, version_number: u8) -> Checked {
     let counter_fits = continuity_counter <= LAST_COUNTER;
     unless(counter_fits && version_number <= LAST_VERSION, 17)
@@ -52,49 +62,46 @@ pub fn fields_fit(kind: Kind, setting: &Setting) -> Checked {
     counts_fit(setting.continuity_counter, setting.version_number)?;
     announced_fits(&Announced::of(setting))?;
     slot_numbers_fit(&setting.relative_ts_number)?;
-    let lacking_are_zero = match kind {
-        Kind::Plain => extended_parts_are_zero(setting),
-        Kind::Extended => all_zero(&setting.private_data),
+    let lacking = match kind {
+        Kind::Plain => extended_parts(setting),
+        Kind::Extended => any_bit(&setting.private_data),
     };
-    unless(lacking_are_zero, 17)
+    unless(lacking == 0, 17)
 }
 
 /// 17: the part between version and slot numbers, in a setting or in a state.
+#[inline]
 pub fn announced_fits(announced: &Announced) -> Checked {
     let met = announced.slot_allocation_type < 2
         && announced.frame_type < 16
         && announced.availability < 1 << STREAMS
-        && announced.receive_status.iter().all(|&status| status < 4)
+        && any_bit(&announced.receive_status) < 4
         && announced.emergency_indicator < 2;
     unless(met, 17)
 }
 
-fn extended_parts_are_zero(setting: &Setting) -> bool {
-    all_zero(&setting.auxiliary)
-        && setting.group_id == 0
-        && setting.number_of_carriers == 0
-        && setting.carrier_sequence == 0
-        && setting.number_of_frames == 0
-        && setting.frame_position == 0
+fn extended_parts(setting: &Setting) -> u8 {
+    any_bit(&setting.auxiliary)
+        | setting.group_id
+        | setting.number_of_carriers
+        | setting.carrier_sequence
+        | setting.number_of_frames
+        | setting.frame_position
 }
 
-fn all_zero(bytes: &[u8]) -> bool {
-    bytes.iter().all(|&byte| byte == 0)
+/// The bits that one of the bytes has. Where the limit is a power of two, it
+/// is above all of them when it is above this.
+#[inline]
+fn any_bit(bytes: &[u8]) -> u8 {
+    bytes.iter().fold(0, |bits, byte| bits | byte)
 }
 
 /// 8 to 11, in the order of the table.
 pub fn content(kind: Kind, setting: &Setting) -> Checked {
-    contents(kind, &[setting])
-}
-
-/// The same for several settings: all of them are looked at under one number
-/// before any is under the next.
-pub fn contents(kind: Kind, settings: &[&Setting]) -> Checked {
-    let all = |met: fn(Kind, &Setting) -> bool| settings.iter().all(|setting| met(kind, setting));
-    unless(all(frame_type_is_allowed), 8)?;
-    unless(all(numbered_slots_are_available), 9)?;
-    unless(all(available_pairs_differ), 10)?;
-    unless(all(bonding_is_allowed), 11)
+    unless(frame_type_is_allowed(kind, setting), 8)?;
+    unless(numbered_slots_are_available(setting), 9)?;
+    unless(available_pairs_differ(setting), 10)?;
+    unless(bonding_is_allowed(kind, setting), 11)
 }
 
 fn frame_type_is_allowed(kind: Kind, setting: &Setting) -> bool {
@@ -104,19 +111,29 @@ fn frame_type_is_allowed(kind: Kind, setting: &Setting) -> bool {
     }
 }
 
-fn numbered_slots_are_available(_: Kind, setting: &Setting) -> bool {
-    let mut numbers = setting.relative_ts_number.iter();
-    // Number 0 is a slot without a stream, and names nothing.
-    numbers.all(|&number| number == 0 || setting.is_available(usize::from(number)))
+/// Number 0 is a slot without a stream, and names nothing: its bit stands in
+/// front of stream 1's.
+fn numbered_slots_are_available(setting: &Setting) -> bool {
+    const NO_STREAM: u16 = 1 << STREAMS;
+    let numbers = &setting.relative_ts_number;
+    let named = numbers
+        .iter()
+        .fold(0, |bits, number| bits | NO_STREAM >> (number & 15));
+    slot_numbers_fit(numbers).is_ok() && named & !(NO_STREAM | setting.availability) == 0
 }
 
-fn available_pairs_differ(_: Kind, setting: &Setting) -> bool {
-    let mut pairs: Vec<(u16, u16)> = (1..=STREAMS)
-        .filter(|&r| setting.is_available(r))
-        .map(|r| (setting.ts_id[r - 1], setting.original_network_id[r - 1]))
-        .collect();
-    pairs.sort_unstable();
-    pairs.windows(2).all(|two| two[0] != two[1])
+/// Each pair of an available stream is held against those in front of it.
+fn available_pairs_differ(setting: &Setting) -> bool {
+    let mut pairs = [0; STREAMS];
+    let mut count = 0;
+    for stream in 0..STREAMS {
+        if setting.is_available(stream + 1) {
+            let [ts_id, network] = [setting.ts_id[stream], setting.original_network_id[stream]];
+            pairs[count] = u32::from(ts_id) << 16 | u32::from(network);
+            count += 1;
+        }
+    }
+    (1..count).all(|last| !pairs[..last].contains(&pairs[last]))
 }
 
 /// A plain header has no bonding fields to break the rule with.

@@ -1,88 +1,87 @@
 //! The header writer.
 
-use crate::bits::BitWriter;
 use crate::crc::crc32;
 use crate::layout::{
-    BEFORE_COUNTER, BEFORE_PID, PACKET_HEADER_BYTES, RESERVED_BYTES, STREAMS, SYNC_BYTE, TSMF_SYNC,
+    AUXILIARY, BEFORE_COUNTER, BONDING, CONTROL, CRC, IDENTIFIERS, PACKET_BYTES, PRIVATE_DATA,
+    RESERVED, SLOT_NUMBERS, SYNC_BYTE, THIRTEEN_BITS, TSMF_SYNC, UNDER_CRC,
 };
-use crate::rules::{content, fields_fit, length_and_pid, Checked};
+use crate::rules::{content, fields_fit, header_pid, Checked};
 use crate::setting::{Kind, Setting};
 
 /// Answers 0 and fills the buffer, or answers the refusal and leaves it.
 pub fn write(buffer: &mut [u8], pid: u16, kind: Kind, setting: &Setting) -> u8 {
-    match check(buffer.len(), pid, kind, setting) {
+    let Ok(packet) = buffer.try_into() else {
+        return 1;
+    };
+    match check(pid, kind, setting) {
         Ok(()) => {
-            buffer.copy_from_slice(&header(pid, kind, setting));
+            fill(packet, pid, kind, setting);
             0
         }
         Err(refusal) => refusal,
     }
 }
 
-fn check(length: usize, pid: u16, kind: Kind, setting: &Setting) -> Checked {
-    length_and_pid(length, pid)?;
+fn check(pid: u16, kind: Kind, setting: &Setting) -> Checked {
+    header_pid(pid)?;
     fields_fit(kind, setting)?;
     content(kind, setting)
 }
 
-fn header(pid: u16, kind: Kind, setting: &Setting) -> Vec<u8> {
-    let mut bits = BitWriter::default();
-    packet_header(&mut bits, pid, setting);
-    bits.put_reserved(3);
-    bits.put(TSMF_SYNC, 13);
-    bits.put(setting.version_number.into(), 3);
-    slot_information(&mut bits, setting);
-    identifiers_information(&mut bits, setting);
-    control_information(&mut bits, setting);
-    for &number in &setting.relative_ts_number {
-        bits.put(number.into(), 4);
-    }
+/// Writes the header of a setting that meets the rules. Reserved bits are
+/// ones (J.183, 3.6).
+pub(crate) fn fill(packet: &mut [u8; PACKET_BYTES], pid: u16, kind: Kind, setting: &Setting) {
+    packet[0] = SYNC_BYTE;
+    packet[1..3].copy_from_slice(&pid.to_be_bytes());
+    packet[3] = BEFORE_COUNTER | setting.continuity_counter;
+    packet[4..6].copy_from_slice(&(!THIRTEEN_BITS | TSMF_SYNC).to_be_bytes());
+    packet[6] =
+        setting.version_number << 5 | setting.slot_allocation_type << 4 | setting.frame_type;
+    packet[7..9].copy_from_slice(&(setting.availability << 1 | 1).to_be_bytes());
+    identifiers(&mut packet[IDENTIFIERS], setting);
+    packet[CONTROL].copy_from_slice(&control(setting).to_be_bytes());
+    slot_numbers(&mut packet[SLOT_NUMBERS], setting);
     match kind {
-        Kind::Plain => bits.put_bytes(&setting.private_data),
-        Kind::Extended => extension(&mut bits, setting),
+        Kind::Plain => packet[PRIVATE_DATA].copy_from_slice(&setting.private_data),
+        Kind::Extended => extension(packet, setting),
     }
-    let crc = crc32(&bits.bytes()[PACKET_HEADER_BYTES..]);
-    bits.put(crc, 32);
-    bits.bytes().to_vec()
+    let crc = crc32(&packet[UNDER_CRC]);
+    packet[CRC].copy_from_slice(&crc.to_be_bytes());
 }
 
-fn packet_header(bits: &mut BitWriter, pid: u16, setting: &Setting) {
-    bits.put(SYNC_BYTE, 8);
-    bits.put(BEFORE_PID, 3);
-    bits.put(pid.into(), 13);
-    bits.put(BEFORE_COUNTER, 4);
-    bits.put(setting.continuity_counter.into(), 4);
-}
-
-fn slot_information(bits: &mut BitWriter, setting: &Setting) {
-    bits.put(setting.slot_allocation_type.into(), 1);
-    bits.put(setting.frame_type.into(), 4);
-    bits.put(setting.availability.into(), STREAMS);
-    bits.put_reserved(1);
-}
-
-fn identifiers_information(bits: &mut BitWriter, setting: &Setting) {
-    for stream in 0..STREAMS {
-        bits.put(setting.ts_id[stream].into(), 16);
-        bits.put(setting.original_network_id[stream].into(), 16);
+fn identifiers(bytes: &mut [u8], setting: &Setting) {
+    let (pairs, _) = bytes.as_chunks_mut::<4>();
+    for ((pair, ts_id), network) in pairs
+        .iter_mut()
+        .zip(&setting.ts_id)
+        .zip(&setting.original_network_id)
+    {
+        *pair = (u32::from(*ts_id) << 16 | u32::from(*network)).to_be_bytes();
     }
 }
 
-fn control_information(bits: &mut BitWriter, setting: &Setting) {
-    for &status in &setting.receive_status {
-        bits.put(status.into(), 2);
+/// Two bits for each stream, emergency_indicator, and one reserved bit.
+fn control(setting: &Setting) -> u32 {
+    let statuses = setting.receive_status.iter();
+    let statuses = statuses.fold(0, |bits, &status| bits << 2 | u32::from(status));
+    statuses << 2 | u32::from(setting.emergency_indicator) << 1 | 1
+}
+
+fn slot_numbers(bytes: &mut [u8], setting: &Setting) {
+    let (twos, _) = setting.relative_ts_number.as_chunks::<2>();
+    for (byte, [high, low]) in bytes.iter_mut().zip(twos) {
+        *byte = high << 4 | low;
     }
-    bits.put(setting.emergency_indicator.into(), 1);
-    bits.put_reserved(1);
 }
 
 /// What stands in the place of private_data in an extended header.
-fn extension(bits: &mut BitWriter, setting: &Setting) {
-    bits.put_bytes(&setting.auxiliary);
-    bits.put(setting.group_id.into(), 8);
-    bits.put(setting.number_of_carriers.into(), 8);
-    bits.put(setting.carrier_sequence.into(), 8);
-    bits.put(setting.number_of_frames.into(), 4);
-    bits.put(setting.frame_position.into(), 4);
-    bits.put_reserved(8 * RESERVED_BYTES);
+fn extension(packet: &mut [u8; PACKET_BYTES], setting: &Setting) {
+    packet[AUXILIARY].copy_from_slice(&setting.auxiliary);
+    packet[BONDING].copy_from_slice(&[
+        setting.group_id,
+        setting.number_of_carriers,
+        setting.carrier_sequence,
+        setting.number_of_frames << 4 | setting.frame_position,
+    ]);
+    packet[RESERVED].fill(0xFF);
 }

@@ -7,7 +7,7 @@ use common::groups::{
     asked, bonded_slots, carry, drawn_frames, drawn_settings, group, settings, TS_ID,
 };
 use common::{least, Random};
-use reference::{gather, spread, Asked, Kind, Setting, FRAME_BYTES};
+use reference::{gather, read_headers, spread, Asked, Carried, Kind, Setting, FRAME_BYTES};
 
 /// The whole stream of a group.
 fn gathered(group: &[u8], asked: &Asked) -> Vec<u8> {
@@ -153,4 +153,30 @@ fn identifiers_without_availability() {
     let group = group(&mut Random(56), &settings);
     let expected = &group[188..FRAME_BYTES];
     assert_eq!(gathered(&group, &asked(1)), expected);
+}
+
+/// The headers alone tell how many packets spread takes and gather gives, and
+/// whether the stream is in one of them.
+#[test]
+fn what_the_headers_say() {
+    let mut random = Random(57);
+    for _ in 0..60 {
+        let frames = drawn_frames(&mut random);
+        let settings = drawn_settings(&mut random, &frames);
+        let group = group(&mut random, &settings);
+        let mut asked = asked(frames.len());
+        let answer = |is_carried, packets| {
+            Ok(Carried {
+                is_carried,
+                packets,
+            })
+        };
+        let packets = bonded_slots(&settings).len();
+        assert_eq!(read_headers(&group, &asked), answer(true, packets));
+        asked.ts_id += 1;
+        assert_eq!(read_headers(&group, &asked), answer(false, 0));
+        assert_eq!(read_headers(&group[1..], &asked), Err(1));
+        asked.carriers = 9;
+        assert_eq!(read_headers(&group, &asked), Err(17));
+    }
 }

@@ -1,4 +1,31 @@
+mod common;
+
+use common::Random;
 use reference::crc32;
+
+/// The register bit by bit, as the polynomial says it.
+fn by_bits(bytes: &[u8]) -> u32 {
+    let mut register = u32::MAX;
+    for byte in bytes {
+        for bit in (0..8).rev() {
+            let outgoing = register >> 31 != u32::from(byte >> bit & 1);
+            register <<= 1;
+            if outgoing {
+                register ^= 0x04C1_1DB7;
+            }
+        }
+    }
+    register
+}
+
+#[test]
+fn all_lengths() {
+    let mut bytes = [0; 400];
+    Random(5).fill(&mut bytes, 256);
+    for length in 0..=bytes.len() {
+        assert_eq!(crc32(&bytes[..length]), by_bits(&bytes[..length]));
+    }
+}
 
 #[test]
 fn published_check_value() {

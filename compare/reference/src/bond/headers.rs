@@ -1,70 +1,84 @@
 //! The headers of a group, read one after another. Everything that a header
 //! shows is refused before the next one is read.
 
+use super::places::Bonded;
 use super::Asked;
-use crate::layout::{FRAME_BYTES, PACKET_BYTES};
+use crate::layout::{FRAME_BYTES, PACKET_BYTES, STREAMS};
 use crate::read::read;
 use crate::rules::unless;
 use crate::setting::{Kind, Setting};
 
-/// 3 to 11 and 14: one setting for each frame, in the order of the buffer.
-pub fn group_headers(group: &[u8], asked: &Asked) -> Result<Vec<Setting>, u8> {
-    let mut headers = Vec::new();
-    for frame in group.chunks_exact(FRAME_BYTES) {
+/// 3 to 11 and 14: the stream's slots in all frames.
+pub fn bonded(group: &[u8], asked: &Asked) -> Result<Bonded, u8> {
+    let mut bonded = Bonded::NONE;
+    let mut turn = Turn::first(asked.carriers);
+    for (number, frame) in group.chunks_exact(FRAME_BYTES).enumerate() {
         let header = read(&frame[..PACKET_BYTES], asked.pid, Kind::Extended)?;
-        unless(belongs_behind(&headers, &header, asked.carriers), 14)?;
-        headers.push(header);
+        unless(turn.is_of(&header), 14)?;
+        if header.frame_position == 1 {
+            bonded.add_carrier(FRAME_BYTES * number, header.number_of_frames);
+        }
+        if let Some(r) = relative_number(&header, asked) {
+            bonded.add_slots(header.frame_position, &header.relative_ts_number, r);
+        }
+        turn.go_on(&header);
     }
     // A frame that is missing shows only here: no header is left to tell it.
-    unless(next(&headers, asked.carriers).is_none(), 14)?;
-    Ok(headers)
+    unless(turn.carrier_sequence > asked.carriers, 14)?;
+    Ok(bonded)
 }
 
-/// Where a frame stands in its group.
-#[derive(PartialEq, Eq)]
+/// Where the next frame stands in its group, and what those before it say:
+/// the first one of the group its group_id, the first one of the carrier its
+/// number_of_frames.
 struct Turn {
+    carriers: u8,
     carrier_sequence: u8,
     frame_position: u8,
+    group_id: Option<u8>,
+    number_of_frames: u8,
 }
 
-/// Where the frame behind these stands, all of them being right; none where
-/// they are the whole group.
-fn next(headers: &[Setting], carriers: u8) -> Option<Turn> {
-    let (carrier_sequence, frame_position) = match headers.last() {
-        None => (1, 1),
-        Some(last) if last.frame_position < last.number_of_frames => {
-            (last.carrier_sequence, last.frame_position + 1)
+impl Turn {
+    fn first(carriers: u8) -> Turn {
+        Turn {
+            carriers,
+            carrier_sequence: 1,
+            frame_position: 1,
+            group_id: None,
+            number_of_frames: 0,
         }
-        Some(last) => (last.carrier_sequence + 1, 1),
-    };
-    let turn = Turn {
-        carrier_sequence,
-        frame_position,
-    };
-    (carrier_sequence <= carriers).then_some(turn)
+    }
+
+    /// Whether this header's is the turn. A frame that is left over has none.
+    fn is_of(&self, header: &Setting) -> bool {
+        let same_frames = header.number_of_frames == self.number_of_frames;
+        self.carrier_sequence <= self.carriers
+            && header.number_of_carriers == self.carriers
+            && header.carrier_sequence == self.carrier_sequence
+            && header.frame_position == self.frame_position
+            && self.group_id.is_none_or(|id| id == header.group_id)
+            && (self.frame_position == 1 || same_frames)
+    }
+
+    /// The turn behind this header's.
+    fn go_on(&mut self, header: &Setting) {
+        self.group_id = Some(header.group_id);
+        self.number_of_frames = header.number_of_frames;
+        if header.frame_position < header.number_of_frames {
+            self.frame_position += 1;
+        } else {
+            self.carrier_sequence += 1;
+            self.frame_position = 1;
+        }
+    }
 }
 
-/// Whether this is the header that these are followed by. One that is left
-/// over belongs nowhere.
-fn belongs_behind(headers: &[Setting], header: &Setting, carriers: u8) -> bool {
-    let shown = Turn {
-        carrier_sequence: header.carrier_sequence,
-        frame_position: header.frame_position,
-    };
-    next(headers, carriers) == Some(shown)
-        && header.number_of_carriers == carriers
-        && agrees(headers, header)
-}
-
-/// The first header of the group gives the group_id, and the first one of
-/// each carrier the number_of_frames.
-fn agrees(headers: &[Setting], header: &Setting) -> bool {
-    let same_group = headers
-        .iter()
-        .all(|other| other.group_id == header.group_id);
-    let same_frames = headers
-        .iter()
-        .filter(|other| other.carrier_sequence == header.carrier_sequence)
-        .all(|other| other.number_of_frames == header.number_of_frames);
-    same_group && same_frames
+/// The number under which a header carries the stream as available.
+fn relative_number(header: &Setting, asked: &Asked) -> Option<u8> {
+    let streams = header.ts_id.iter().zip(&header.original_network_id);
+    (1..=STREAMS as u8).zip(streams).find_map(|(r, ids)| {
+        let is_asked = ids == (&asked.ts_id, &asked.original_network_id);
+        (is_asked && header.is_available(r.into())).then_some(r)
+    })
 }

@@ -4,12 +4,11 @@
 mod checks;
 mod state;
 
-use crate::announced::Announced;
-use crate::layout::{PACKET_BYTES, SLOTS};
-use crate::packet::null_packet;
+use crate::layout::{LAST_COUNTER, LAST_VERSION, PACKET_BYTES, SLOTS};
+use crate::packet::{place, NULL_PACKETS};
 use crate::rules::Checked;
 use crate::setting::Setting;
-use crate::write::write;
+use crate::write::fill;
 pub use state::{Composer, OpenFrame};
 
 /// What a put answers: how many packets it placed, or its refusal, and the
@@ -25,9 +24,7 @@ impl Composer {
     /// so it raises nothing.
     pub fn begin(&mut self, frame: &mut [u8], setting: &Setting) -> Checked {
         self.check_begin(frame.len(), setting)?;
-        for slot in frame.chunks_exact_mut(PACKET_BYTES).skip(1) {
-            slot.copy_from_slice(&null_packet());
-        }
+        frame[PACKET_BYTES..].copy_from_slice(&NULL_PACKETS);
         self.open = Some(OpenFrame {
             setting: setting.clone(),
             filled: [false; SLOTS],
@@ -53,31 +50,37 @@ impl Composer {
         relative_ts_number: u8,
         stream: &[u8],
     ) -> Result<usize, u8> {
-        self.check_put(frame.len(), relative_ts_number, stream)?;
+        let places = self.check_put(frame.len(), relative_ts_number, stream)?;
         let open = self.open.as_mut().ok_or(16)?;
-        let mut placed = 0;
-        for (place, packet) in open.pairs(relative_ts_number, stream) {
-            frame[slot(place + 1)].copy_from_slice(packet);
-            open.filled[place] = true;
-            placed += 1;
+        let (packets, _) = stream.as_chunks::<PACKET_BYTES>();
+        for (at, packet) in places.zip(packets) {
+            frame[place(at + 1)].copy_from_slice(packet);
+            open.filled[at] = true;
         }
-        Ok(placed)
+        Ok(places.count().min(packets.len()))
     }
 
+    /// The open frame's setting becomes the header's, and goes with the frame.
     pub fn close(&mut self, frame: &mut [u8]) -> Checked {
-        let open = self.check_close(frame.len())?;
-        let header = self.next_header(open);
-        let refusal = write(&mut frame[slot(0)], self.pid, self.kind, &header);
-        assert_eq!(refusal, 0, "a checked setting is written");
-        self.continuity_counter = header.continuity_counter;
-        self.version_number = header.version_number;
-        self.announced = Announced::of(&header);
+        self.check_close(frame.len())?;
+        let open = self.open.as_mut().ok_or(16)?;
+        self.continuity_counter = following(self.continuity_counter, LAST_COUNTER);
+        if self.announced.renew(&open.setting) {
+            self.version_number = following(self.version_number, LAST_VERSION);
+        }
+        let header = open.header(self.continuity_counter, self.version_number);
+        let packet = frame.first_chunk_mut().ok_or(1)?;
+        fill(packet, self.pid, self.kind, header);
         self.open = None;
         Ok(())
     }
 }
 
-/// The bytes of slot i in a frame, slot 0 being the header's.
-fn slot(i: usize) -> std::ops::Range<usize> {
-    PACKET_BYTES * i..PACKET_BYTES * (i + 1)
+/// The number behind this one, 0 behind the last.
+fn following(number: u8, last: u8) -> u8 {
+    if number == last {
+        0
+    } else {
+        number + 1
+    }
 }

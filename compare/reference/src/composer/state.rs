@@ -3,6 +3,7 @@
 
 use crate::announced::Announced;
 use crate::layout::{LAST_COUNTER, LAST_VERSION, SLOTS};
+use crate::packet::Places;
 use crate::rules::header_pid;
 use crate::setting::{Kind, Setting};
 
@@ -46,50 +47,23 @@ impl Composer {
             open: None,
         }
     }
-
-    /// The header that the open frame would be closed with now.
-    pub(super) fn next_header(&self, open: &OpenFrame) -> Setting {
-        Setting {
-            continuity_counter: following(self.continuity_counter, LAST_COUNTER),
-            version_number: self.next_version(&open.setting),
-            relative_ts_number: open.filled_numbers(),
-            ..open.setting.clone()
-        }
-    }
-
-    fn next_version(&self, setting: &Setting) -> u8 {
-        if self.announced == Announced::of(setting) {
-            self.version_number
-        } else {
-            following(self.version_number, LAST_VERSION)
-        }
-    }
-}
-
-fn following(number: u8, last: u8) -> u8 {
-    if number == last {
-        0
-    } else {
-        number + 1
-    }
 }
 
 impl OpenFrame {
-    /// The places of the still empty slots planned for a stream, from 0.
-    pub(super) fn empty_places(&self, relative_ts_number: u8) -> Vec<usize> {
-        (0..SLOTS)
-            .filter(|&place| self.setting.relative_ts_number[place] == relative_ts_number)
-            .filter(|&place| !self.filled[place])
-            .collect()
+    /// The still empty slots planned for a stream.
+    pub(super) fn empty_places(&self, relative_ts_number: u8) -> Places {
+        let plan = &self.setting.relative_ts_number;
+        Places::where_is(|place| plan[place] == relative_ts_number && !self.filled[place])
     }
 
-    fn filled_numbers(&self) -> [u8; SLOTS] {
-        std::array::from_fn(|place| {
-            if self.filled[place] {
-                self.setting.relative_ts_number[place]
-            } else {
-                0
-            }
-        })
+    /// The setting as the frame is closed with it: empty slots have number 0.
+    pub(super) fn header(&mut self, continuity_counter: u8, version_number: u8) -> &Setting {
+        let setting = &mut self.setting;
+        setting.continuity_counter = continuity_counter;
+        setting.version_number = version_number;
+        for (number, &filled) in setting.relative_ts_number.iter_mut().zip(&self.filled) {
+            *number *= u8::from(filled);
+        }
+        setting
     }
 }

@@ -4,7 +4,7 @@
 mod state;
 
 use crate::layout::{LAST_COUNTER, PACKET_BYTES, SLOTS, STORE_BYTES};
-use crate::packet::fits_a_slot;
+use crate::packet::{fits_a_slot, place, Places};
 use crate::read::read;
 use crate::rules::{fixed_length, stream_number, unless, Checked};
 use crate::setting::Setting;
@@ -26,11 +26,14 @@ pub enum Event {
 impl Receiver {
     pub fn receive(&mut self, store: &mut [u8], packet: &[u8]) -> Result<Event, u8> {
         fixed_length(store.len(), STORE_BYTES)?;
-        fixed_length(packet.len(), PACKET_BYTES)?;
+        let packet = packet.try_into().map_err(|_| 1)?;
         self.check_pid_and_numbers()?;
+        // What fits a slot bears another PID than a header.
+        if fits_a_slot(packet, self.pid) {
+            return Ok(self.take_ordinary(store, packet));
+        }
         Ok(match read(packet, self.pid, self.kind) {
             Ok(header) => self.take_header(&header),
-            Err(_) if fits_a_slot(packet, self.pid) => self.take_ordinary(store, packet),
             Err(_) => self.drop_frame(Event::Broken),
         })
     }
@@ -56,7 +59,7 @@ impl Receiver {
         event
     }
 
-    fn take_ordinary(&mut self, store: &mut [u8], packet: &[u8]) -> Event {
+    fn take_ordinary(&mut self, store: &mut [u8], packet: &[u8; PACKET_BYTES]) -> Event {
         let Some((continuity_counter, stored)) = self.open_frame() else {
             return Event::Nothing;
         };
@@ -87,12 +90,14 @@ impl Receiver {
         buffer: &mut [u8],
     ) -> Result<usize, u8> {
         self.check_hand_out(store.len(), relative_ts_number)?;
-        let places = self.places_before(relative_ts_number);
-        unless(buffer.len() >= PACKET_BYTES * places.len(), 15)?;
-        for (number, &from) in places.iter().enumerate() {
-            buffer[place(number)].copy_from_slice(&store[place(from)]);
+        let numbers = &self.relative_ts_number_before;
+        let places = Places::where_is(|place| numbers[place] == relative_ts_number);
+        let (packets, _) = buffer.as_chunks_mut::<PACKET_BYTES>();
+        unless(packets.len() >= places.count(), 15)?;
+        for (packet, from) in packets.iter_mut().zip(places) {
+            packet.copy_from_slice(&store[place(from)]);
         }
-        Ok(places.len())
+        Ok(places.count())
     }
 
     /// All but 15, for which the packets have to be counted.
@@ -102,21 +107,9 @@ impl Receiver {
         stream_number(relative_ts_number)?;
         unless(self.is_ready(), 16)
     }
-
-    fn places_before(&self, relative_ts_number: u8) -> Vec<usize> {
-        let numbers = &self.relative_ts_number_before;
-        (0..SLOTS)
-            .filter(|&place| numbers[place] == relative_ts_number)
-            .collect()
-    }
 }
 
 /// How far the counter went, modulo 16.
 fn step(from: u8, to: u8) -> u8 {
     to.wrapping_sub(from) % (LAST_COUNTER + 1)
-}
-
-/// The bytes of a packet in a store or a hand-out buffer, the first being 0.
-fn place(number: usize) -> std::ops::Range<usize> {
-    PACKET_BYTES * number..PACKET_BYTES * (number + 1)
 }

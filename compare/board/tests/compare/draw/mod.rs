@@ -1,0 +1,144 @@
+//! What the families draw alike: settings, packets, lengths and numbers.
+
+pub mod faults;
+pub mod groups;
+pub mod packets;
+
+use board::coding::setting_bytes;
+use board::lent::Lent;
+use board::random::Random;
+use reference::{Kind, Setting, STREAMS};
+
+pub const KINDS: [Kind; 2] = [Kind::Plain, Kind::Extended];
+
+/// Kinds as numbers, known and unknown.
+pub const KIND_BYTES: [u8; 5] = [0, 1, 2, 3, 255];
+
+/// Header PIDs around the ends of their range.
+pub const PIDS: [u16; 10] = [0, 15, 16, 17, 8189, 8190, 8191, 8192, 8208, 65535];
+
+pub fn kind(random: &mut Random) -> Kind {
+    random.of(&KINDS)
+}
+
+/// A header PID that is allowed.
+pub fn pid(random: &mut Random) -> u16 {
+    let drawn = random.between(16, 8190) as u16;
+    random.of(&[drawn, drawn, 0x1FF0, 16, 8190])
+}
+
+/// The bit of stream r, 1 to 15.
+pub fn availability_bit(r: usize) -> u16 {
+    0x4000 >> (r - 1)
+}
+
+/// A setting that meets every rule.
+pub fn good(random: &mut Random, kind: Kind) -> Setting {
+    let mut setting = Setting {
+        continuity_counter: random.byte_below(16),
+        version_number: random.byte_below(8),
+        slot_allocation_type: random.byte_below(2),
+        frame_type: 1,
+        emergency_indicator: random.byte_below(2),
+        ..Setting::ZEROS
+    };
+    let drawn = random.sixteen() & 0x7FFF;
+    setting.availability = random.of(&[drawn, drawn, drawn, 0x7FFF, 0x4001, 0]);
+    for status in &mut setting.receive_status {
+        *status = random.byte_below(4);
+    }
+    identifiers(random, &mut setting);
+    plan(random, &mut setting);
+    match kind {
+        Kind::Plain => random.fill(&mut setting.private_data),
+        Kind::Extended => extension(random, &mut setting),
+    }
+    setting
+}
+
+/// Available pairs differ, at times in one bit; an unavailable stream may have
+/// the pair of another.
+fn identifiers(random: &mut Random, setting: &mut Setting) {
+    let base = random.sixteen() & 0xFFF0;
+    let apart = random.one_in(2);
+    let same = random.of(&[0, 0xFFFF, base]);
+    for stream in 0..STREAMS {
+        let own = base | stream as u16;
+        let other = if random.one_in(2) {
+            same
+        } else {
+            random.sixteen()
+        };
+        let (ts_id, network) = if apart { (own, other) } else { (other, own) };
+        setting.ts_id[stream] = ts_id;
+        setting.original_network_id[stream] = network;
+        if stream > 0 && !setting.is_available(stream + 1) && random.one_in(2) {
+            setting.ts_id[stream] = setting.ts_id[stream - 1];
+            setting.original_network_id[stream] = setting.original_network_id[stream - 1];
+        }
+    }
+}
+
+/// New slot numbers, all of available streams or 0.
+pub fn plan(random: &mut Random, setting: &mut Setting) {
+    let streams: Vec<u8> = (0..=STREAMS)
+        .filter(|&r| r == 0 || setting.is_available(r))
+        .map(|r| r as u8)
+        .collect();
+    for number in &mut setting.relative_ts_number {
+        *number = random.of(&streams);
+    }
+}
+
+fn extension(random: &mut Random, setting: &mut Setting) {
+    setting.frame_type = 1 + random.byte_below(2);
+    random.fill(&mut setting.auxiliary);
+    setting.group_id = random.byte();
+    setting.number_of_carriers = 1 + random.byte_below(8);
+    setting.carrier_sequence = 1 + random.byte_below(setting.number_of_carriers.into());
+    setting.number_of_frames = 3 + random.byte_below(2);
+    setting.frame_position = 1 + random.byte_below(setting.number_of_frames.into());
+}
+
+pub fn lent_setting(setting: &Setting) -> Lent {
+    Lent::new(&setting_bytes(setting))
+}
+
+/// The fixed length and those around it.
+pub fn lengths(fixed: usize) -> [usize; 5] {
+    [0, 1, fixed - 1, fixed, fixed + 1]
+}
+
+/// These bytes, cut or with more behind them.
+pub fn resized(bytes: &[u8], length: usize) -> Vec<u8> {
+    let mut bytes = bytes.to_vec();
+    bytes.resize(length, 0x47);
+    bytes
+}
+
+/// Mostly the fixed length, and now and then another.
+pub fn length(random: &mut Random, fixed: usize) -> usize {
+    let any = random.below(2 * fixed + 2);
+    match random.below(12) {
+        0 => random.of(&[0, 1, fixed - 1, fixed + 1, 188, any]),
+        _ => fixed,
+    }
+}
+
+/// Mostly this number, and now and then another.
+pub fn number(random: &mut Random, right: u8) -> u8 {
+    let around = [right.wrapping_sub(1), right.wrapping_add(1)];
+    match random.below(12) {
+        0 => random.of(&[0, 1, 2, 9, 15, 16, 17, 255, around[0], around[1]]),
+        _ => right,
+    }
+}
+
+/// Mostly this PID, and now and then another.
+pub fn near_pid(random: &mut Random, right: u16) -> u16 {
+    match random.below(12) {
+        0 => random.of(&PIDS),
+        1 => right ^ 1 << random.below(16),
+        _ => right,
+    }
+}

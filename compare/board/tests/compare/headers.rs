@@ -1,0 +1,63 @@
+//! Headers: settings written and read, settings with faults, and damaged
+//! packets.
+
+use crate::draw::faults::{damage, spoil};
+use crate::draw::packets::ordinary;
+use crate::draw::{good, kind, lent_setting, near_pid, number, pid};
+use board::coding::kind_byte;
+use board::judge::Judge;
+use board::lent::Lent;
+use board::random::Random;
+use reference::{Kind, Setting, PACKET_BYTES};
+
+pub fn round(judge: &mut Judge, random: &mut Random) {
+    let kind = kind(random);
+    let pid = pid(random);
+    let mut setting = good(random, kind);
+    let mut packet = Lent::new(&random.bytes(PACKET_BYTES));
+    let refusal = check(judge, &mut packet, pid, kind_byte(kind), &setting);
+    assert_eq!(refusal, 0, "a good setting is written");
+    read_back(judge, &mut packet, pid, kind, &setting);
+    for _ in 0..8 {
+        damaged(judge, random, packet.bytes(), pid, kind);
+    }
+    // One fault, and then two and three at once.
+    for _ in 0..3 {
+        spoil(random, kind, &mut setting);
+        let (pid, kind) = (near_pid(random, pid), number(random, kind_byte(kind)));
+        let mut packet = Lent::new(&random.bytes(PACKET_BYTES));
+        check(judge, &mut packet, pid, kind, &setting);
+    }
+}
+
+/// The answer of the writer; the two looks at a setting go with it.
+fn check(judge: &mut Judge, packet: &mut Lent, pid: u16, kind: u8, setting: &Setting) -> u8 {
+    let mut setting = lent_setting(setting);
+    judge.setting_widths(&mut setting, kind);
+    judge.setting_rules(&mut setting, kind);
+    judge.header_write(packet, pid, kind, &mut setting)
+}
+
+fn read_back(judge: &mut Judge, packet: &mut Lent, pid: u16, kind: Kind, setting: &Setting) {
+    let mut read = Lent::new(&[0xA5; 252]);
+    let refusal = judge.header_read(packet, pid, kind_byte(kind), &mut read);
+    assert_eq!(refusal, 0, "a written header is read");
+    assert_eq!(read.bytes(), lent_setting(setting).bytes());
+}
+
+/// Now and then the packet is no header at all.
+fn damaged(judge: &mut Judge, random: &mut Random, packet: &[u8], pid: u16, kind: Kind) {
+    let mut packet = match random.below(12) {
+        0 => ordinary(random, pid),
+        1 => random.bytes(PACKET_BYTES),
+        _ => packet.to_vec(),
+    };
+    if !random.one_in(12) {
+        damage(random, &mut packet);
+    }
+    let (pid, kind) = (near_pid(random, pid), number(random, kind_byte(kind)));
+    let mut packet = Lent::new(&packet);
+    let mut setting = Lent::new(&random.bytes(252));
+    judge.header_read(&mut packet, pid, kind, &mut setting);
+    judge.place_refusal(&mut packet, pid);
+}

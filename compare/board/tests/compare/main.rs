@@ -1,0 +1,94 @@
+//! Both sides over the same inputs, drawn from fixed seeds. Fails at the first
+//! difference, and where a number that a call can answer was never reached.
+
+mod any_bytes;
+mod composers;
+mod draw;
+mod edges;
+mod groups;
+mod headers;
+mod numbers;
+mod receivers;
+
+use board::judge::{events, table, unreached, Judge, Round};
+use board::random::Random;
+use std::env;
+use std::process::exit;
+use std::time::Instant;
+
+/// Fewer calls than this are too few.
+const LEAST_CALLS: u64 = 1_000_000;
+
+/// A family of inputs, and how many rounds of it there are.
+struct Family {
+    name: &'static str,
+    rounds: u64,
+    run: fn(&mut Judge, &mut Random),
+}
+
+const FAMILIES: [Family; 7] = [
+    family("numbers", 1, numbers::round),
+    family("edges", 4, edges::round),
+    family("headers", 40_000, headers::round),
+    family("composers", 600, composers::round),
+    family("receivers", 600, receivers::round),
+    family("groups", 1_000, groups::round),
+    family("any bytes", 40_000, any_bytes::round),
+];
+
+const fn family(name: &'static str, rounds: u64, run: fn(&mut Judge, &mut Random)) -> Family {
+    Family { name, rounds, run }
+}
+
+fn main() {
+    let mut judge = Judge::default();
+    let times = times();
+    let start = Instant::now();
+    for (place, family) in FAMILIES.iter().enumerate() {
+        run(family, place as u64, times, &mut judge);
+    }
+    let seconds = start.elapsed().as_secs_f64();
+    println!("\n{}", table(&judge.tally));
+    println!("what packets did: {}", events(&judge));
+    println!("{} calls in {seconds:.1} s", judge.calls());
+    end(&judge);
+}
+
+/// How many times as many rounds as by default.
+fn times() -> u64 {
+    match env::var("NIRANBOK_ROUNDS") {
+        Ok(times) => times.parse().expect("NIRANBOK_ROUNDS is a number"),
+        Err(_) => 1,
+    }
+}
+
+fn run(family: &Family, place: u64, times: u64, judge: &mut Judge) {
+    let (start, before) = (Instant::now(), judge.calls());
+    for number in 0..family.rounds * times {
+        let seed = place << 32 | number;
+        judge.round = Round {
+            family: family.name,
+            number,
+            seed,
+        };
+        (family.run)(judge, &mut Random::new(seed));
+    }
+    let calls = judge.calls() - before;
+    let seconds = start.elapsed().as_secs_f64();
+    println!("{:<10} {calls:>8} calls in {seconds:>5.1} s", family.name);
+}
+
+fn end(judge: &Judge) {
+    let unreached = unreached(judge);
+    for lack in &unreached {
+        println!("{lack}");
+    }
+    let too_few = judge.calls() < LEAST_CALLS;
+    if too_few {
+        println!("these are less than {LEAST_CALLS} calls");
+    }
+    if too_few || !unreached.is_empty() {
+        exit(1);
+    }
+    println!("both sides agree");
+}
