@@ -16,6 +16,7 @@
 #ifndef NIRANBOK_H
 #define NIRANBOK_H
 
+#include <stdbool.h>
 #include <stddef.h>
 #include <stdint.h>
 
@@ -146,6 +147,35 @@ extern "C" {
 
 /* The CRC register of H.222.0 that the bytes leave, 0 behind a header's own CRC (bytes 4 to 187). */
 uint32_t niranbok_crc(const uint8_t *bytes, size_t length);
+
+/* Whether a number is a header PID. */
+bool niranbok_pid_allowed(uint16_t pid);
+
+/* Whether a number is a slot's, 1 to 52: 0, or 17. */
+uint8_t niranbok_slot(uint8_t n);
+
+/* Whether a number is a stream's, 1 to 15: 0, or 17. */
+uint8_t niranbok_relative_number(uint8_t n);
+
+/* Whether a number is a frame's position in its super frame, 1 to 4: 0, or 17. */
+uint8_t niranbok_frame_position(uint8_t n);
+
+/* Whether stream r is available by an availability; of any other r than 1 to 15, false. */
+bool niranbok_is_available(uint8_t r, uint16_t availability);
+
+/* How many of the fifteen streams are available by an availability. */
+uint32_t niranbok_count_available(uint16_t availability);
+
+/* Writes a setting of zeros into the lent 252 bytes. Refuses 1. */
+uint8_t niranbok_setting_blank(uint8_t *setting, size_t setting_length);
+
+/* Whether every field of a setting fits its bits, as a header of this kind has them. Writes nothing.
+ * Refuses 1, 17. */
+uint8_t niranbok_setting_widths(const uint8_t *setting, size_t setting_length, uint8_t kind);
+
+/* Whether a setting obeys the rules of a header of this kind. Writes nothing. Refuses 1, 17 (the kind),
+ * 8, 9, 10, 11. */
+uint8_t niranbok_setting_rules(const uint8_t *setting, size_t setting_length, uint8_t kind);
 
 /* Writes the setting's header into the lent 188 bytes. Refuses 1, 2, 17, 8, 9, 10, 11. */
 uint8_t niranbok_header_write(uint8_t *packet, size_t packet_length, uint16_t pid, uint8_t kind,

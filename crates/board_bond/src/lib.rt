@@ -55,7 +55,7 @@ pub extern "C" fn niranbok_spread(
     ensures { λ _. ⌜ now (packets .exit) ≡ spreadOf (bondOf carriers pid «ts_id» «original_network_id») (now (group .entry)) (now (stream .entry)) .packets ⌝ }
     ensures { λ _. ⌜ now (group .exit) ≡ spreadGroup (bondOf carriers pid «ts_id» «original_network_id») (now (group .entry)) (now (stream .entry)) ⌝ }
 {
-    let moved = bond::spread(
+    let spread = bond::spread(
         group,
         stream,
         Bond {
@@ -65,8 +65,8 @@ pub extern "C" fn niranbok_spread(
             original_network_id,
         },
     );
-    *packets = moved.packets;
-    moved.refusal
+    *packets = spread.packets;
+    spread.refusal
 }
 
 // Copies the bonded slots of a group, in order, to the front of `out`.
@@ -84,7 +84,7 @@ pub extern "C" fn niranbok_gather(
     ensures { λ _. ⌜ now (packets .exit) ≡ gatherOf (bondOf carriers pid «ts_id» «original_network_id») (now (group .entry)) (length (now (out .entry))) .packets ⌝ }
     ensures { λ _. ⌜ now (out .exit) ≡ gatherBuffer (bondOf carriers pid «ts_id» «original_network_id») (now (group .entry)) (now (out .entry)) ⌝ }
 {
-    let moved = bond::gather(
+    let gathered = bond::gather(
         group,
         out,
         Bond {
@@ -94,6 +94,6 @@ pub extern "C" fn niranbok_gather(
             original_network_id,
         },
     );
-    *packets = moved.packets;
-    moved.refusal
+    *packets = gathered.packets;
+    gathered.refusal
 }

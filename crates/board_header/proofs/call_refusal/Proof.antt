@@ -27,22 +27,33 @@ returns-3 : tie.Need-returns-3
 unfolding callRefused firstOf
 returns-3 c =
     let a = c .before .before .before .before .args in
-    rw (eq-eqb (a .packet) headerLength (c .before .before .before .if1 .left), eq-eqb (a .setting) settingLength (c .before .before .if2 .left),
-    sym (c .before .pid-allowed .ensures) ∙ not-true _ (c .if3 .taken))
+    rw (
+      eq-eqb (a .packet) headerLength (c .before .before .before .if1 .left),
+      eq-eqb (a .setting) settingLength (c .before .before .if2 .left),
+      sym (c .before .pid-allowed .ensures) ∙ not-true _ (c .if3 .taken),
+    )
 
 returns-4 : tie.Need-returns-4
 unfolding callRefused firstOf
 returns-4 c =
     let a = c .before .before .before .before .before .args in
-    rw (eq-eqb (a .packet) headerLength (c .before .before .before .before .if1 .left), eq-eqb (a .setting) settingLength (c .before .before .before .if2 .left),
-    sym (c .before .before .pid-allowed .ensures) ∙ not-false _ (c .before .if3 .left), le-ltb (a .kind) 2 (omega (arith, c .if4 .taken)))
+    rw (
+      eq-eqb (a .packet) headerLength (c .before .before .before .before .if1 .left),
+      eq-eqb (a .setting) settingLength (c .before .before .before .if2 .left),
+      sym (c .before .before .pid-allowed .ensures) ∙ not-false _ (c .before .if3 .left),
+      le-ltb (a .kind) 2 (omega (arith, c .if4 .taken)),
+    )
 
 returns-5 : tie.Need-returns-5
 unfolding callRefused firstOf
 returns-5 c =
     let a = c .before .before .before .before .before .args in
-    rw (eq-eqb (a .packet) headerLength (c .before .before .before .before .if1 .left), eq-eqb (a .setting) settingLength (c .before .before .before .if2 .left),
-    sym (c .before .before .pid-allowed .ensures) ∙ not-false _ (c .before .if3 .left), lt-ltb (a .kind) 2 (omega (arith, c .if4 .left)))
+    rw (
+      eq-eqb (a .packet) headerLength (c .before .before .before .before .if1 .left),
+      eq-eqb (a .setting) settingLength (c .before .before .before .if2 .left),
+      sym (c .before .before .pid-allowed .ensures) ∙ not-false _ (c .before .if3 .left),
+      lt-ltb (a .kind) 2 (omega (arith, c .if4 .left)),
+    )
 
 pub call-refusal-spec : {M : Type 1} → statement M
 call-refusal-spec =

@@ -31,8 +31,12 @@ unfolding readRefused readMemory thenRefused leaves
 returns-2 c =
     let read = c .before .before in
     let call = read .before .before .before in
-    rw (sym (call .call-refusal .ensures) ∙ read .before .before .if1 .left, sym (read .before .kind-of .ensures), sym (read .read .ensures),
-    ne-eqb (read .read .result .refusal) 0 (c .if2 .taken)) (refl, refl)
+    rw (
+      sym (call .call-refusal .ensures) ∙ read .before .before .if1 .left,
+      sym (read .before .kind-of .ensures),
+      sym (read .read .ensures),
+      ne-eqb (read .read .result .refusal) 0 (c .if2 .taken),
+    ) (refl, refl)
 
 write-setting-requires : tie.Need-write-setting-requires
 write-setting-requires c κs = search needs

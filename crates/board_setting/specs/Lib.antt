@@ -1,0 +1,2 @@
+-- Settings and their numbers for callers in other languages.
+pub mod Calls
