@@ -1,14 +1,47 @@
-# `make run` proves and builds the lister and runs it on the sample; `make test` is the gate.
-.PHONY: run test vectors
+# `make run` proves and builds the lister and runs it on the sample; `make test` is the gate; `make board` makes the archive for C;
+# `make bench` measures it; `make memory` runs the comparison under valgrind.
+.PHONY: run test board board-test bench memory vectors
+SHELL = /bin/bash
+.SHELLFLAGS = -o pipefail -c
+
+BOARD = board_setting board_header board_frame board_receiver board_bond
+GATE = compare/target/gate.log
 
 run:
 	rt check lister
 	target/bin/lister < samples/recording.ts
 
-# The independent programs' own tests first; the last act, and the last line printed, is the gate's.
+# The independent programs' own tests; the proofs, the wrong programs and the programs (`rt ci`, which starts from nothing); then what is
+# linked with the archive. The last line printed is rt's.
 test:
 	cd compare && cargo test --quiet
-	rt ci
+	rt ci | tee $(GATE)
+	$(MAKE) --no-print-directory board-test
+	@tail -n 1 $(GATE)
+
+# The board interface as one archive, target/board/libniranbok.a, for include/niranbok.h.
+board:
+	set -e; for crate in $(BOARD); do rt staticlib $$crate | tail -n 1; done
+	rm -rf target/board
+	mkdir -p target/board/objects
+	set -e; cd target/board/objects; for crate in $(BOARD); do ar x ../../staticlib/lib$$crate.a; done; ar rcs ../libniranbok.a *.o
+
+# The header's constants, the example in C, and both implementations over the same inputs.
+board-test: board
+	rt check limits | tail -n 1
+	compare/limits.sh target/bin/limits
+	gcc -std=c99 -Wall -Wextra -Werror -Iinclude examples/board.c target/board/libniranbok.a -o target/board/board
+	target/board/board
+	cd compare && cargo test --quiet -p board
+
+# Both implementations and bare copies, measured in one run.
+bench: board
+	cd compare && cargo run --quiet --release -p board --bin bench
+
+# The same comparison, shorter, with every access watched.
+memory: board
+	cd compare && cargo test --quiet -p board --no-run
+	compare/memory.sh
 
 # Makes the vectors and expected outputs again, from programs that share nothing with the crates.
 vectors:
