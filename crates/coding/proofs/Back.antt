@@ -11,8 +11,8 @@ use Rattle.setting.specs.declared.Setting.{Setting}
 use Rattle.setting.specs.Setting.{OfItsTypes}
 use Rattle.frame.specs.declared.composer.Announced.{Announced}
 use Rattle.frame.specs.Composing.{announced}
-use Rattle.coding.specs.Words.{wordBytes, wordsOf}
-use Rattle.coding.specs.Kinds.{isKind, kindOf, kindNumber}
+use Rattle.coding.specs.Words.{wordBytes}
+use Rattle.coding.specs.Kinds.{kindOf, kindNumber}
 use Rattle.coding.specs.Settings.{part, announcedLength, announcedBytes, announcedOf, settingLength, settingBytes, settingOf}
 use Rattle.coding.specs.Demands.{SettingBack}
 use Rattle.coding.proofs.Words.{length-bytes, words-back}

@@ -1,13 +1,13 @@
 -- `write_announced` meets its contract: five parts, one behind the other. Assumes nothing.
-use Prim.Native.Nat.{ℕ, _*_}
-use mathlib.Core.Path.{_≡_, refl, sym, _∙_}
+use Prim.Native.Nat.{ℕ}
+use mathlib.Core.Path.{_≡_, sym, _∙_}
 use mathlib.Core.List.{List}
 use native.Mathlib.Omega.{arith}
 use borrow.Author.Tests.{eq-eqb, ne-eqb}
 use borrow.Rule.Slice.PartMut.{same-len-mid, mid-len}
 use lib.ListN.{length, take, drop, length-set}
 use Rattle.slices.proofs.Front.{put, copied-over}
-use Rattle.coding.specs.Settings.{announcedLength, announcedBytes}
+use Rattle.coding.specs.Settings.{announcedLength}
 use Rattle.coding.proofs.Parts.{Streams, announced-parts}
 use borrow.Author.Needs.{needs}
 use Rattle.coding.proofs.write_announced.Statement.{statement}
