@@ -1,11 +1,9 @@
 -- What the exported calls answer and leave where the composer's own call is refused, and where it is not. Assumes nothing.
 use Prim.Native.Nat.{ℕ}
 use mathlib.Core.Path.{_≡_, refl, sym, ap, _∙_}
-use mathlib.Core.Bool.{not}
 use mathlib.Core.List.{List}
 use borrow.Author.Tests.{eq-eqb, ne-eqb}
 use lib.ListN.{length}
-use Rattle.setting.specs.Refusal.{firstOf}
 use Rattle.frame.specs.declared.composer.Answer.{Answer}
 use Rattle.frame.specs.declared.composer.Placed.{Placed}
 use Rattle.frame.specs.Composing.{leaves, beginOf, begunFrame, putOf, putFrame, closeOf, closedFrame}

@@ -1,5 +1,5 @@
 -- `niranbok_composer_begin` meets its contract. Assumes nothing.
-use mathlib.Core.Path.{_≡_, refl, sym, ap₂, _∙_}
+use mathlib.Core.Path.{_≡_, refl, ap₂, _∙_}
 use borrow.Author.Tests.{eq-eqb, ne-eqb}
 use lib.ListN.{length}
 use Rattle.setting.specs.declared.Setting.{Setting}

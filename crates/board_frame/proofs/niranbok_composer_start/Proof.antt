@@ -1,11 +1,9 @@
 -- `niranbok_composer_start` meets its contract. Assumes nothing.
 use mathlib.Core.Path.{refl, sym, ap, _∙_}
-use mathlib.Core.Bool.{not}
 use native.Mathlib.Omega.{arith}
 use borrow.Author.Tests.{eq-eqb, ne-eqb, lt-ltb, le-ltb, not-true, not-false}
 use lib.ListN.{length}
 use Rattle.setting.specs.Refusal.{firstOf}
-use Rattle.setting.specs.Rules.{pidAllowed}
 use Rattle.frame.specs.declared.composer.Answer.{Answer}
 use Rattle.frame.specs.Composing.{leaves, startOf}
 use Rattle.board_frame.specs.States.{composerLength, composerBytes}

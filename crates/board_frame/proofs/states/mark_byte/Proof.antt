@@ -1,4 +1,3 @@
-use borrow.Author.Needs.{needs}
 -- `mark_byte` meets its contract. Assumes nothing.
 use Rattle.board_frame.specs.States.{markByte}
 use Rattle.board_frame.proofs.states.mark_byte.Statement.{statement}
