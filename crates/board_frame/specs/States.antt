@@ -1,10 +1,13 @@
 -- A composer's state as bytes, and what bytes say as a state.
 use Prim.Native.Nat.{ℕ}
-use mathlib.Core.Bool.{Bool, true, false, cond, not, _&&_}
+use mathlib.Core.Path.{_≡_}
+use mathlib.Core.Bool.{Bool, cond, not, _&&_}
 use mathlib.Core.List.{List, [], _∷_, _++_, map}
 use lib.Dec.{eqb, ltb}
-use lib.ListN.{getD}
+use lib.ListN.{length, getD}
 use Rattle.slices.specs.Slices.{someAtLeast}
+use Rattle.setting.specs.Counters.{lastSlot, lastStream}
+use Rattle.setting.specs.Setting.{Array, OfItsTypes as SettingOfItsTypes}
 use Rattle.coding.specs.Words.{wordBytes, wordAt}
 use Rattle.coding.specs.Kinds.{isKind, kindOf, kindNumber}
 use Rattle.coding.specs.Settings.{part, announcedBytes, announcedOf, settingBytes, settingOf}
@@ -12,6 +15,14 @@ use Rattle.frame.specs.declared.composer.Composer.{Composer}
 
 abbrev pub composerLength : ℕ
 composerLength = 390
+
+-- what the code's types say of a state, as far as its lists and its setting go
+pub record OfItsTypes (c : Composer) : Type 0 where
+  pub ts-id : Array lastStream 16 (c .last .«ts_id»)
+  pub network-id : Array lastStream 16 (c .last .«original_network_id»)
+  pub statuses : Array lastStream 8 (c .last .«receive_status»)
+  pub setting : SettingOfItsTypes (c .setting)
+  pub marks : length (c .filled) ≡ lastSlot
 
 -- marks as bytes: 1 is a mark
 unfoldable pub markByte : Bool → ℕ

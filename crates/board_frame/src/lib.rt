@@ -7,12 +7,14 @@ use frame::composer::Composer;
 use frame::packet;
 use setting::counters::RelativeNumber;
 use setting::rules;
-use states::COMPOSER_BYTES;
 ghost use mathlib.Core.Path.{_≡_};
 ghost use lib.ListN.{length};
 ghost use Rattle.frame.specs.Packets.{placeRefusal};
 ghost use Rattle.frame.specs.Composing.{restOf};
 ghost use Rattle.board_frame.specs.Calls.{startRefused, startState, beginRefused, beginState, beginMemory, putRefused, putPlaced, putState, putMemory, closeRefused, closeState, closeMemory};
+
+// How many bytes a composer's state takes.
+pub const COMPOSER_BYTES: usize = states::COMPOSER_BYTES;
 
 // Whether a packet may stand in a slot.
 #[no_mangle]

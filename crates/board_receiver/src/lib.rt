@@ -4,9 +4,11 @@ mod states;
 use receiver::Receiver;
 use setting::counters::RelativeNumber;
 use setting::rules;
-use states::RECEIVER_BYTES;
 ghost use mathlib.Core.Path.{_≡_};
 ghost use Rattle.board_receiver.specs.Calls.{startRefused, startState, receiveRefused, receiveEvent, receiveState, receiveMemory, handOutRefused, handOutPackets, handOutMemory};
+
+// How many bytes a receiver's state takes.
+pub const RECEIVER_BYTES: usize = states::RECEIVER_BYTES;
 
 // Starts a receiver: writes its state.
 #[no_mangle]

@@ -11,12 +11,12 @@ use Rattle.setting.specs.declared.Setting.{Setting}
 use Rattle.setting.specs.Setting.{OfItsTypes}
 use Rattle.frame.specs.declared.composer.Announced.{Announced}
 use Rattle.frame.specs.Composing.{announced}
-use Rattle.coding.specs.Words.{wordBytes, wordsOf}
-use Rattle.coding.specs.Kinds.{isKind, kindOf, kindNumber}
+use Rattle.coding.specs.Words.{wordBytes}
+use Rattle.coding.specs.Kinds.{kindOf, kindNumber}
 use Rattle.coding.specs.Settings.{part, announcedLength, announcedBytes, announcedOf, settingLength, settingBytes, settingOf}
 use Rattle.coding.specs.Demands.{SettingBack}
 use Rattle.coding.proofs.Words.{length-bytes, words-back}
-use Rattle.coding.proofs.Parts.{Long, length-announced}
+use Rattle.coding.proofs.Parts.{Streams, Long, length-announced, streams}
 
 -- a part behind another, and one at the front
 pub part-behind : (j k n : ℕ) (a r : List ℕ) → length a ≡ j → part (j + k) n (a ++ r) ≡ part k n r
@@ -44,46 +44,40 @@ long s t =
       auxiliaries = t .auxiliaries .0;
     }
 
+-- what is announced
+pub announced-back : (a : Announced) → Streams a → announcedOf (announcedBytes a) ≡ a
+unfolding announcedOf announcedBytes wordBytes
+announced-back a n =
+    let n₁ = n .0 in
+    let n₂ = n .1 in
+    let t : List ℕ = wordBytes (a .«ts_id») in
+    let o : List ℕ = wordBytes (a .«original_network_id») in
+    let t-long : length t ≡ 30 = length-bytes (a .«ts_id») ∙ omega arith in
+    let o-long : length o ≡ 30 = length-bytes (a .«original_network_id») ∙ omega arith in
+    let e : List ℕ = a .«emergency_indicator» ∷ [] in
+    let r : List ℕ = a .«receive_status» in
+    let i : List ℕ = a .«slot_allocation_type» ∷ a .«frame_type» ∷ wordBytes (a .availability ∷ []) in
+    let same : a .availability / 256 * 256 + a .availability % 256 ≡ a .availability = omega arith in
+    rw (
+      eq-eqb (length (announcedBytes a)) announcedLength (length-announced a n),
+      part-behind 4 0 30 i (t ++ (o ++ (r ++ e))) refl ∙ part-first 30 t (o ++ (r ++ e)) t-long,
+      part-behind 4 30 30 i (t ++ (o ++ (r ++ e))) refl ∙ part-behind 30 0 30 t (o ++ (r ++ e)) t-long ∙ part-first 30 o (r ++ e) o-long,
+      part-behind 4 60 15 i (t ++ (o ++ (r ++ e))) refl ∙ part-behind 30 30 15 t (o ++ (r ++ e)) t-long ∙ part-behind 30 0 15 o (r ++ e) o-long ∙ part-first 15 r e (n .2),
+      byte-behind 4 75 i (t ++ (o ++ (r ++ e))) refl ∙ byte-behind 30 45 t (o ++ (r ++ e)) t-long ∙ byte-behind 30 15 o (r ++ e) o-long ∙ byte-behind 15 0 r e (n .2),
+      words-back (a .«ts_id»),
+      words-back (a .«original_network_id»),
+      same,
+    ) refl
+
 module _ (s : Setting) (l : Long s) where
   abbrev a : Announced
   a = announced s
-
-  abbrev t : List ℕ
-  t = wordBytes (s .«ts_id»)
-
-  abbrev o : List ℕ
-  o = wordBytes (s .«original_network_id»)
-
-  t-long : length t ≡ 30
-  t-long = let n = l .ts-id in length-bytes (s .«ts_id») ∙ omega arith
-
-  o-long : length o ≡ 30
-  o-long = let n = l .network-id in length-bytes (s .«original_network_id») ∙ omega arith
-
-  -- what is announced
-  pub announced-back : announcedOf (announcedBytes a) ≡ a
-  unfolding announcedOf announcedBytes announced wordBytes
-  announced-back =
-      let e : List ℕ = s .«emergency_indicator» ∷ [] in
-      let r : List ℕ = s .«receive_status» in
-      let i : List ℕ = s .«slot_allocation_type» ∷ s .«frame_type» ∷ wordBytes (s .availability ∷ []) in
-      let same : s .availability / 256 * 256 + s .availability % 256 ≡ s .availability = omega arith in
-      rw (
-        eq-eqb (length (announcedBytes a)) announcedLength (length-announced s l),
-        part-behind 4 0 30 i (t ++ (o ++ (r ++ e))) refl ∙ part-first 30 t (o ++ (r ++ e)) t-long,
-        part-behind 4 30 30 i (t ++ (o ++ (r ++ e))) refl ∙ part-behind 30 0 30 t (o ++ (r ++ e)) t-long ∙ part-first 30 o (r ++ e) o-long,
-        part-behind 4 60 15 i (t ++ (o ++ (r ++ e))) refl ∙ part-behind 30 30 15 t (o ++ (r ++ e)) t-long ∙ part-behind 30 0 15 o (r ++ e) o-long ∙ part-first 15 r e (l .statuses),
-        byte-behind 4 75 i (t ++ (o ++ (r ++ e))) refl ∙ byte-behind 30 45 t (o ++ (r ++ e)) t-long ∙ byte-behind 30 15 o (r ++ e) o-long ∙ byte-behind 15 0 r e (l .statuses),
-        words-back (s .«ts_id»),
-        words-back (s .«original_network_id»),
-        same,
-      ) refl
 
   -- a setting takes 252 bytes
   pub length-setting : length (settingBytes s) ≡ settingLength
   unfolding settingBytes
   length-setting =
-      let la = length-announced s l in
+      let la = length-announced a (streams s l) in
       let ln = l .numbers in
       let lp = l .privates in
       let lx = l .auxiliaries in
@@ -99,7 +93,7 @@ module _ (s : Setting) (l : Long s) where
   pub back : settingOf (settingBytes s) ≡ s
   unfolding settingOf settingBytes announced
   back =
-      let la = length-announced s l in
+      let la = length-announced a (streams s l) in
       let ln = l .numbers in
       let lp = l .privates in
       let lx = l .auxiliaries in
@@ -116,7 +110,7 @@ module _ (s : Setting) (l : Long s) where
       rw (
         eq-eqb (length (settingBytes s)) settingLength length-setting,
         part-behind 2 0 80 c m refl ∙ part-first 80 (announcedBytes a) n la,
-        announced-back,
+        announced-back a (streams s l),
         part-behind 2 80 52 c m refl ∙ part-behind 80 0 52 (announcedBytes a) n la ∙ part-first 52 (s .«relative_ts_number») p ln,
         part-behind 2 132 85 c m refl ∙ part-behind 80 52 85 (announcedBytes a) n la ∙ part-behind 52 0 85 (s .«relative_ts_number») p ln ∙ part-first 85 (s .«private_data») x lp,
         part-behind 2 217 28 c m refl ∙ part-behind 80 137 28 (announcedBytes a) n la ∙ part-behind 52 85 28 (s .«relative_ts_number») p ln

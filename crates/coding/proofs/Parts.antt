@@ -24,9 +24,12 @@ length-part k n b h = length-take-le n (drop k b) (rw (length-drop k b) (omega a
 pub copied-part : (n k : ℕ) (b : List ℕ) → k + n ≤ length b → copied (replicate n 0) (part k n b) ≡ part k n b
 copied-part n k b h = copied-over (replicate n 0) (part k n b) (length-replicate n 0 ∙ sym (length-part k n b h))
 
+-- how long the lists of what is announced are, which the types say
+abbrev pub Streams : Announced → Type 0
+Streams a = (length (a .«ts_id») ≡ lastStream) × (length (a .«original_network_id») ≡ lastStream) × (length (a .«receive_status») ≡ lastStream)
+
 -- what is announced: five parts of a list of 80 bytes, filled one after the other
-pub announced-parts : (a : Announced) (bytes i t o r : List ℕ) → length bytes ≡ announcedLength
-    → (length (a .«ts_id») ≡ lastStream) × (length (a .«original_network_id») ≡ lastStream) × (length (a .«receive_status») ≡ lastStream)
+pub announced-parts : (a : Announced) (bytes i t o r : List ℕ) → length bytes ≡ announcedLength → Streams a
     → i ≡ a .«slot_allocation_type» ∷ a .«frame_type» ∷ wordBytes (a .availability ∷ [])
     → t ≡ wordBytes (a .«ts_id»)
     → o ≡ wordBytes (a .«original_network_id»)
@@ -47,6 +50,21 @@ announced-parts a bytes i t o r long streams pi pt po pr =
     ∙ simp append-assoc
     (rw (pi, pt, po, pr) refl)
 
+-- what is announced takes 80 bytes
+pub length-announced : (a : Announced) → Streams a → length (announcedBytes a) ≡ announcedLength
+unfolding announcedBytes wordBytes
+length-announced a streams =
+    let lt = length-bytes (a .«ts_id») in
+    let lo = length-bytes (a .«original_network_id») in
+    let n₁ = streams .0 in
+    let n₂ = streams .1 in
+    let n₃ = streams .2 in
+    rw (
+      length-append (wordBytes (a .«ts_id»)) (wordBytes (a .«original_network_id») ++ (a .«receive_status» ++ (a .«emergency_indicator» ∷ []))),
+      length-append (wordBytes (a .«original_network_id»)) (a .«receive_status» ++ (a .«emergency_indicator» ∷ [])),
+      length-append (a .«receive_status») (a .«emergency_indicator» ∷ []),
+    ) (omega arith)
+
 -- how long a setting's lists are, which the types say
 pub record Long (s : Setting) : Type 0 where
   pub ts-id : length (s .«ts_id») ≡ lastStream
@@ -56,20 +74,10 @@ pub record Long (s : Setting) : Type 0 where
   pub privates : length (s .«private_data») ≡ privateBytes
   pub auxiliaries : length (s .auxiliary) ≡ auxiliaryBytes
 
--- what is announced takes 80 bytes
-pub length-announced : (s : Setting) → Long s → length (announcedBytes (announced s)) ≡ announcedLength
-unfolding announcedBytes announced wordBytes
-length-announced s long =
-    let lt = length-bytes (s .«ts_id») in
-    let lo = length-bytes (s .«original_network_id») in
-    let n₁ = long .ts-id in
-    let n₂ = long .network-id in
-    let n₃ = long .statuses in
-    rw (
-      length-append (wordBytes (s .«ts_id»)) (wordBytes (s .«original_network_id») ++ (s .«receive_status» ++ (s .«emergency_indicator» ∷ []))),
-      length-append (wordBytes (s .«original_network_id»)) (s .«receive_status» ++ (s .«emergency_indicator» ∷ [])),
-      length-append (s .«receive_status») (s .«emergency_indicator» ∷ []),
-    ) (omega arith)
+-- and those of what it announces
+pub streams : (s : Setting) → Long s → Streams (announced s)
+unfolding announced
+streams s long = (long .ts-id, long .network-id, long .statuses)
 
 -- a setting: six parts of a list of 252 bytes, filled one after the other
 pub setting-parts : (s : Setting) (bytes c a n p x g : List ℕ) → length bytes ≡ settingLength → Long s
@@ -83,7 +91,7 @@ pub setting-parts : (s : Setting) (bytes c a n p x g : List ℕ) → length byte
 unfolding settingBytes
 setting-parts s bytes c a n p x g whole long pc pa pn pp px pg =
     let f₁ = front-part bytes [] bytes c 0 2 (front-none bytes) (ap length pc) in
-    let f₂ = front-part bytes c _ a 2 80 f₁ (ap length pa ∙ length-announced s long) in
+    let f₂ = front-part bytes c _ a 2 80 f₁ (ap length pa ∙ length-announced (announced s) (streams s long)) in
     let f₃ = front-part bytes (c ++ a) _ n 82 52 f₂ (ap length pn ∙ long .numbers) in
     let f₄ = front-part bytes (c ++ a ++ n) _ p 134 85 f₃ (ap length pp ∙ long .privates) in
     let f₅ = front-part bytes (c ++ a ++ n ++ p) _ x 219 28 f₄ (ap length px ∙ long .auxiliaries) in

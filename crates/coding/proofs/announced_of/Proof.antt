@@ -1,9 +1,8 @@
 -- `announced_of` meets its contract. Assumes nothing.
-use mathlib.Core.Path.{_≡_, refl, sym, _∙_}
+use mathlib.Core.Path.{refl, sym, _∙_}
 use native.Mathlib.Omega.{arith}
 use borrow.Author.Tests.{eq-eqb, ne-eqb}
 use lib.ListN.{length, replicate}
-use lib.Seq.{length-take-le}
 use Rattle.slices.proofs.Front.{copied-over}
 use Rattle.setting.specs.Setting.{blank}
 use Rattle.frame.specs.Composing.{announced}

@@ -1,13 +1,12 @@
 -- `setting_of` meets its contract. Assumes nothing.
-use mathlib.Core.Path.{_≡_, refl, sym, _∙_}
+use mathlib.Core.Path.{refl, _∙_}
 use native.Mathlib.Omega.{arith}
 use borrow.Author.Tests.{eq-eqb, ne-eqb}
-use lib.ListN.{length, replicate}
-use Rattle.slices.proofs.Front.{copied-over}
+use lib.ListN.{length}
 use Rattle.setting.specs.Counters.{lastSlot}
 use Rattle.setting.specs.Setting.{privateBytes, auxiliaryBytes}
-use Rattle.coding.specs.Settings.{settingLength, settingOf, part}
-use Rattle.coding.proofs.Parts.{length-part, copied-part}
+use Rattle.coding.specs.Settings.{settingLength, settingOf}
+use Rattle.coding.proofs.Parts.{copied-part}
 use borrow.Author.Needs.{needs}
 use Rattle.coding.proofs.setting_of.Statement.{statement}
 use Rattle.coding.proofs.setting_of.Tie as tie

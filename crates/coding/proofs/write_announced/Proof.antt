@@ -1,21 +1,20 @@
 -- `write_announced` meets its contract: five parts, one behind the other. Assumes nothing.
-use Prim.Native.Nat.{ℕ, _*_}
-use mathlib.Core.Path.{_≡_, refl, sym, _∙_}
+use Prim.Native.Nat.{ℕ}
+use mathlib.Core.Path.{_≡_, sym, _∙_}
 use mathlib.Core.List.{List}
 use native.Mathlib.Omega.{arith}
 use borrow.Author.Tests.{eq-eqb, ne-eqb}
 use borrow.Rule.Slice.PartMut.{same-len-mid, mid-len}
 use lib.ListN.{length, take, drop, length-set}
-use Rattle.setting.specs.Counters.{lastStream}
 use Rattle.slices.proofs.Front.{put, copied-over}
-use Rattle.coding.specs.Settings.{announcedLength, announcedBytes}
-use Rattle.coding.proofs.Parts.{announced-parts}
+use Rattle.coding.specs.Settings.{announcedLength}
+use Rattle.coding.proofs.Parts.{Streams, announced-parts}
 use borrow.Author.Needs.{needs}
 use Rattle.coding.proofs.write_announced.Statement.{statement}
 use Rattle.coding.proofs.write_announced.Tie as tie
 
 -- what arrays have, which their types say
-streams : (c : tie.Start) → (length (c .args .a .«ts_id») ≡ lastStream) × (length (c .args .a .«original_network_id») ≡ lastStream) × (length (c .args .a .«receive_status») ≡ lastStream)
+streams : (c : tie.Start) → Streams (c .args .a)
 streams c = (search needs, search needs, search needs)
 
 -- the places after each part, from the later to the earlier

@@ -6,8 +6,6 @@ use native.Mathlib.Omega.{arith}
 use borrow.Author.Tests.{eq-eqb, ne-eqb}
 use borrow.Rule.Slice.PartMut.{same-len-mid, mid-len}
 use lib.ListN.{length, take, drop}
-use Rattle.setting.specs.Counters.{lastStream, lastSlot}
-use Rattle.setting.specs.Setting.{privateBytes, auxiliaryBytes}
 use Rattle.slices.proofs.Front.{put, copied-over}
 use Rattle.frame.specs.Composing.{announced}
 use Rattle.coding.specs.Settings.{announcedLength, announcedBytes, settingLength}
