@@ -7,7 +7,6 @@ made=$(mktemp -d)
 trap 'rm -r "$made"' EXIT
 (cd compare && cargo build --release)
 compare/target/release/lister_cases "$made"
-compare/target/release/header_cases "$made"
 compare/target/release/frame_cases "$made"
 compare/target/release/bond_cases "$made"
 compare/target/release/bonded_cases "$made"
@@ -24,7 +23,6 @@ for case in $cases; do
     cat "$made/$case.out" >> "$lister/stdout"
     echo "$case" >> "$lister/args"
 done
-cp "$made/headers.out" crates/header_cases/stdout
 mkdir -p crates/frame_cases
 cp "$made/frames.out" crates/frame_cases/stdout
 mkdir -p crates/bond_cases

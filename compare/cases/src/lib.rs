@@ -6,7 +6,6 @@ pub mod bonds;
 mod drawn;
 pub mod frames;
 pub mod generator;
-pub mod headers;
 pub mod lister;
 pub mod output;
 
