@@ -1,8 +1,18 @@
 //! Lent bytes, twice: what the archive is lent, between red zones, and what
 //! the reference is lent; and how both were before the call.
 
+use std::env;
+use std::sync::OnceLock;
+
 /// Bytes in front of and behind what the archive is lent.
 const ZONE: usize = 64;
+
+/// Whether what is lent stands alone in its block, for a tool that watches
+/// every access: NIRANBOK_BARE is set.
+fn is_bare() -> bool {
+    static BARE: OnceLock<bool> = OnceLock::new();
+    *BARE.get_or_init(|| env::var_os("NIRANBOK_BARE").is_some())
+}
 
 pub struct Lent {
     /// Zone, lent bytes, zone. The first zone may be some bytes longer, so
@@ -33,8 +43,11 @@ impl Lent {
 
     /// So many bytes behind where it would start else.
     pub fn shifted(bytes: &[u8], shift: usize) -> Lent {
-        let start = ZONE + shift;
-        let mut zoned: Vec<u8> = (0..start + bytes.len() + ZONE).map(pattern).collect();
+        let (start, behind) = match is_bare() {
+            true => (0, 0),
+            false => (ZONE + shift, ZONE),
+        };
+        let mut zoned: Vec<u8> = (0..start + bytes.len() + behind).map(pattern).collect();
         zoned[start..start + bytes.len()].copy_from_slice(bytes);
         Lent {
             zoned,

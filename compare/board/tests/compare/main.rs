@@ -42,29 +42,30 @@ const fn family(name: &'static str, rounds: u64, run: fn(&mut Judge, &mut Random
 
 fn main() {
     let mut judge = Judge::default();
-    let times = times();
+    let (times, part) = (number("NIRANBOK_ROUNDS"), number("NIRANBOK_PART"));
     let start = Instant::now();
     for (place, family) in FAMILIES.iter().enumerate() {
-        run(family, place as u64, times, &mut judge);
+        let rounds = (family.rounds * times / part).max(1);
+        run(family, place as u64, rounds, &mut judge);
     }
     let seconds = start.elapsed().as_secs_f64();
     println!("\n{}", table(&judge.tally));
     println!("what packets did: {}", events(&judge));
     println!("{} calls in {seconds:.1} s", judge.calls());
-    end(&judge);
+    end(&judge, part == 1);
 }
 
-/// How many times as many rounds as by default.
-fn times() -> u64 {
-    match env::var("NIRANBOK_ROUNDS") {
-        Ok(times) => times.parse().expect("NIRANBOK_ROUNDS is a number"),
+/// How many times as many rounds as by default, or which part of them.
+fn number(name: &str) -> u64 {
+    match env::var(name) {
+        Ok(number) => number.parse().unwrap_or_else(|_| panic!("{name} is a number from 1 on")),
         Err(_) => 1,
     }
 }
 
-fn run(family: &Family, place: u64, times: u64, judge: &mut Judge) {
+fn run(family: &Family, place: u64, rounds: u64, judge: &mut Judge) {
     let (start, before) = (Instant::now(), judge.calls());
-    for number in 0..family.rounds * times {
+    for number in 0..rounds {
         let seed = place << 32 | number;
         judge.round = Round {
             family: family.name,
@@ -78,7 +79,12 @@ fn run(family: &Family, place: u64, times: u64, judge: &mut Judge) {
     println!("{:<10} {calls:>8} calls in {seconds:>5.1} s", family.name);
 }
 
-fn end(judge: &Judge) {
+/// A part of the rounds need not reach everything.
+fn end(judge: &Judge, is_whole: bool) {
+    if !is_whole {
+        println!("both sides agree");
+        return;
+    }
     let unreached = unreached(judge);
     for lack in &unreached {
         println!("{lack}");
