@@ -4,7 +4,7 @@ use mathlib.Core.Path.{_≡_, refl, sym, ap, ap₂, _∙_}
 use mathlib.Core.List.{List, [], _∷_, _++_, append-assoc, append-nil}
 use native.Mathlib.Omega.{arith}
 use lib.ListN.{length}
-use Rattle.bits.specs.Fields.{bitsOf, run}
+use Rattle.bits.specs.Fields.{run}
 use Rattle.bits.proofs.Laws.{run-append}
 use Rattle.slices.proofs.Front.{put, front-none, front-part, front-all}
 use Rattle.setting.specs.declared.Kind.{Kind}
@@ -36,16 +36,16 @@ body-is kind pid s =
     ∙ ap (λ (l : List ℕ). pack controlRows (controlContent s) ++ l) (pack-append numberRows (privateRows kind) (numberContent s) (privateContent kind s) refl)))
 
 -- the five parts of a list of 184 bytes, filled one after the other
-pub body-parts : (kind : Kind) (pid : ℕ) (s : Setting) (part a b c d e : List ℕ) (left : ℕ)
+pub body-parts : (kind : Kind) (pid : ℕ) (s : Setting) (part a b c d e : List ℕ)
     → length part ≡ 184 → length a ≡ 9 → length b ≡ 60 → length c ≡ 4 → length d ≡ 26 → length e ≡ 85
     → run 8 a ≡ pack startRows (startContent pid s)
     → run 8 b ≡ run 16 (paired (s .«ts_id») (s .«original_network_id»))
     → run 8 c ≡ pack controlRows (controlContent s)
-    → run 8 d ++ bitsOf 0 left ≡ run 4 (s .«relative_ts_number»)
+    → run 8 d ≡ run 4 (s .«relative_ts_number»)
     → run 8 e ≡ pack (privateRows kind) (privateContent kind s)
     → run 8 (put 99 85 (put 73 26 (put 69 4 (put 9 60 (put 0 9 part a) b) c) d) e) ≡ body kind pid s
-unfolding identifierRows identifierContent numberRows numberContent pack bitsOf
-body-parts kind pid s part a b c d e left l la lb lc ld le pa pb pc pd pe =
+unfolding identifierRows identifierContent numberRows numberContent pack
+body-parts kind pid s part a b c d e l la lb lc ld le pa pb pc pd pe =
     let f₁ = front-part part [] part a 0 9 (front-none part) la in
     let f₂ = front-part part a _ b 9 60 f₁ lb in
     let f₃ = front-part part (a ++ b) _ c 69 4 f₂ lc in
@@ -55,5 +55,5 @@ body-parts kind pid s part a b c d e left l la lb lc ld le pa pb pc pd pe =
     ∙ run-append 8 a (b ++ (c ++ (d ++ e))) ∙ ap₂ (λ (x y : List ℕ). x ++ y) pa
     (run-append 8 b (c ++ (d ++ e)) ∙ ap₂ (λ (x y : List ℕ). x ++ y) (pb ∙ sym (append-nil _))
     (run-append 8 c (d ++ e) ∙ ap₂ (λ (x y : List ℕ). x ++ y) pc
-    (run-append 8 d e ∙ ap₂ (λ (x y : List ℕ). x ++ y) (sym (append-nil (run 8 d)) ∙ pd ∙ sym (append-nil (run 4 (s .«relative_ts_number»)))) pe)))
+    (run-append 8 d e ∙ ap₂ (λ (x y : List ℕ). x ++ y) (pd ∙ sym (append-nil (run 4 (s .«relative_ts_number»)))) pe)))
     ∙ sym (body-is kind pid s)

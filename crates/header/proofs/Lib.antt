@@ -6,6 +6,7 @@ pub mod Calls
 mod Content
 mod Control
 mod Cut
+mod Halves
 mod Identifiers
 mod LaidOut
 pub mod Packet

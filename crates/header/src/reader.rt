@@ -123,10 +123,9 @@ pub(crate) fn setting_of(packet: &[u8], kind: Kind) -> Setting
         packet,
     );
     let mut relative_ts_number = [0u8; SLOTS];
-    packed::read_run(
+    packed::read_halves(
         &mut relative_ts_number,
         &packet[places::NUMBERS..places::PRIVATE],
-        4,
     );
     let mut private_data = [0u8; PRIVATE_BYTES];
     let mut auxiliary = [0u8; AUXILIARY_BYTES];

@@ -126,10 +126,9 @@ fn write_body(part: &mut [u8], pid: u16, kind: Kind, s: Setting)
     );
     write_control(&mut part[places::CONTROL..places::NUMBERS], s);
     let relative_ts_number = s.relative_ts_number;
-    packed::write_run(
+    packed::write_halves(
         &mut part[places::NUMBERS..places::PRIVATE],
         &relative_ts_number,
-        4,
     );
     write_private(&mut part[places::PRIVATE..places::CRC], kind, s);
 }

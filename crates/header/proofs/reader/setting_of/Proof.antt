@@ -18,20 +18,20 @@ slice-aggregate-read-streams-3 c = search needs
 read-streams-requires : tie.Need-read-streams-requires
 read-streams-requires c κs = search needs
 
-slice-aggregate-read-run : tie.Need-slice-aggregate-read-run
-slice-aggregate-read-run c = search needs
+slice-aggregate-read-halves : tie.Need-slice-aggregate-read-halves
+slice-aggregate-read-halves c = search needs
 
-sub-read-run : tie.Need-sub-read-run
-sub-read-run c = search needs
+sub-read-halves : tie.Need-sub-read-halves
+sub-read-halves c = search needs
 
-part-read-run-start : tie.Need-part-read-run-start
-part-read-run-start c = search needs
+part-read-halves-start : tie.Need-part-read-halves-start
+part-read-halves-start c = search needs
 
-part-read-run-end : tie.Need-part-read-run-end
-part-read-run-end c = search needs
+part-read-halves-end : tie.Need-part-read-halves-end
+part-read-halves-end c = search needs
 
-read-run-requires : tie.Need-read-run-requires
-read-run-requires c κs = search needs
+read-halves-requires : tie.Need-read-halves-requires
+read-halves-requires c κs = search needs
 
 slice-aggregate-read-private : tie.Need-slice-aggregate-read-private
 slice-aggregate-read-private c = search needs
@@ -104,7 +104,7 @@ returns c =
       ts-id = streams .read-streams .last .0;
       network-id = streams .read-streams .last .1 .0;
       statuses = streams .read-streams .last .1 .1 .0;
-      numbers = run .read-run .last .0;
+      numbers = run .read-halves .last .0;
       privates = private .read-private .last .0;
       auxiliaries = private .read-private .last .1 .0;
       bonding = private .read-private .last .1 .1 .0;
@@ -114,7 +114,7 @@ returns c =
       ts-id = streams .read-streams .ensures .0 ∙ same .0;
       network-id = streams .read-streams .ensures .1 .0 ∙ same .1;
       statuses = streams .read-streams .ensures .1 .1 ∙ same .2;
-      numbers = run .read-run .ensures;
+      numbers = run .read-halves .ensures;
       privates = private .read-private .ensures .0;
       auxiliaries = private .read-private .ensures .1 .0;
       bonding = private .read-private .ensures .1 .1;
@@ -128,11 +128,11 @@ setting-of-spec =
     slice-aggregate-read-streams-2
     slice-aggregate-read-streams-3
     read-streams-requires
-    slice-aggregate-read-run
-    sub-read-run
-    part-read-run-start
-    part-read-run-end
-    read-run-requires
+    slice-aggregate-read-halves
+    sub-read-halves
+    part-read-halves-start
+    part-read-halves-end
+    read-halves-requires
     slice-aggregate-read-private
     slice-aggregate-read-private-2
     slice-aggregate-read-private-3

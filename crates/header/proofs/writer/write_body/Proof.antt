@@ -22,7 +22,7 @@ started c = c .before .before .before .before .before .before .before .before
 abbrev identified : tie.After-write-control → tie.After-write-identifiers
 identified c = c .before .before .before .before
 
-abbrev controlled : tie.After-write-run → tie.After-write-control
+abbrev controlled : tie.After-write-halves → tie.After-write-control
 controlled c = c .before .before .before .before .before .before
 
 -- what arrays of the setting have, which their types say
@@ -60,14 +60,14 @@ after₃ c = put 69 4 (after₂ (identified c)) (c .write-control .last .0)
 whole₃ : (c : tie.After-write-control) → length (after₃ c) ≡ 184
 whole₃ c = same-len-mid 69 4 (after₂ (identified c)) (c .write-control .last .0) (c .write-control .kept .0) ∙ whole₂ (identified c)
 
-twenty-six : (c : tie.After-write-run) → length (c .write-run .last .0) ≡ 26
-twenty-six c = c .write-run .kept .0 ∙ mid-len 73 99 (after₃ (controlled c)) (omega (arith, whole₃ (controlled c)))
+twenty-six : (c : tie.After-write-halves) → length (c .write-halves .last .0) ≡ 26
+twenty-six c = c .write-halves .kept .0 ∙ mid-len 73 99 (after₃ (controlled c)) (omega (arith, whole₃ (controlled c)))
 
-abbrev after₄ : tie.After-write-run → List ℕ
-after₄ c = put 73 26 (after₃ (controlled c)) (c .write-run .last .0)
+abbrev after₄ : tie.After-write-halves → List ℕ
+after₄ c = put 73 26 (after₃ (controlled c)) (c .write-halves .last .0)
 
-whole₄ : (c : tie.After-write-run) → length (after₄ c) ≡ 184
-whole₄ c = same-len-mid 73 26 (after₃ (controlled c)) (c .write-run .last .0) (c .write-run .kept .0) ∙ whole₃ (controlled c)
+whole₄ : (c : tie.After-write-halves) → length (after₄ c) ≡ 184
+whole₄ c = same-len-mid 73 26 (after₃ (controlled c)) (c .write-halves .last .0) (c .write-halves .kept .0) ∙ whole₃ (controlled c)
 
 sub-write-start : tie.Need-sub-write-start
 sub-write-start c = search needs
@@ -114,24 +114,25 @@ part-write-control-end c = search needs
 write-control-requires : tie.Need-write-control-requires
 write-control-requires c κs = search needs
 
-sub-write-run : tie.Need-sub-write-run
-sub-write-run c = search needs
+sub-write-halves : tie.Need-sub-write-halves
+sub-write-halves c = search needs
 
-part-write-run-start : tie.Need-part-write-run-start
-part-write-run-start c = search needs
+part-write-halves-start : tie.Need-part-write-halves-start
+part-write-halves-start c = search needs
 
-part-write-run-end : tie.Need-part-write-run-end
-part-write-run-end c = search needs
+part-write-halves-end : tie.Need-part-write-halves-end
+part-write-halves-end c = search needs
 
-slice-aggregate-write-run : tie.Need-slice-aggregate-write-run
-slice-aggregate-write-run c = sym (slots (start (started (identified (c .before .before .before .before .before)))))
+slice-aggregate-write-halves : tie.Need-slice-aggregate-write-halves
+slice-aggregate-write-halves c = sym (slots (start (started (identified (c .before .before .before .before .before)))))
 
-write-run-requires : tie.Need-write-run-requires
-write-run-requires c κs =
+write-halves-requires : tie.Need-write-halves-requires
+write-halves-requires c κs =
     let control = c .before .before .before .before .before in
     let s = start (started (identified control)) in
     let n = slots s in
-    (omega arith, (s .pre .1 .0 .numbers, mid-len 73 99 (after₃ control) (omega (arith, whole₃ control)) ∙ omega arith))
+    let room = mid-len 73 99 (after₃ control) (omega (arith, whole₃ control)) in
+    (s .pre .1 .0 .numbers, omega arith)
 
 sub-write-private : tie.Need-sub-write-private
 sub-write-private c = search needs
@@ -156,13 +157,11 @@ returns c =
     let identifiers = identified control in
     let first = started identifiers in
     let s = start first in
-    let n = slots s in
-    let none : length (s .args .s .«relative_ts_number») * 4 % 8 ≡ 0 = omega arith in
-    body-parts (s .args .kind) (s .args .pid) (s .args .s) (s .args .part .now) _ _ _ _ _ (numbers .write-run .result) (s .pre .0 .0)
+    body-parts (s .args .kind) (s .args .pid) (s .args .s) (s .args .part .now) _ _ _ _ _ (s .pre .0 .0)
     (nine first) (sixty identifiers) (four control) (twenty-six numbers)
     (private .write-private .kept .0 ∙ mid-len 99 184 (after₄ numbers) (omega (arith, whole₄ numbers)))
     (first .write-start .ensures) (identifiers .write-identifiers .ensures) (control .write-control .ensures)
-    (rw none at (numbers .write-run .ensures)) (private .write-private .ensures)
+    (numbers .write-halves .ensures) (private .write-private .ensures)
 
 pub write-body-spec : {M : Type 1} → statement M
 write-body-spec =
@@ -182,11 +181,11 @@ write-body-spec =
     part-write-control-start
     part-write-control-end
     write-control-requires
-    sub-write-run
-    part-write-run-start
-    part-write-run-end
-    slice-aggregate-write-run
-    write-run-requires
+    sub-write-halves
+    part-write-halves-start
+    part-write-halves-end
+    slice-aggregate-write-halves
+    write-halves-requires
     sub-write-private
     part-write-private-start
     part-write-private-end

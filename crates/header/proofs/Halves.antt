@@ -1,0 +1,80 @@
+-- Values of 4 bits, two a byte, a byte a turn: what the loops that write and read them need. Assumes nothing.
+use Prim.Native.Nat.{ℕ, zero, suc, _+_, _*_, _/_, _%_, _≤_, _<_, _^_}
+use mathlib.Core.Path.{_≡_, refl, sym, ap, ap₂, subst, _∙_}
+use mathlib.Core.List.{List, [], _∷_, _++_, append-nil}
+use native.Mathlib.Omega.{arith}
+use native.Mathlib.Numerals.{add-one}
+use lib.ListN.{length, take, drop, getD, set, length-append}
+use lib.Seq.{sets-eq, take-at, take-all, take-suc, length-take-le, take-suc-set}
+use Rattle.bits.specs.Fields.{Fit, none, more, bitsOf, run, cut}
+use Rattle.bits.proofs.Laws.{bitsOf-join, run-append, run-one, run-cons, fit-append, cut-run}
+
+-- two values are a byte
+halves : (a b : ℕ) → b < 16 → run 4 (a ∷ b ∷ []) ≡ run 8 ((a * 16 + b) ∷ [])
+halves a b h =
+    run-cons 4 a (b ∷ []) ∙ ap (λ (l : List ℕ). bitsOf 4 a ++ l) (run-one 4 b) ∙ bitsOf-join 4 4 a h ∙ sym (run-one 8 (a * 16 + b))
+
+-- two values more
+two-more : (k : ℕ) (vs : List ℕ) → 2 * k + 2 ≤ length vs → take (2 * k + 2) vs ≡ take (2 * k) vs ++ (getD vs (2 * k) 0 ∷ getD vs (2 * k + 1) 0 ∷ [])
+two-more k [] h = absurd (omega arith)
+two-more k (x ∷ []) h = absurd (omega arith)
+two-more zero (x ∷ y ∷ vs) h = refl
+two-more (suc k) (x ∷ y ∷ vs) h =
+    let behind : 2 * suc k + 2 ≡ suc (suc (2 * k + 2)) = omega arith in
+    let second : 2 * suc k + 1 ≡ suc (suc (2 * k + 1)) = omega arith in
+    let first : 2 * suc k ≡ suc (suc (2 * k)) = omega arith in
+    rw (behind, second, first) (ap (λ (l : List ℕ). x ∷ y ∷ l) (two-more k vs (omega arith)))
+
+-- two stores, one behind the other
+two-stored : (l : List ℕ) (at a b : ℕ) → at + 2 ≤ length l → take (at + 2) (set (set l at a) (at + 1) b) ≡ take at l ++ (a ∷ b ∷ [])
+two-stored l at a b h =
+    let vs = a ∷ b ∷ [] in
+    let front : length (take at l ++ vs) ≡ at + 2 = length-append (take at l) vs ∙ ap (λ (k : ℕ). k + 2) (length-take-le at l (omega arith)) in
+    rw (add-one at) (ap (take (at + 2)) (sets-eq vs l at h) ∙ take-at (take at l ++ vs) (drop (at + 2) l) (at + 2) front)
+
+-- a turn of the loop that writes
+pub half-written : (part vs : List ℕ) (k : ℕ) → k < length part → length vs ≡ 2 * length part → getD vs (2 * k + 1) 0 < 16
+    → run 8 (take k part) ≡ run 4 (take (2 * k) vs)
+    → run 8 (take (k + 1) (set part k (getD vs (2 * k) 0 * 16 + getD vs (2 * k + 1) 0))) ≡ run 4 (take (2 * (k + 1)) vs)
+half-written part vs k h long fit e =
+    let a = getD vs (2 * k) 0 in
+    let b = getD vs (2 * k + 1) 0 in
+    let next : 2 * (k + 1) ≡ 2 * k + 2 = omega arith in
+    ap (run 8) (ap (λ (n : ℕ). take n (set part k (a * 16 + b))) (add-one k) ∙ take-suc-set part k (a * 16 + b) h)
+    ∙ run-append 8 (take k part) ((a * 16 + b) ∷ [])
+    ∙ ap₂ (λ (x y : List ℕ). x ++ y) e (sym (halves a b fit))
+    ∙ sym (run-append 4 (take (2 * k) vs) (a ∷ b ∷ []))
+    ∙ ap (run 4) (sym (two-more k vs (omega arith)) ∙ ap (λ (n : ℕ). take n vs) (sym next))
+
+-- after k turns of the loop that reads
+pub record Halved (vs part : List ℕ) (k : ℕ) : Type 0 where
+  pub same : run 4 (take (2 * k) vs) ≡ run 8 (take k part)
+  pub fit : Fit 4 (take (2 * k) vs)
+
+pub halved-none : (vs part : List ℕ) → Halved vs part 0
+unfolding run
+halved-none vs part = record { same = refl; fit = none }
+
+-- a byte less than 256 is its halves
+pub halved-next : (vs part : List ℕ) (k : ℕ) → k < length part → length vs ≡ 2 * length part → getD part k 0 < 2 ^ 8 → Halved vs part k
+    → Halved (set (set vs (2 * k) (getD part k 0 / 16)) (2 * k + 1) (getD part k 0 % 16)) part (k + 1)
+halved-next vs part k h long byte turn =
+    let x = getD part k 0 in
+    let next : 2 * (k + 1) ≡ 2 * k + 2 = omega arith in
+    let whole : x / 16 * 16 + x % 16 ≡ x = omega arith in
+    let front =
+    ap (λ (n : ℕ). take n (set (set vs (2 * k) (x / 16)) (2 * k + 1) (x % 16))) next ∙ two-stored vs (2 * k) (x / 16) (x % 16) (omega arith) in
+    record {
+      same =
+          ap (run 4) front ∙ run-append 4 (take (2 * k) vs) (x / 16 ∷ x % 16 ∷ [])
+          ∙ ap₂ (λ (l r : List ℕ). l ++ r) (turn .same) (halves (x / 16) (x % 16) (omega arith) ∙ ap (λ (n : ℕ). run 8 (n ∷ [])) whole)
+          ∙ sym (run-append 8 (take k part) (x ∷ [])) ∙ ap (run 8) (sym (take-suc part k 0 h) ∙ ap (λ (n : ℕ). take n part) (sym (add-one k)));
+      fit = subst (Fit 4) (sym front) (fit-append (turn .fit) (more (omega arith) (more (omega arith) none)));
+    }
+
+-- all values
+pub halved-all : (vs part : List ℕ) → length vs ≡ 2 * length part → Halved vs part (length part) → vs ≡ cut 4 (length vs) (run 8 part)
+halved-all vs part long turn =
+    let every : take (2 * length part) vs ≡ vs = take-all (2 * length part) vs (omega arith) in
+    sym (cut-run (subst (Fit 4) every (turn .fit)) [])
+    ∙ ap (cut 4 (length vs)) (append-nil (run 4 vs) ∙ ap (run 4) (sym every) ∙ turn .same ∙ ap (run 8) (take-all (length part) part (omega arith)))
