@@ -22,7 +22,7 @@ pub record Uncoded (state : List ℕ) : Type 0 where
   pub pid-allowed : pidAllowed (wordAt 0 state) ≡ true
   pub no-state : isCoded state ≡ false
 
--- 'Bytes that are no state's are refused with 17', by each call to which the rest is lent as it should be.
+-- Bytes that are no state's are refused with 17 by each call to which the rest is lent as it should be.
 abbrev pub UncodedRefused : Type 0
 UncodedRefused =
     (state frame : List ℕ) → Uncoded state → length frame ≡ frameLength
