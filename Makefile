@@ -34,9 +34,11 @@ board-test: board
 	target/board/board
 	cd compare && cargo test --quiet -p board
 
-# Both implementations and bare copies, measured in one run.
+# Both implementations and bare copies, measured in one run; then the lister.
 bench: board
+	rt check lister | tail -n 1
 	cd compare && cargo run --quiet --release -p board --bin bench
+	compare/lister.sh target/bin/lister
 
 # The same comparison, shorter, with every access watched.
 memory: board

@@ -128,7 +128,8 @@ extern "C" {
  * closed header (15 and 7 before the first), what that header announced (slot_allocation_type,
  * frame_type, 2 bytes of availability, 30 of TS_id, 30 of original_network_id, 15 of receive_status,
  * emergency_indicator), whether a frame is open (0 or 1), its setting (252 bytes), and for each of
- * slots 1 to 52 whether it is filled (0 or 1). A kind or a mark above 1 is a 17.
+ * slots 1 to 52 whether it is filled (0 or 1). A kind or a mark above 1 is a 17. While no frame is
+ * open, the setting and the marks are not looked at beyond that, and calls leave zeros there.
  *
  * A receiver's state: header PID (2 bytes), kind, stage (0 waiting, 1 a frame is open, 2 the frame
  * before the open one is ready), the open frame's counter (0 while waiting), how many packets of it
