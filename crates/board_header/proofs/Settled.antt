@@ -5,7 +5,7 @@ use mathlib.Core.Bool.{Bool, not}
 use mathlib.Core.List.{List, [], _∷_}
 use lib.Dec.{eqb}
 use borrow.Author.Tests.{eqb-true, not-false}
-use Rattle.setting.specs.Refusal.{Check, firstOf, NoneHolds, more}
+use Rattle.setting.specs.Refusal.{Check, NoneHolds, more}
 use Rattle.setting.specs.Rules.{pidAllowed}
 use Rattle.setting.proofs.Refusals.{none-first}
 use Rattle.header.specs.Header.{headerLength}

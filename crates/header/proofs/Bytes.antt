@@ -1,8 +1,7 @@
 -- Fields of a few bits as whole bytes: what byte-wise code needs of the bit-wise definition. Assumes nothing.
-use Prim.Native.Nat.{ℕ, _+_, _*_, _/_, _%_, _^_, _≤_, _<_}
+use Prim.Native.Nat.{ℕ, _+_, _*_, _/_, _%_, _^_, _<_}
 use mathlib.Core.Path.{_≡_, sym, ap, ap₂, _∙_}
 use mathlib.Core.List.{List, _++_, append-assoc}
-use native.Mathlib.Omega.{arith}
 use Rattle.bits.specs.Fields.{bitsOf}
 use Rattle.bits.proofs.Laws.{bitsOf-split, bitsOf-join, bitsOf-mod}
 

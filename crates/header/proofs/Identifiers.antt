@@ -4,8 +4,9 @@ use mathlib.Core.Path.{_≡_, refl, sym, ap, ap₂, _∙_}
 use mathlib.Core.List.{List, [], _∷_, _++_, append-assoc}
 use native.Mathlib.Omega.{arith}
 use native.Mathlib.Numerals.{add-one, add-two, add-three}
-use lib.ListN.{length, take, drop, getD, set, length-append}
-use lib.Seq.{sets-eq, take-at, length-take-le, take-suc-set}
+use lib.ListN.{length, take, drop, getD, set}
+use lib.Seq.{take-suc-set}
+use Rattle.slices.proofs.Front.{stored-behind}
 use Rattle.bits.specs.Fields.{Fit, bitsOf, number, run, cut}
 use Rattle.bits.proofs.Laws.{run-append, length-cut, cut-more}
 use Rattle.header.specs.Header.{paired, firsts, seconds}
@@ -15,10 +16,7 @@ use Rattle.header.proofs.Cut.{word-at}
 -- four stores, one behind the other
 pub four-stored : (l : List ℕ) (at a b c d : ℕ) → at + 4 ≤ length l
     → take (at + 4) (set (set (set (set l at a) (at + 1) b) (at + 2) c) (at + 3) d) ≡ take at l ++ (a ∷ b ∷ c ∷ d ∷ [])
-four-stored l at a b c d h =
-    let vs = a ∷ b ∷ c ∷ d ∷ [] in
-    let front : length (take at l ++ vs) ≡ at + 4 = length-append (take at l) vs ∙ ap (λ (k : ℕ). k + 4) (length-take-le at l (omega arith)) in
-    rw (add-one at, add-two at, add-three at) (ap (take (at + 4)) (sets-eq vs l at h) ∙ take-at (take at l ++ vs) (drop (at + 4) l) (at + 4) front)
+four-stored l at a b c d h = rw (add-one at, add-two at, add-three at) (stored-behind (a ∷ b ∷ c ∷ d ∷ []) l at h)
 
 -- one stream more
 pub paired-more : (k : ℕ) (ts os : List ℕ) → k < length ts → k < length os

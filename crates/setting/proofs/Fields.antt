@@ -1,7 +1,7 @@
 -- What the checks say of a setting's fields. Assumes nothing.
-use Prim.Native.Nat.{ℕ, zero, suc, _^_, _≤_, _<_}
-use mathlib.Core.Path.{_≡_, refl, sym, subst}
-use mathlib.Core.Bool.{Bool, true, false}
+use Prim.Native.Nat.{ℕ, _^_, _≤_, _<_}
+use mathlib.Core.Path.{_≡_, sym, subst}
+use mathlib.Core.Bool.{true, false}
 use mathlib.Core.List.{List}
 use native.Mathlib.Omega.{arith}
 use native.Mathlib.Decide.{decLt}
@@ -11,7 +11,7 @@ use lib.Pow.{pow-pos}
 use borrow.Author.Tests.{leb-true, leb-false, not-false, lt-leb}
 use Rattle.bits.specs.Fields.{Fit}
 use Rattle.bits.proofs.Laws.{fit-of, fit-getD}
-use Rattle.slices.specs.Slices.{anyBelow, someAtLeast}
+use Rattle.slices.specs.Slices.{someAtLeast}
 use Rattle.slices.proofs.Any.{both, any-no, any-each}
 use Rattle.setting.specs.declared.Kind.{Kind}
 use Rattle.setting.specs.declared.Setting.{Setting}

@@ -76,6 +76,13 @@ stored vs l e =
     let whole : length l ≤ 0 + length vs = omega arith in
     sets-eq vs l 0 (omega arith) ∙ ap (λ (r : List ℕ). vs ++ r) (drop-of-length-le l whole) ∙ append-nil vs
 
+-- what one store after another leaves, up to the last of them
+pub stored-behind : (vs l : List ℕ) (at : ℕ) → at + length vs ≤ length l → take (at + length vs) (sets l at vs) ≡ take at l ++ vs
+stored-behind vs l at h =
+    let n = at + length vs in
+    let front : length (take at l ++ vs) ≡ n = length-append (take at l) vs ∙ ap (λ (k : ℕ). k + length vs) (length-take-le at l (omega arith)) in
+    ap (take n) (sets-eq vs l at h) ∙ take-at (take at l ++ vs) (drop n l) n front
+
 -- as many elements as there are copied over all of them
 pub copied-over : (into from : List ℕ) → length into ≡ length from → copied into from ≡ from
 unfolding copied

@@ -1,10 +1,9 @@
 -- `call_refusal` meets its contract: a check a return. Assumes nothing.
-use mathlib.Core.Path.{_≡_, sym, ap, _∙_}
+use mathlib.Core.Path.{sym, _∙_}
 use mathlib.Core.Bool.{true, false, not}
 use native.Mathlib.Omega.{arith}
 use borrow.Author.Tests.{eq-eqb, ne-eqb, lt-ltb, le-ltb, not-true, not-false}
 use Rattle.setting.specs.Refusal.{firstOf}
-use Rattle.setting.specs.Rules.{pidAllowed}
 use Rattle.header.specs.Header.{headerLength}
 use Rattle.coding.specs.Settings.{settingLength}
 use Rattle.board_header.specs.Calls.{callRefused}

@@ -1,10 +1,10 @@
 -- `niranbok_header_read` meets its contract. Assumes nothing.
-use mathlib.Core.Path.{_≡_, refl, sym, ap, _∙_}
+use mathlib.Core.Path.{refl, sym, _∙_}
 use borrow.Author.Tests.{eq-eqb, ne-eqb}
 use lib.ListN.{length}
 use Rattle.frame.specs.Composing.{leaves}
-use Rattle.coding.specs.Settings.{settingLength, settingBytes}
-use Rattle.board_header.specs.Calls.{callRefused, thenRefused, readRefused, readMemory}
+use Rattle.coding.specs.Settings.{settingLength}
+use Rattle.board_header.specs.Calls.{thenRefused, readRefused, readMemory}
 use Rattle.board_header.proofs.Settled.{settled}
 use borrow.Author.Needs.{needs}
 use Rattle.board_header.proofs.niranbok_header_read.Statement.{statement}

@@ -1,9 +1,9 @@
 -- `niranbok_header_write` meets its contract. Assumes nothing.
-use mathlib.Core.Path.{_≡_, refl, sym, ap, _∙_}
+use mathlib.Core.Path.{refl, sym, _∙_}
 use borrow.Author.Tests.{ne-eqb}
 use lib.ListN.{length}
 use Rattle.frame.specs.Composing.{leaves}
-use Rattle.board_header.specs.Calls.{callRefused, thenRefused, writeRefused, writeMemory}
+use Rattle.board_header.specs.Calls.{thenRefused, writeRefused, writeMemory}
 use borrow.Author.Needs.{needs}
 use Rattle.board_header.proofs.niranbok_header_write.Statement.{statement}
 use Rattle.board_header.proofs.niranbok_header_write.Tie as tie

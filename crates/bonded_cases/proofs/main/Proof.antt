@@ -1,6 +1,5 @@
 -- `main` is safe: the frames' buffer has the length that is asked for. Assumes nothing.
 use mathlib.Core.Path.{sym}
-use borrow.Author.Needs.{needs}
 use Rattle.draws.proofs.Buffers.{filled}
 use Rattle.bonded_cases.proofs.main.Statement.{statement}
 use Rattle.bonded_cases.proofs.main.Tie as tie
