@@ -2,9 +2,16 @@
 use receiver::Receiver;
 use receiver::table::Event;
 use receiver::table::Stage;
+use setting::Kind;
 use setting::SLOTS;
 ghost use mathlib.Core.Path.{_≡_};
-ghost use lib.ListN.{length};
+ghost use Prim.Native.Nat.{_+_, _≤_};
+ghost use mathlib.Core.List.{[], _∷_, _++_};
+ghost use lib.ListN.{length, take, drop};
+ghost use Rattle.setting.specs.Counters.{lastSlot};
+ghost use Rattle.coding.specs.Words.{wordBytes};
+ghost use Rattle.coding.specs.Kinds.{kindNumber};
+ghost use Rattle.slices.specs.Slices.{over};
 ghost use Rattle.board_receiver.specs.States.{receiverLength, stageBytes, stageOf, receiverBytes, receiverOf, eventNumber};
 
 pub(crate) const RECEIVER_BYTES: usize = BEFORE + SLOTS;
@@ -44,47 +51,59 @@ fn stage_of(tag: u8, from: u8, k: u8) -> Stage
     Stage::Waiting
 }
 
-fn write_stage(part: &mut [u8], stage: Stage)
-    requires { ⌜ length (now part) ≡ 3 ⌝ }
-    ensures { λ _. ⌜ now (part .exit) ≡ stageBytes stage ⌝ }
+// PID, kind and stage.
+fn front_bytes(pid: u16, kind: Kind, stage: Stage) -> [u8; NUMBERS]
+    ensures { λ r. ⌜ r ≡ (wordBytes (pid ∷ []) ++ (kindNumber kind ∷ [])) ++ stageBytes stage ⌝ }
 {
+    let high = (pid / 256) as u8;
+    let low = (pid % 256) as u8;
+    let number = coding::kind_number(kind);
     match stage {
-        Stage::Waiting => {
-            part[0] = 0;
-            part[1] = 0;
-            part[2] = 0;
-        }
-        Stage::Open(from, k) => {
-            part[0] = 1;
-            part[1] = from;
-            part[2] = k;
-        }
-        Stage::Ready(from) => {
-            part[0] = 2;
-            part[1] = from;
-            part[2] = 0;
-        }
+        Stage::Waiting => [high, low, number, 0, 0, 0],
+        Stage::Open(from, k) => [high, low, number, 1, from, k],
+        Stage::Ready(from) => [high, low, number, 2, from, 0],
     }
+}
+
+// The stage that the bytes say. Beside a number that is no kind, they say none.
+fn stage_in(bytes: &[u8]) -> Stage
+    requires { ⌜ length (now bytes) ≡ receiverLength ⌝ }
+    ensures { λ r. ⌜ r ≡ receiverOf (now (bytes .entry)) .stage ⌝ }
+{
+    if 1 < bytes[2] {
+        return no_stage();
+    }
+    stage_of(bytes[STAGE], bytes[STAGE + 1], bytes[STAGE + 2])
+}
+
+// The slots' numbers from a place on.
+fn numbers_at(bytes: &[u8], at: usize) -> [u8; SLOTS]
+    requires { ⌜ at + lastSlot ≤ length (now bytes) ⌝ }
+    ensures { λ r. ⌜ r ≡ take lastSlot (drop at (now (bytes .entry))) ⌝ }
+{
+    let mut numbers = [0u8; SLOTS];
+    slices::copy(&mut numbers, &bytes[at..at + SLOTS]);
+    numbers
+}
+
+// Puts the part over the bytes, from a place on.
+fn put(bytes: &mut [u8], at: usize, part: &[u8])
+    requires { ⌜ at + length (now part) ≤ length (now bytes) ⌝ }
+    ensures { λ _. ⌜ now (bytes .exit) ≡ over at (now (part .entry)) (now (bytes .entry)) ⌝ }
+{
+    slices::copy(&mut bytes[at..at + part.len()], part);
 }
 
 pub(crate) fn receiver_of(bytes: &[u8]) -> Receiver
     requires { ⌜ length (now bytes) ≡ receiverLength ⌝ }
     ensures { λ r. ⌜ r ≡ receiverOf (now (bytes .entry)) ⌝ }
 {
-    let mut stage = stage_of(bytes[STAGE], bytes[STAGE + 1], bytes[STAGE + 2]);
-    if 1 < bytes[2] {
-        stage = no_stage();
-    }
-    let mut numbers = [0u8; SLOTS];
-    slices::copy(&mut numbers, &bytes[NUMBERS..BEFORE]);
-    let mut before = [0u8; SLOTS];
-    slices::copy(&mut before, &bytes[BEFORE..RECEIVER_BYTES]);
     Receiver {
         pid: coding::word(bytes[0], bytes[1]),
         kind: coding::kind_of(bytes[2]),
-        stage,
-        numbers,
-        before,
+        stage: stage_in(bytes),
+        numbers: numbers_at(bytes, NUMBERS),
+        before: numbers_at(bytes, BEFORE),
     }
 }
 
@@ -92,16 +111,14 @@ pub(crate) fn write_receiver(bytes: &mut [u8], c: Receiver)
     requires { ⌜ length (now bytes) ≡ receiverLength ⌝ }
     ensures { λ _. ⌜ now (bytes .exit) ≡ receiverBytes c ⌝ }
 {
-    bytes[0] = (c.pid / 256) as u8;
-    bytes[1] = (c.pid % 256) as u8;
     let kind = c.kind;
-    bytes[2] = coding::kind_number(kind);
     let stage = c.stage;
-    write_stage(&mut bytes[STAGE..NUMBERS], stage);
+    let front = front_bytes(c.pid, kind, stage);
+    put(bytes, 0, &front);
     let numbers = c.numbers;
-    slices::copy(&mut bytes[NUMBERS..BEFORE], &numbers);
+    put(bytes, NUMBERS, &numbers);
     let before = c.before;
-    slices::copy(&mut bytes[BEFORE..RECEIVER_BYTES], &before);
+    put(bytes, BEFORE, &before);
 }
 
 pub(crate) fn event_number(event: Event) -> u8

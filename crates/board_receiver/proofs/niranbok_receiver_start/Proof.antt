@@ -1,6 +1,7 @@
 -- `niranbok_receiver_start` meets its contract, check by check. Assumes nothing.
 use mathlib.Core.Path.{_≡_, sym, ap, _∙_}
 use mathlib.Core.Bool.{true}
+use native.Mathlib.Omega.{arith}
 use borrow.Author.Needs.{needs}
 use borrow.Author.Tests.{not-true, not-false}
 use Rattle.setting.specs.declared.Kind.{Kind}
@@ -34,7 +35,7 @@ returns-3 : tie.Need-returns-3
 returns-3 c =
     let k = c .before in
     let a = start k .args in
-    start-no-kind (a .state .now) (a .pid) (a .kind) (k .before .before .if1 .left) (allowed k) (c .if3 .taken)
+    start-no-kind (a .state .now) (a .pid) (a .kind) (k .before .before .if1 .left) (allowed k) (omega (arith, c .if3 .taken))
 
 kind-of-requires : tie.Need-kind-of-requires
 kind-of-requires c κs = search needs
