@@ -1,5 +1,8 @@
 mod Checked
+mod Counted
 pub mod Fields
+mod Pairs
 pub mod Refusals
 mod Streams
+mod Unavailable
 pub mod Within
