@@ -1,5 +1,4 @@
 mod Checked
-mod Counted
 pub mod Fields
 mod Pairs
 pub mod Refusals

@@ -7,7 +7,7 @@ use crate::limits;
 ghost use mathlib.Core.Path.{_≡_};
 ghost use Prim.Native.Nat.{_<_};
 ghost use lib.Dec.{eqb};
-ghost use lib.ListN.{length, getD};
+ghost use lib.ListN.{length};
 ghost use Rattle.slices.specs.Slices.{anyBelow};
 ghost use Rattle.setting.specs.Counters.{lastStream, within};
 ghost use Rattle.setting.specs.Refusal.{firstOf};
@@ -98,52 +98,21 @@ pub fn width_refusal(kind: Kind, s: Setting) -> u8
     absent_refusal(kind, s)
 }
 
-// Whether some element of xs is v. Counts them and does not stop early, so that many elements are compared at a time.
-fn has_byte(xs: &[u8], v: u8) -> bool
-    ensures { λ r. ⌜ r ≡ anyBelow (length (now (xs .entry))) (λ i. eqb (getD (now (xs .entry)) i 0) v) ⌝ }
-{
-    let mut n: usize = 0;
-    let mut i = 0;
-    while i < xs.len() {
-        if xs[i] == v {
-            n += 1;
-        }
-        i += 1;
-    }
-    0 < n
-}
-
-// The same of numbers of 16 bits.
-fn has_word(xs: &[u16], v: u16) -> bool
-    ensures { λ r. ⌜ r ≡ anyBelow (length (now (xs .entry))) (λ i. eqb (getD (now (xs .entry)) i 0) v) ⌝ }
-{
-    let mut n: usize = 0;
-    let mut i = 0;
-    while i < xs.len() {
-        if xs[i] == v {
-            n += 1;
-        }
-        i += 1;
-    }
-    0 < n
-}
-
-// 9: whether a slot has the number of an unavailable stream. A number above the last is no stream's; for each other that is
-// unavailable, all slots are asked at once.
+// 9: whether a slot has the number of an unavailable stream. A number above the last is no stream's. Of the others each has its
+// bit, and 0, which is no stream's either, that above stream 1's: it is one.
 fn has_unavailable(availability: u16, numbers: &[u8]) -> bool
     ensures { λ r. ⌜ r ≡ someUnavailable availability (now (numbers .entry)) ⌝ }
 {
     if slices::some_at_least(numbers, limits::NUMBERS) {
         return true;
     }
-    let mut n = RelativeNumber::FIRST;
-    while n <= RelativeNumber::LAST {
-        if !RelativeNumber(n).is_available(availability) {
-            if has_byte(numbers, n) {
-                return true;
-            }
+    let allowed = limits::AVAILABILITIES + availability % limits::AVAILABILITIES;
+    let mut i = 0;
+    while i < numbers.len() {
+        if (allowed >> ((RelativeNumber::LAST - numbers[i]) as u32)) % 2 == 0 {
+            return true;
         }
-        n += 1;
+        i += 1;
     }
     false
 }
@@ -166,15 +135,12 @@ fn is_same_pair(availability: u16, ts: &[u16], os: &[u16], i: usize, j: usize) -
     RelativeNumber((j + 1) as u8).is_available(availability)
 }
 
-// Whether a stream before stream j + 1 makes such a pair with it. Where none has its ts_id, none does.
+// Whether a stream before stream j + 1 makes such a pair with it.
 fn has_pair_before(availability: u16, ts: &[u16], os: &[u16], j: usize) -> bool
     requires { ⌜ j < lastStream ⌝ }
     requires { ⌜ (length (now ts) ≡ lastStream) × (length (now os) ≡ lastStream) ⌝ }
     ensures { λ r. ⌜ r ≡ anyBelow j (λ i. samePair availability (now (ts .entry)) (now (os .entry)) i j) ⌝ }
 {
-    if !has_word(&ts[0..j], ts[j]) {
-        return false;
-    }
     let mut i = 0;
     while i < j {
         if is_same_pair(availability, ts, os, i, j) {
@@ -185,15 +151,23 @@ fn has_pair_before(availability: u16, ts: &[u16], os: &[u16], j: usize) -> bool
     false
 }
 
-// 10: whether two available streams have equal identifier pairs.
+// 10: whether two available streams have equal identifier pairs. Those before a stream are looked through only where one of them has
+// the same low bits in its ts_id.
 fn has_pair_twice(availability: u16, ts: &[u16], os: &[u16]) -> bool
     requires { ⌜ (length (now ts) ≡ lastStream) × (length (now os) ≡ lastStream) ⌝ }
     ensures { λ r. ⌜ r ≡ pairTwice availability (now (ts .entry)) (now (os .entry)) ⌝ }
 {
+    let mut met = [0u8; 64];
     let mut j = 0;
     while j < ts.len() {
-        if has_pair_before(availability, ts, os, j) {
-            return true;
+        if RelativeNumber((j + 1) as u8).is_available(availability) {
+            let k = (ts[j] % 64) as usize;
+            if met[k] != 0 {
+                if has_pair_before(availability, ts, os, j) {
+                    return true;
+                }
+            }
+            met[k] = 1;
         }
         j += 1;
     }

@@ -4,11 +4,9 @@ use mathlib.Core.Path.{_≡_, sym, _∙_}
 use mathlib.Core.Bool.{false}
 use native.Mathlib.Omega.{arith}
 use borrow.Author.Needs.{needs}
-use borrow.Author.Tests.{not-true}
 use Rattle.slices.specs.Slices.{anyBelow}
 use Rattle.slices.proofs.Any.{any-none, any-more, any-found}
 use Rattle.setting.specs.Rules.{samePair}
-use Rattle.setting.proofs.Pairs.{no-pair}
 use Rattle.setting.proofs.rules.has_pair_before.Statement.{statement}
 use Rattle.setting.proofs.rules.has_pair_before.Tie as tie
 
@@ -18,38 +16,15 @@ Inv-loop availability ts os j i₀ i = (i ≤ j) × (anyBelow i (λ k. samePair 
 abbrev μ-loop : tie.MeasureT-loop
 μ-loop availability ts os j i₀ i = j - i
 
-sub-has-word : tie.Need-sub-has-word Inv-loop μ-loop
-sub-has-word c = search needs
-
-part-has-word-start : tie.Need-part-has-word-start Inv-loop μ-loop
-part-has-word-start c = search needs
-
-part-has-word-end : tie.Need-part-has-word-end Inv-loop μ-loop
-part-has-word-end c = search needs
-
-mul-has-word : tie.Need-mul-has-word Inv-loop μ-loop
-mul-has-word c = search needs
-
-shared-slice-read-has-word : tie.Need-shared-slice-read-has-word Inv-loop μ-loop
-shared-slice-read-has-word c = search needs
-
-has-word-requires : tie.Need-has-word-requires Inv-loop μ-loop
-has-word-requires c κs = search needs
-
-returns : tie.Need-returns Inv-loop μ-loop
-returns c =
-    let args = c .before .before .before .before .before .before .args in
-    sym (no-pair (args .availability) (args .ts .now) (args .os .now) (args .j) (omega arith) (sym (c .before .has-word .ensures) ∙ not-true _ (c .if1 .taken)))
-
 loop-holds : tie.Need-loop-holds Inv-loop μ-loop
 loop-holds c = (omega arith, any-none _)
 
 is-same-pair-requires : tie.Need-is-same-pair-requires Inv-loop μ-loop
 is-same-pair-requires c κs = search needs
 
-returns-2 : tie.Need-returns-2 Inv-loop μ-loop
-returns-2 c =
-    sym (any-found _ _ (c .before .before .before .loop .i) (omega arith) (sym (c .before .is-same-pair .ensures) ∙ c .if2 .taken))
+returns : tie.Need-returns Inv-loop μ-loop
+returns c =
+    sym (any-found _ _ (c .before .before .before .loop .i) (omega arith) (sym (c .before .is-same-pair .ensures) ∙ c .if1 .taken))
 
 add-i : tie.Need-add-i Inv-loop μ-loop
 add-i c = search needs
@@ -59,11 +34,11 @@ loop-less c = search needs
 
 loop-again : tie.Need-loop-again Inv-loop μ-loop
 loop-again c =
-    (omega arith, any-more _ (c .before .before .before .loop .i) (c .before .before .before .loop .inv .1) (sym (c .before .is-same-pair .ensures) ∙ c .if2 .left))
+    (omega arith, any-more _ (c .before .before .before .loop .i) (c .before .before .before .loop .inv .1) (sym (c .before .is-same-pair .ensures) ∙ c .if1 .left))
 
-returns-3 : tie.Need-returns-3 Inv-loop μ-loop
-returns-3 c =
-    let all : c .before .loop .i ≡ c .before .before .before .before .before .before .before .before .args .j = omega arith in
+returns-2 : tie.Need-returns-2 Inv-loop μ-loop
+returns-2 c =
+    let all : c .before .loop .i ≡ c .before .before .before .before .args .j = omega arith in
     sym (rw all at (c .before .loop .inv .1))
 
 pub has-pair-before-spec : {M : Type 1} → statement M
@@ -72,17 +47,10 @@ has-pair-before-spec =
     (tie.spec
     Inv-loop
     μ-loop
-    sub-has-word
-    part-has-word-start
-    part-has-word-end
-    mul-has-word
-    shared-slice-read-has-word
-    has-word-requires
-    returns
     loop-holds
     is-same-pair-requires
-    returns-2
+    returns
     add-i
     loop-less
     loop-again
-    returns-3)
+    returns-2)
