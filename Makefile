@@ -12,10 +12,10 @@ run:
 	target/bin/lister < samples/recording.ts
 
 # The independent programs' own tests; the proofs, the wrong programs and the programs (`rt ci`, which starts from nothing); then what is
-# linked with the archive. The last line printed is rt's.
+# linked with the archive. The last line printed is rt's. Four at a time keep two cores busy where checks take unequal times.
 test:
 	cd compare && cargo test --quiet
-	rt ci | tee $(GATE)
+	RT_JOBS=4 rt ci | tee $(GATE)
 	$(MAKE) --no-print-directory board-test
 	@tail -n 1 $(GATE)
 
