@@ -5,7 +5,7 @@ use mathlib.Core.List.{List, [], _∷_, _++_, map, append-assoc}
 use native.Mathlib.Omega.{arith}
 use lib.ListN.{length, set, length-map}
 use Rattle.slices.proofs.Front.{put, front-none, front-part, front-more, front-all}
-use Rattle.setting.specs.Counters.{lastSlot}
+use Rattle.counters.specs.Counters.{lastSlot}
 use Rattle.coding.specs.Words.{wordBytes}
 use Rattle.coding.specs.Kinds.{kindNumber}
 use Rattle.coding.specs.Settings.{announcedBytes, settingBytes}

@@ -4,8 +4,8 @@ use mathlib.Core.Bool.{Bool, cond, not, _&&_}
 use mathlib.Core.List.{List, [], _∷_}
 use lib.Dec.{eqb}
 use lib.ListN.{length}
-use Rattle.setting.specs.Refusal.{firstOf}
-use Rattle.setting.specs.Rules.{pidAllowed}
+use Rattle.rules.specs.Refusal.{firstOf}
+use Rattle.rules.specs.Rules.{pidAllowed}
 use Rattle.frame.specs.Composing.{leaves, startOf, beginOf, begunFrame, putOf, putFrame, closeOf, closedFrame}
 use Rattle.coding.specs.Kinds.{isKind, kindOf}
 use Rattle.coding.specs.Settings.{settingLength, settingOf}

@@ -4,8 +4,8 @@ use mathlib.Core.Path.{_≡_}
 use mathlib.Core.Bool.{true, false}
 use mathlib.Core.List.{List}
 use lib.ListN.{length}
-use Rattle.setting.specs.Rules.{pidAllowed}
-use Rattle.frame.specs.Packets.{packetLength, frameLength}
+use Rattle.rules.specs.Rules.{pidAllowed}
+use Rattle.packet.specs.Packets.{packetLength, frameLength}
 use Rattle.frame.specs.declared.composer.Composer.{Composer}
 use Rattle.coding.specs.Words.{wordAt}
 use Rattle.coding.specs.Settings.{settingLength}

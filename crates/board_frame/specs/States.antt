@@ -6,7 +6,7 @@ use mathlib.Core.List.{List, [], _∷_, _++_, map}
 use lib.Dec.{eqb, ltb}
 use lib.ListN.{length, getD}
 use Rattle.slices.specs.Slices.{someAtLeast}
-use Rattle.setting.specs.Counters.{lastSlot, lastStream}
+use Rattle.counters.specs.Counters.{lastSlot, lastStream}
 use Rattle.setting.specs.Setting.{Array, OfItsTypes as SettingOfItsTypes}
 use Rattle.coding.specs.Words.{wordBytes, wordAt}
 use Rattle.coding.specs.Kinds.{isKind, kindOf, kindNumber}

@@ -4,13 +4,10 @@ mod states;
 use coding::SETTING_BYTES;
 use frame::composer;
 use frame::composer::Composer;
-use frame::packet;
-use setting::counters::RelativeNumber;
-use setting::rules;
+use counters::RelativeNumber;
 ghost use mathlib.Core.Path.{_≡_};
 ghost use lib.ListN.{length};
-ghost use Rattle.frame.specs.Packets.{placeRefusal};
-ghost use Rattle.frame.specs.Composing.{restOf};
+ghost use Rattle.packet.specs.Packets.{placeRefusal, restOf};
 ghost use Rattle.board_frame.specs.Calls.{startRefused, startState, beginRefused, beginState, beginMemory, putRefused, putPlaced, putState, putMemory, closeRefused, closeState, closeMemory};
 
 // How many bytes a composer's state takes.
@@ -99,7 +96,7 @@ pub extern "C" fn niranbok_composer_put(
 pub extern "C" fn niranbok_composer_rest(stream: &[u8], placed: usize) -> usize
     ensures { λ r. ⌜ r ≡ length (restOf (now (stream .entry)) placed) ⌝ }
 {
-    composer::rest(stream, placed).len()
+    packet::rest(stream, placed).len()
 }
 
 // Closes the open frame: writes its header.

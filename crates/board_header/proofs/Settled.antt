@@ -5,9 +5,9 @@ use mathlib.Core.Bool.{Bool, not}
 use mathlib.Core.List.{List, [], _∷_}
 use lib.Dec.{eqb}
 use borrow.Author.Tests.{eqb-true, not-false}
-use Rattle.setting.specs.Refusal.{Check, NoneHolds, more}
-use Rattle.setting.specs.Rules.{pidAllowed}
-use Rattle.setting.proofs.Refusals.{none-first}
+use Rattle.rules.specs.Refusal.{Check, NoneHolds, more}
+use Rattle.rules.specs.Rules.{pidAllowed}
+use Rattle.rules.proofs.Refusals.{none-first}
 use Rattle.header.specs.Header.{headerLength}
 use Rattle.coding.specs.Kinds.{isKind}
 use Rattle.coding.specs.Settings.{settingLength}

@@ -4,8 +4,8 @@ use mathlib.Core.Bool.{cond, not}
 use mathlib.Core.List.{List, [], _∷_}
 use lib.Dec.{eqb}
 use lib.ListN.{length}
-use Rattle.setting.specs.Refusal.{firstOf}
-use Rattle.setting.specs.Rules.{pidAllowed}
+use Rattle.rules.specs.Refusal.{firstOf}
+use Rattle.rules.specs.Rules.{pidAllowed}
 use Rattle.header.specs.Header.{headerLength, writeRefusal, written, readOf}
 use Rattle.frame.specs.Composing.{leaves}
 use Rattle.coding.specs.Kinds.{isKind, kindOf}

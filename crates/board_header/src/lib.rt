@@ -1,7 +1,6 @@
 // The header for callers in other languages: a setting is lent bytes, and each call is the header's own under their coding.
 use coding::SETTING_BYTES;
-use frame::packet::PACKET_BYTES;
-use setting::rules;
+use packet::PACKET_BYTES;
 ghost use mathlib.Core.Path.{_≡_};
 ghost use Rattle.crc.specs.Crc.{registerOf};
 ghost use Rattle.board_header.specs.Calls.{callRefused, writeRefused, writeMemory, readRefused, readMemory};

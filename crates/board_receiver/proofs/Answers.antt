@@ -6,9 +6,9 @@ use mathlib.Core.List.{List, [], _∷_}
 use native.Mathlib.Omega.{arith}
 use borrow.Author.Tests.{eq-eqb, ne-eqb, lt-ltb, le-ltb}
 use lib.ListN.{length}
-use Rattle.setting.specs.Refusal.{firstOf, none}
-use Rattle.setting.specs.Rules.{pidAllowed}
-use Rattle.setting.proofs.Refusals.{answers, passed, first-none}
+use Rattle.rules.specs.Refusal.{firstOf, none}
+use Rattle.rules.specs.Rules.{pidAllowed}
+use Rattle.rules.proofs.Refusals.{answers, passed, first-none}
 use Rattle.frame.proofs.Answers.{kept, written}
 use Rattle.coding.specs.Kinds.{isKind, kindOf}
 use Rattle.receiver.specs.declared.Receiver.{Receiver}

@@ -7,12 +7,12 @@ use native.Mathlib.Omega.{arith}
 use borrow.Author.Tests.{eq-eqb, ne-eqb}
 use lib.Dec.{eqb}
 use lib.ListN.{length, getD}
-use Rattle.setting.specs.Refusal.{firstOf}
-use Rattle.setting.specs.Rules.{pidAllowed}
-use Rattle.setting.proofs.Refusals.{passed, at-once}
-use Rattle.frame.specs.Packets.{packetLength}
+use Rattle.rules.specs.Refusal.{firstOf}
+use Rattle.rules.specs.Rules.{pidAllowed}
+use Rattle.rules.proofs.Refusals.{passed, at-once}
+use Rattle.packet.specs.Packets.{packetLength}
 use Rattle.coding.specs.Kinds.{isKind}
-use Rattle.receiver.specs.declared.table.Stage.{Stage}
+use Rattle.receiver_table.specs.declared.Stage.{Stage}
 use Rattle.receiver.specs.declared.Receiver.{Receiver}
 use Rattle.receiver.specs.Store.{storeLength}
 use Rattle.receiver.specs.Receiving.{stageChecks, receiverChecks, receiveRefusal, handOutRefusal, receiveOf, handOutOf}

@@ -4,8 +4,8 @@ use mathlib.Core.Path.{_≡_}
 use mathlib.Core.Bool.{true, false}
 use mathlib.Core.List.{List}
 use lib.ListN.{length}
-use Rattle.setting.specs.Rules.{pidAllowed}
-use Rattle.frame.specs.Packets.{packetLength}
+use Rattle.rules.specs.Rules.{pidAllowed}
+use Rattle.packet.specs.Packets.{packetLength}
 use Rattle.coding.specs.Words.{wordAt}
 use Rattle.receiver.specs.declared.Receiver.{Receiver}
 use Rattle.receiver.specs.Store.{storeLength}

@@ -6,10 +6,10 @@ use lib.Dec.{leb, eqb}
 use lib.ListN.{getD, take, drop}
 use Rattle.coding.specs.Words.{wordBytes, wordAt}
 use Rattle.coding.specs.Kinds.{isKind, kindOf, kindNumber}
-use Rattle.setting.specs.Counters.{lastSlot}
+use Rattle.counters.specs.Counters.{lastSlot}
 use Rattle.setting.specs.Setting.{Array}
-use Rattle.receiver.specs.declared.table.Stage.{Stage}
-use Rattle.receiver.specs.declared.table.Event.{Event}
+use Rattle.receiver_table.specs.declared.Stage.{Stage}
+use Rattle.receiver_table.specs.declared.Event.{Event}
 use Rattle.receiver.specs.declared.Receiver.{Receiver}
 
 abbrev pub receiverLength : ℕ

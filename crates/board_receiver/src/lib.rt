@@ -2,8 +2,7 @@
 mod states;
 
 use receiver::Receiver;
-use setting::counters::RelativeNumber;
-use setting::rules;
+use counters::RelativeNumber;
 ghost use mathlib.Core.Path.{_≡_};
 ghost use Rattle.board_receiver.specs.Calls.{startRefused, startState, receiveRefused, receiveEvent, receiveState, receiveMemory, handOutRefused, handOutPackets, handOutMemory};
 

@@ -1,14 +1,14 @@
 // A receiver's state as bytes: PID, kind, stage, the slots' numbers by the open frame's header and by the one before.
 use receiver::Receiver;
-use receiver::table::Event;
-use receiver::table::Stage;
+use receiver_table::Event;
+use receiver_table::Stage;
 use setting::Kind;
 use setting::SLOTS;
 ghost use mathlib.Core.Path.{_≡_};
 ghost use Prim.Native.Nat.{_+_, _≤_};
 ghost use mathlib.Core.List.{[], _∷_, _++_};
 ghost use lib.ListN.{length, take, drop};
-ghost use Rattle.setting.specs.Counters.{lastSlot};
+ghost use Rattle.counters.specs.Counters.{lastSlot};
 ghost use Rattle.coding.specs.Words.{wordBytes};
 ghost use Rattle.coding.specs.Kinds.{kindNumber};
 ghost use Rattle.slices.specs.Slices.{over};

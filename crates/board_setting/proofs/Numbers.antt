@@ -3,10 +3,10 @@ use Prim.Native.Nat.{ℕ}
 use mathlib.Core.Path.{_≡_, refl}
 use mathlib.Core.Bool.{Bool, true, false, cond}
 use lib.Dec.{eqb}
-use Rattle.setting.specs.declared.counters.SlotAnswer.{SlotAnswer}
-use Rattle.setting.specs.declared.counters.RelativeNumberAnswer.{RelativeNumberAnswer}
-use Rattle.setting.specs.declared.counters.FramePositionAnswer.{FramePositionAnswer}
-use Rattle.setting.specs.Counters.{within, checked, slotAnswer, relativeNumberAnswer, framePositionAnswer}
+use Rattle.counters.specs.declared.SlotAnswer.{SlotAnswer}
+use Rattle.counters.specs.declared.RelativeNumberAnswer.{RelativeNumberAnswer}
+use Rattle.counters.specs.declared.FramePositionAnswer.{FramePositionAnswer}
+use Rattle.counters.specs.Counters.{within, checked, slotAnswer, relativeNumberAnswer, framePositionAnswer}
 
 -- what a check answers on paper, by its outcome
 abbrev on : ℕ → Bool → ℕ × ℕ

@@ -4,8 +4,8 @@ use mathlib.Core.Bool.{cond, not}
 use mathlib.Core.List.{List, [], _∷_}
 use lib.Dec.{eqb}
 use lib.ListN.{length}
-use Rattle.setting.specs.Refusal.{firstOf}
-use Rattle.setting.specs.Rules.{widthChecks, ruleChecks}
+use Rattle.rules.specs.Refusal.{firstOf}
+use Rattle.rules.specs.Rules.{widthChecks, ruleChecks}
 use Rattle.setting.specs.Setting.{blank}
 use Rattle.frame.specs.Composing.{leaves}
 use Rattle.coding.specs.Kinds.{isKind, kindOf}

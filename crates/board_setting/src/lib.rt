@@ -1,16 +1,15 @@
 // Settings and their numbers for callers in other languages: each call is the rules' own under the coding of settings and kinds.
 use coding::SETTING_BYTES;
 use setting::Setting;
-use setting::counters::FramePosition;
-use setting::counters::FramePositionAnswer;
-use setting::counters::RelativeNumber;
-use setting::counters::RelativeNumberAnswer;
-use setting::counters::Slot;
-use setting::counters::SlotAnswer;
-use setting::rules;
+use counters::FramePosition;
+use counters::FramePositionAnswer;
+use counters::RelativeNumber;
+use counters::RelativeNumberAnswer;
+use counters::Slot;
+use counters::SlotAnswer;
 ghost use mathlib.Core.Path.{_≡_};
-ghost use Rattle.setting.specs.Counters.{firstSlot, lastSlot, firstStream, lastStream, firstPosition, lastPosition, checked};
-ghost use Rattle.setting.specs.Rules.{pidAllowed, available, countAvailable};
+ghost use Rattle.counters.specs.Counters.{firstSlot, lastSlot, firstStream, lastStream, firstPosition, lastPosition, checked, available, countAvailable};
+ghost use Rattle.rules.specs.Rules.{pidAllowed};
 ghost use Rattle.board_setting.specs.Calls.{callRefused, blankRefused, blankMemory, widthsRefused, rulesRefused};
 
 // Whether a number is a header PID.
@@ -67,7 +66,7 @@ pub extern "C" fn niranbok_is_available(r: u8, availability: u16) -> bool
 pub extern "C" fn niranbok_count_available(availability: u16) -> u32
     ensures { λ r. ⌜ r ≡ countAvailable availability ⌝ }
 {
-    setting::count_available(availability)
+    counters::count_available(availability)
 }
 
 // 1, 17: the length of a setting, the kind.

@@ -12,13 +12,13 @@ use Rattle.slices.specs.Slices.{copied, anyBelow}
 use Rattle.slices.proofs.Any.{any-no}
 use Rattle.setting.specs.declared.Kind.{Kind}
 use Rattle.setting.specs.declared.Setting.{Setting}
-use Rattle.setting.specs.Counters.{firstPosition}
-use Rattle.setting.specs.Refusal.{Check, NoneHolds, none, more, firstOf}
-use Rattle.setting.specs.Rules.{ruleChecks}
-use Rattle.setting.proofs.Refusals.{first-none, none-at, none-append, none-before, none-behind}
+use Rattle.counters.specs.Counters.{firstPosition}
+use Rattle.rules.specs.Refusal.{Check, NoneHolds, none, more, firstOf}
+use Rattle.rules.specs.Rules.{ruleChecks}
+use Rattle.rules.proofs.Refusals.{first-none, none-at, none-append, none-before, none-behind}
 use Rattle.header.specs.Header.{reading, packetChecks}
 use Rattle.header.specs.Demands.{Among}
-use Rattle.frame.specs.Packets.{packetLength, frameLength, slot, unfit}
+use Rattle.packet.specs.Packets.{packetLength, frameLength, slot, unfit}
 use Rattle.group.specs.declared.Bond.{Bond}
 use Rattle.group.specs.declared.headers.Shown.{Shown}
 use Rattle.places.specs.Order.{Rising, comesBefore, picked, sorted, framePackets}

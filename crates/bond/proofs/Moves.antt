@@ -12,7 +12,7 @@ use lib.Seq.{drop-drop, take-all, length-take-le}
 use Rattle.slices.specs.Slices.{copied, over}
 use Rattle.slices.proofs.Front.{put, copied-over, put-over}
 use Rattle.slices.proofs.Toward.{Toward, toward-none, toward-part}
-use Rattle.frame.specs.Packets.{packetLength, slot}
+use Rattle.packet.specs.Packets.{packetLength, slot}
 use Rattle.bond.specs.declared.walk.Walk.{Walk}
 use Rattle.bond.specs.Bonding.{spreadOver, gathered}
 use Rattle.places.specs.Walk.{twelfths, framesBefore, packetAt, isStop, isMarked, stops, Walkable, InBuffer}

@@ -2,8 +2,8 @@
 use Prim.Native.Nat.{ℕ}
 use mathlib.Core.Path.{_≡_, refl}
 use mathlib.Core.List.{List}
-use Rattle.setting.specs.Refusal.{NoneHolds, firstOf}
-use Rattle.setting.proofs.Refusals.{none-first}
+use Rattle.rules.specs.Refusal.{NoneHolds, firstOf}
+use Rattle.rules.proofs.Refusals.{none-first}
 use Rattle.group.specs.declared.Bond.{Bond}
 use Rattle.group.specs.Standing.{planChecks}
 use Rattle.group.proofs.Passing.{numbered-append, numbered-plan}

@@ -7,7 +7,7 @@ use native.Mathlib.Omega.{arith}
 use borrow.Author.Tests.{lt-ltb, le-ltb}
 use lib.Dec.{eqb}
 use lib.ListN.{getD}
-use Rattle.setting.specs.Counters.{lastPosition}
+use Rattle.counters.specs.Counters.{lastPosition}
 use Rattle.bond.specs.declared.walk.Walk.{Walk}
 use Rattle.places.specs.Order.{picked, framePackets}
 use Rattle.places.specs.Walk.{lastCarrier, mostFrames, twelfths, placeAt, packetAt, isStop, isMarked, stops, Walkable}

@@ -4,9 +4,9 @@ use mathlib.Core.Path.{_≡_}
 use mathlib.Core.Bool.{true, false}
 use mathlib.Core.List.{List, _++_}
 use lib.ListN.{length, getD, drop}
-use Rattle.setting.specs.Refusal.{NoneHolds}
+use Rattle.rules.specs.Refusal.{NoneHolds}
 use Rattle.header.specs.Demands.{Among}
-use Rattle.frame.specs.Packets.{packetLength, slot, unfit}
+use Rattle.packet.specs.Packets.{packetLength, slot, unfit}
 use Rattle.group.specs.declared.Bond.{Bond}
 use Rattle.places.specs.Order.{Rising, framePackets}
 use Rattle.group.specs.Group.{packetsIn, bonded, earlier, order}

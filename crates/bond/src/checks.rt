@@ -1,6 +1,5 @@
 // What each call asks of what it is lent, in the table's order, but for the headers.
-use frame::packet;
-use frame::packet::PACKET_BYTES;
+use packet::PACKET_BYTES;
 use group::headers::Plan;
 ghost use mathlib.Core.Path.{_≡_};
 ghost use mathlib.Core.Bool.{not};
@@ -8,8 +7,8 @@ ghost use mathlib.Core.List.{[], _∷_};
 ghost use Prim.Native.Nat.{_*_, _%_};
 ghost use lib.Dec.{ltb, eqb};
 ghost use lib.ListN.{length};
-ghost use Rattle.setting.specs.Refusal.{firstOf};
-ghost use Rattle.frame.specs.Packets.{packetLength};
+ghost use Rattle.rules.specs.Refusal.{firstOf};
+ghost use Rattle.packet.specs.Packets.{packetLength};
 ghost use Rattle.bond.specs.Bonding.{someUnfitIn};
 
 // 12: whether some packet of the stream lacks 0x47 or bears the header PID.

@@ -3,7 +3,7 @@ mod checks;
 mod moving;
 mod walk;
 
-use frame::packet::PACKET_BYTES;
+use packet::PACKET_BYTES;
 use group::Bond;
 ghost use mathlib.Core.Path.{_≡_};
 ghost use lib.ListN.{length};

@@ -1,13 +1,13 @@
 // A stream's packets to and from the places of a group, as the walk finds them.
 use crate::walk;
 use crate::walk::Walk;
-use frame::packet::PACKET_BYTES;
+use packet::PACKET_BYTES;
 ghost use mathlib.Core.Path.{_≡_};
 ghost use mathlib.Core.List.{map};
 ghost use Prim.Native.Nat.{_*_, _≤_};
 ghost use lib.ListN.{length};
 ghost use Rattle.slices.specs.Slices.{copied};
-ghost use Rattle.frame.specs.Packets.{packetLength};
+ghost use Rattle.packet.specs.Packets.{packetLength};
 ghost use Rattle.bond.specs.Bonding.{spreadOver, gathered};
 ghost use Rattle.places.specs.Walk.{mostFrames, packetAt, stops, Walkable, InBuffer};
 

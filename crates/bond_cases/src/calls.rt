@@ -1,6 +1,6 @@
 // How the calls are asked, and the buffers that they are lent.
 use draws::sums::sum;
-use frame::packet::PACKET_BYTES;
+use packet::PACKET_BYTES;
 use group::Bond;
 ghost use mathlib.Core.Path.{_≡_};
 ghost use Prim.Native.Nat.{_≤_};

@@ -1,6 +1,6 @@
 // The faults: each changes a byte of a header by exclusive or, and the later ones write its CRC anew.
-use frame::packet::FRAME_BYTES;
-use frame::packet::PACKET_BYTES;
+use packet::FRAME_BYTES;
+use packet::PACKET_BYTES;
 ghost use mathlib.Core.Path.{_≡_};
 ghost use lib.ListN.{length};
 

@@ -8,8 +8,8 @@ use draws::settings;
 use setting::AUXILIARY_BYTES;
 use setting::SLOTS;
 use setting::Setting;
-use setting::counters::FramePosition;
-use setting::counters::RelativeNumber;
+use counters::FramePosition;
+use counters::RelativeNumber;
 ghost use Prim.Native.Nat.{_≤_};
 
 // Where a frame stands: its number in the group, from 0, and the rest as a header has it.

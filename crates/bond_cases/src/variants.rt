@@ -4,8 +4,8 @@ use crate::calls::BEHIND;
 use crate::calls::ORIGINAL_NETWORK_ID;
 use crate::calls::PID;
 use crate::calls::at_most;
-use frame::packet::FRAME_BYTES;
-use frame::packet::PACKET_BYTES;
+use packet::FRAME_BYTES;
+use packet::PACKET_BYTES;
 use group::Bond;
 ghost use Prim.Native.Nat.{_≤_, _+_};
 

@@ -7,9 +7,9 @@ use native.Mathlib.Omega.{arith}
 use lib.ListN.{length, getD, take, drop, take-append-drop}
 use lib.Seq.{drop-drop}
 use Rattle.setting.specs.declared.Kind.{Kind}
-use Rattle.setting.specs.Rules.{pidAllowed}
+use Rattle.rules.specs.Rules.{pidAllowed}
 use Rattle.header.specs.Demands.{Among, here, there}
-use Rattle.frame.specs.Packets.{packetLength, frameLength, slot, unfit}
+use Rattle.packet.specs.Packets.{packetLength, frameLength, slot, unfit}
 use Rattle.receiver.specs.Store.{storeLength}
 use Rattle.runs.specs.Runs.{Each, none, more}
 use Rattle.runs.proofs.Demands.{From, stretch}

@@ -7,16 +7,16 @@ use native.Mathlib.Omega.{arith}
 use borrow.Author.Tests.{lt-ltb}
 use lib.ListN.{length, take, drop, replicate, length-drop, drop-of-length-le, take-append-drop}
 use Rattle.setting.specs.declared.Kind.{Kind}
-use Rattle.setting.specs.Counters.{lastSlot}
-use Rattle.setting.specs.Rules.{pidAllowed}
+use Rattle.counters.specs.Counters.{lastSlot}
+use Rattle.rules.specs.Rules.{pidAllowed}
 use Rattle.header.specs.Header.{reading}
-use Rattle.frame.specs.Packets.{packetLength, slot, unfit}
-use Rattle.receiver.specs.declared.table.Stage.{Stage}
-use Rattle.receiver.specs.declared.table.Event.{Event}
-use Rattle.receiver.specs.declared.table.Row.{Row}
+use Rattle.packet.specs.Packets.{packetLength, slot, unfit}
+use Rattle.receiver_table.specs.declared.Stage.{Stage}
+use Rattle.receiver_table.specs.declared.Event.{Event}
+use Rattle.receiver_table.specs.declared.Row.{Row}
 use Rattle.receiver.specs.declared.Receiver.{Receiver}
 use Rattle.receiver.specs.Store.{storeLength}
-use Rattle.receiver.specs.Table.{makesReady, good, broken, other, row, openRow, rowOf}
+use Rattle.receiver_table.specs.Table.{makesReady, good, broken, other, row, openRow, rowOf}
 use Rattle.receiver.specs.Receiving.{receiveOf}
 use Rattle.receiver.proofs.Sorts.{not-good}
 use Rattle.runs.specs.Runs.{Each, none, more}

@@ -2,8 +2,8 @@
 // prints what came of it. compare/BONDED-CASES.md says how; the steps are numbered as there.
 use crate::composing::FRAMES_BYTES;
 use draws::sums::sum;
-use frame::packet::FRAME_BYTES;
-use frame::packet::PACKET_BYTES;
+use packet::FRAME_BYTES;
+use packet::PACKET_BYTES;
 ghost use mathlib.Core.Path.{_≡_};
 ghost use Prim.Native.Nat.{_≤_};
 ghost use lib.ListN.{length};

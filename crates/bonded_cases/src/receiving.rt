@@ -1,11 +1,11 @@
 // Receiving: the frames of each carrier again, out of the packets held and the stores behind them.
 use crate::PID;
 use crate::lines;
-use frame::packet::FRAME_BYTES;
-use frame::packet::PACKET_BYTES;
+use packet::FRAME_BYTES;
+use packet::PACKET_BYTES;
 use receiver::Receiver;
 use receiver::STORE_BYTES;
-use receiver::table::Event;
+use receiver_table::Event;
 use setting::Kind;
 ghost use mathlib.Core.Path.{_≡_};
 ghost use lib.ListN.{length};

@@ -5,7 +5,7 @@ use draws::byte_below;
 use setting::SLOTS;
 use setting::STREAMS;
 use setting::Setting;
-use setting::counters::FramePosition;
+use counters::FramePosition;
 ghost use Prim.Native.Nat.{_≤_};
 ghost use lib.ListN.{length};
 

@@ -5,7 +5,7 @@ use crate::TS_ID;
 use crate::lines;
 use draws::streams;
 use draws::sums::sum;
-use frame::packet::PACKET_BYTES;
+use packet::PACKET_BYTES;
 use group::Bond;
 ghost use mathlib.Core.Path.{_≡_};
 ghost use Prim.Native.Nat.{_≤_};

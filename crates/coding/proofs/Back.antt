@@ -9,8 +9,8 @@ use lib.Seq.{take-at, drop-at, drop-drop, getD-drop}
 use Rattle.setting.specs.declared.Kind.{Kind}
 use Rattle.setting.specs.declared.Setting.{Setting}
 use Rattle.setting.specs.Setting.{OfItsTypes}
-use Rattle.frame.specs.declared.composer.Announced.{Announced}
-use Rattle.frame.specs.Composing.{announced}
+use Rattle.announced.specs.declared.Announced.{Announced}
+use Rattle.announced.specs.Announcing.{announced}
 use Rattle.coding.specs.Words.{wordBytes}
 use Rattle.coding.specs.Kinds.{kindOf, kindNumber}
 use Rattle.coding.specs.Settings.{part, announcedLength, announcedBytes, announcedOf, settingLength, settingBytes, settingOf}

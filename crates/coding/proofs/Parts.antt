@@ -7,11 +7,11 @@ use lib.ListN.{length, set, drop, replicate, length-append, length-drop, length-
 use lib.Seq.{length-take-le}
 use Rattle.slices.proofs.Front.{put, front-none, front-part, front-more, front-all, copied-over}
 use Rattle.slices.specs.Slices.{copied}
-use Rattle.setting.specs.Counters.{lastStream, lastSlot}
+use Rattle.counters.specs.Counters.{lastStream, lastSlot}
 use Rattle.setting.specs.declared.Setting.{Setting}
 use Rattle.setting.specs.Setting.{privateBytes, auxiliaryBytes}
-use Rattle.frame.specs.declared.composer.Announced.{Announced}
-use Rattle.frame.specs.Composing.{announced}
+use Rattle.announced.specs.declared.Announced.{Announced}
+use Rattle.announced.specs.Announcing.{announced}
 use Rattle.coding.specs.Words.{wordBytes}
 use Rattle.coding.specs.Settings.{part, announcedLength, announcedBytes, settingLength, settingBytes}
 use Rattle.coding.proofs.Words.{length-bytes}

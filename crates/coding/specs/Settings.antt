@@ -6,8 +6,8 @@ use lib.Dec.{eqb}
 use lib.ListN.{length, getD, take, drop}
 use Rattle.setting.specs.declared.Setting.{Setting}
 use Rattle.setting.specs.Setting.{blank}
-use Rattle.frame.specs.declared.composer.Announced.{Announced}
-use Rattle.frame.specs.Composing.{announced}
+use Rattle.announced.specs.declared.Announced.{Announced}
+use Rattle.announced.specs.Announcing.{announced}
 use Rattle.coding.specs.Words.{wordBytes, wordAt, wordsOf}
 
 -- n bytes from place k on

@@ -1,14 +1,13 @@
 // Settings as bytes, in a fixed layout: what a caller in another language keeps and hands over. The fields stand in the setting's own
 // order, numbers of 16 bits with the high byte first.
-use frame::composer;
-use frame::composer::Announced;
+use announced::Announced;
 use setting::AUXILIARY_BYTES;
 use setting::Kind;
 use setting::PRIVATE_BYTES;
 use setting::SLOTS;
 use setting::STREAMS;
 use setting::Setting;
-use setting::counters::FramePosition;
+use counters::FramePosition;
 ghost use mathlib.Core.Path.{_≡_};
 ghost use mathlib.Core.Bool.{cond};
 ghost use mathlib.Core.List.{[], _∷_};
@@ -227,7 +226,7 @@ pub fn write_setting(bytes: &mut [u8], s: Setting)
         return;
     }
     write_counters(&mut bytes[0..ANNOUNCED], s);
-    write_announced(&mut bytes[ANNOUNCED..NUMBERS], composer::announce(s));
+    write_announced(&mut bytes[ANNOUNCED..NUMBERS], announced::announce(s));
     let relative_ts_number = s.relative_ts_number;
     slices::copy(&mut bytes[NUMBERS..PRIVATE], &relative_ts_number);
     let private_data = s.private_data;

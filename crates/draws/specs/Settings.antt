@@ -3,8 +3,7 @@ use Prim.Native.Nat.{ℕ}
 use mathlib.Core.Bool.{cond}
 use mathlib.Core.List.{List}
 use Rattle.setting.specs.declared.Setting.{Setting}
-use Rattle.setting.specs.Counters.{lastSlot, lastStream}
-use Rattle.setting.specs.Rules.{available}
+use Rattle.counters.specs.Counters.{lastSlot, lastStream, available}
 use Rattle.setting.specs.Setting.{privateBytes}
 use Rattle.draws.specs.Draws.{drawn, after, drawnList, whole, limitedByte}
 

@@ -2,7 +2,7 @@
 use Prim.Native.Nat.{ℕ, zero, suc, _+_, _*_, _%_}
 use mathlib.Core.List.{List}
 use lib.ListN.{getD, set}
-use Rattle.frame.specs.Packets.{packetLength}
+use Rattle.packet.specs.Packets.{packetLength}
 
 -- the first n packets of a stream begin with 0x47 and have a PID below 4,096
 unfoldable pub placeable : ℕ → List ℕ → List ℕ

@@ -3,10 +3,10 @@ use crate::draw_bytes;
 ghost use mathlib.Core.Path.{_≡_};
 ghost use Prim.Native.Nat.{_/_};
 ghost use lib.ListN.{length};
-ghost use Rattle.frame.specs.Packets.{packetLength};
+ghost use Rattle.packet.specs.Packets.{packetLength};
 ghost use Rattle.draws.specs.Draws.{after, drawnList, limitedByte};
 ghost use Rattle.draws.specs.Streams.{placeable};
-use frame::packet::PACKET_BYTES;
+use packet::PACKET_BYTES;
 
 // Bytes drawn as one run of bytes, of which each packet's first two are then set.
 pub fn draw_stream(state: &mut u32, stream: &mut [u8])

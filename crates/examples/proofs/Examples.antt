@@ -13,8 +13,9 @@ use Rattle.header.specs.Rows.{pack}
 use Rattle.header.specs.Layout.{startRows, identifierRows, controlRows, numberRows, privateRows, layout}
 use Rattle.header.specs.Header.{paired, startContent, identifierContent, controlContent, numberContent, privateContent, content, body, header}
 use Rattle.setting.specs.Setting.{blank}
-use Rattle.frame.specs.Composing.{someDiffer, announced, differ, nextCounter, nextVersion}
-use Rattle.receiver.specs.Table.{openRow, rowOf}
+use Rattle.announced.specs.Announcing.{someDiffer, announced, differ}
+use Rattle.frame.specs.Composing.{nextCounter, nextVersion}
+use Rattle.receiver_table.specs.Table.{openRow, rowOf}
 use Rattle.examples.specs.Examples.{Example, beyond, placeOfPair, examples, ExamplesHold}
 use Rattle.examples.proofs.Pair.{first-places}
 

@@ -7,15 +7,16 @@ use lib.Dec.{ltb, eqb}
 use lib.ListN.{getD, take, drop, set, replicate}
 use Rattle.setting.specs.declared.Kind.{Kind}
 use Rattle.setting.specs.declared.Setting.{Setting}
-use Rattle.setting.specs.Counters.{lastSlot, lastStream}
+use Rattle.counters.specs.Counters.{lastSlot, lastStream}
 use Rattle.setting.specs.Setting.{blank}
 use Rattle.header.specs.Header.{header}
 use Rattle.frame.specs.declared.composer.Composer.{Composer}
-use Rattle.frame.specs.Composing.{announced, nextCounter, nextVersion}
-use Rattle.receiver.specs.declared.table.Stage.{Stage}
-use Rattle.receiver.specs.declared.table.Row.{Row}
+use Rattle.announced.specs.Announcing.{announced}
+use Rattle.frame.specs.Composing.{nextCounter, nextVersion}
+use Rattle.receiver_table.specs.declared.Stage.{Stage}
+use Rattle.receiver_table.specs.declared.Row.{Row}
 use Rattle.places.specs.Order.{framePackets, Place, comesBefore, picked, sorted}
-use Rattle.receiver.specs.Table.{good, other, rowOf, makesReady, droppedBy}
+use Rattle.receiver_table.specs.Table.{good, other, rowOf, makesReady, droppedBy}
 
 -- an example: its number in the document, what the definitions say, and what the document says
 pub record Example : Type 0 where

@@ -6,9 +6,9 @@ use mathlib.Core.List.{List, _∷_}
 use native.Mathlib.Omega.{arith}
 use borrow.Author.Tests.{ne-eqb, eqb-true}
 use lib.Dec.{eqb}
-use Rattle.setting.specs.Refusal.{Check, firstOf}
+use Rattle.rules.specs.Refusal.{Check, firstOf}
 use Rattle.frame.specs.declared.composer.Composer.{Composer}
-use Rattle.frame.specs.Packets.{frameLength}
+use Rattle.packet.specs.Packets.{frameLength}
 use Rattle.frame.specs.Composing.{lengthCheck, answer, leaves}
 
 -- n is the refusal, and m what the code found it to be

@@ -9,7 +9,8 @@ use Rattle.header.specs.Header.{headerLength, header, writeRefusal, written}
 use Rattle.header.specs.Demands.{MeetsRules}
 use Rattle.header.proofs.Calls.{made, not-refused}
 use Rattle.frame.specs.declared.composer.Composer.{Composer}
-use Rattle.frame.specs.Composing.{differ, announced, nextCounter, nextVersion, closing}
+use Rattle.announced.specs.Announcing.{differ, announced}
+use Rattle.frame.specs.Composing.{nextCounter, nextVersion, closing}
 use Rattle.frame.proofs.Said.{version-narrow, said-meets}
 use Rattle.frame.proofs.Passed.{Passes}
 

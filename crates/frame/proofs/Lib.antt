@@ -1,6 +1,5 @@
 pub mod Answers
 mod Closing
-mod Differ
 pub mod Passed
 mod Placing
 pub mod Refusals

@@ -8,7 +8,7 @@ use lib.ListN.{length, getD, take, drop, set, length-drop}
 use lib.Seq.{drop-drop, length-take-le}
 use Rattle.slices.proofs.Front.{put}
 use Rattle.slices.proofs.Toward.{Toward, toward-none, toward-more, toward-kept, toward-same, toward-part, toward-all}
-use Rattle.frame.specs.Packets.{packetLength}
+use Rattle.packet.specs.Packets.{packetLength}
 use Rattle.frame.specs.Slots.{takes, frameAfter, slotsAfter, marksAfter, restAfter}
 use Rattle.frame.proofs.Walk.{packet-left, rest-from, marks-from, slots-from, rest-none, marks-none, slots-none}
 

@@ -11,12 +11,13 @@ use lib.Dec.{leb, eqb, ltb}
 use Rattle.slices.proofs.Any.{both}
 use Rattle.setting.specs.declared.Kind.{Kind}
 use Rattle.setting.specs.declared.Setting.{Setting}
-use Rattle.setting.specs.Refusal.{Check, firstOf, NoneHolds, none, more}
-use Rattle.setting.specs.Rules.{absentChecks, widthChecks, bondingChecks, ruleChecks}
-use Rattle.setting.proofs.Refusals.{first-none, numbered, none-first}
-use Rattle.frame.specs.declared.composer.Announced.{Announced}
+use Rattle.rules.specs.Refusal.{Check, firstOf, NoneHolds, none, more}
+use Rattle.rules.specs.Rules.{absentChecks, widthChecks, bondingChecks, ruleChecks}
+use Rattle.rules.proofs.Refusals.{first-none, numbered, none-first}
+use Rattle.announced.specs.declared.Announced.{Announced}
 use Rattle.frame.specs.declared.composer.Composer.{Composer}
-use Rattle.frame.specs.Composing.{asked, inTurn, announcedChecks, stateChecks, openRuleChecks, markChecks, openChecks}
+use Rattle.announced.specs.Announcing.{announcedChecks}
+use Rattle.frame.specs.Composing.{asked, inTurn, stateChecks, openRuleChecks, markChecks, openChecks}
 
 -- ---- asked
 

@@ -1,27 +1,14 @@
--- What is left of a stream. Assumes nothing.
-use Prim.Native.Nat.{ℕ, _+_, _-_, _*_, _/_, _≤_, _<_}
+-- What placing leaves of a stream, by how many packets were placed. Assumes nothing.
+use Prim.Native.Nat.{ℕ, _+_, _-_, _*_, _/_, _≤_}
 use mathlib.Core.Path.{_≡_, refl, sym, ap, _∙_}
 use mathlib.Core.Bool.{Bool, true, false, cond}
 use mathlib.Core.List.{List, [], _∷_}
 use native.Mathlib.Omega.{arith}
-use lib.ListN.{length, take, drop, length-drop, drop-of-length-le}
-use lib.Seq.{take-length, drop-drop}
-use Rattle.frame.specs.Packets.{packetLength}
+use lib.ListN.{length, drop, length-drop}
+use lib.Seq.{drop-drop}
+use Rattle.packet.specs.Packets.{packetLength}
 use Rattle.frame.specs.Slots.{takes, restAfter, placedBy}
-use Rattle.frame.specs.Composing.{restOf}
 use Rattle.frame.proofs.Walk.{packet-left}
-
--- a part that goes on to the end
-pub to-end : (k : ℕ) (l : List ℕ) → take (length l - k) (drop k l) ≡ drop k l
-to-end k l = ap (λ (n : ℕ). take n (drop k l)) (sym (length-drop k l)) ∙ take-length (drop k l)
-
--- of a stream that has not so many packets nothing is left
-pub over : (placed : ℕ) (l : List ℕ) → length l / packetLength < placed → drop (length l) l ≡ restOf l placed
-unfolding restOf
-over placed l h =
-    drop-of-length-le l {i = length l} (omega arith) ∙ sym (drop-of-length-le l {i = packetLength * placed} (omega arith))
-
--- ---- what placing leaves, by how many packets were placed
 
 -- one slot, behind which x packets are placed where it takes one, and y where not
 module _ (stream : List ℕ) (x y : ℕ) where

@@ -14,10 +14,10 @@ use Rattle.slices.proofs.Any.{any-no, any-each}
 use Rattle.setting.specs.declared.Kind.{Kind}
 use Rattle.setting.specs.declared.Setting.{Setting}
 use Rattle.setting.specs.Setting.{OfItsTypes}
-use Rattle.setting.specs.Refusal.{NoneHolds, more}
-use Rattle.setting.specs.Rules.{pidAllowed, unavailable, someUnavailable, absentChecks, widthChecks, bondingChecks, ruleChecks}
-use Rattle.setting.proofs.Refusals.{none-at, none-append}
-use Rattle.setting.proofs.Fields.{some-fit, fit-some}
+use Rattle.rules.specs.Refusal.{NoneHolds, more}
+use Rattle.rules.specs.Rules.{pidAllowed, unavailable, someUnavailable, absentChecks, widthChecks, bondingChecks, ruleChecks}
+use Rattle.rules.proofs.Refusals.{none-at, none-append}
+use Rattle.rules.proofs.Fields.{some-fit, fit-some}
 use Rattle.header.specs.Demands.{MeetsRules}
 use Rattle.frame.specs.Slots.{numbersOf}
 use Rattle.frame.specs.Composing.{saying}

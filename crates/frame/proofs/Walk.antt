@@ -10,8 +10,8 @@ use lib.Dec.{leb, eqb}
 use lib.ListN.{length, getD, take, drop, length-drop, drop-of-length-le}
 use lib.Seq.{drop-cons, drop-drop}
 use Rattle.slices.proofs.Any.{both}
-use Rattle.setting.specs.Counters.{lastSlot}
-use Rattle.frame.specs.Packets.{packetLength, nullPacket, unfit}
+use Rattle.counters.specs.Counters.{lastSlot}
+use Rattle.packet.specs.Packets.{packetLength, nullPacket, unfit}
 use Rattle.frame.specs.Slots.{nulls, numbersOf, takes, someUnfit, slotsAfter, marksAfter, restAfter}
 
 -- null packets from slot i on, and behind the last

@@ -1,52 +1,24 @@
 -- The composer: what each call answers, and what it leaves.
-use Prim.Native.Nat.{ℕ, _+_, _*_, _%_, _^_}
-use mathlib.Core.Bool.{Bool, true, false, cond, not, _&&_, _||_}
+use Prim.Native.Nat.{ℕ, _+_, _%_, _^_}
+use mathlib.Core.Bool.{Bool, true, false, cond, not, _&&_}
 use mathlib.Core.List.{List, [], _∷_, _++_}
 use lib.Dec.{leb, eqb}
-use lib.ListN.{length, getD, drop, replicate}
-use Rattle.slices.specs.Slices.{anyBelow, someAtLeast}
+use lib.ListN.{length, drop, replicate}
 use Rattle.setting.specs.declared.Kind.{Kind}
 use Rattle.setting.specs.declared.Setting.{Setting}
-use Rattle.setting.specs.Counters.{firstStream, lastStream, lastSlot, within}
-use Rattle.setting.specs.Refusal.{Check, firstOf}
-use Rattle.setting.specs.Rules.{pidAllowed, available, widthChecks, ruleChecks}
+use Rattle.counters.specs.Counters.{firstStream, lastStream, lastSlot, within, available}
+use Rattle.rules.specs.Refusal.{Check, firstOf}
+use Rattle.rules.specs.Rules.{pidAllowed, widthChecks, ruleChecks}
 use Rattle.setting.specs.Setting.{blank}
 use Rattle.header.specs.Header.{header}
-use Rattle.frame.specs.declared.composer.Announced.{Announced}
+use Rattle.announced.specs.Announcing.{announced, differ, announcedChecks}
 use Rattle.frame.specs.declared.composer.Composer.{Composer}
 use Rattle.frame.specs.declared.composer.Answer.{Answer}
 use Rattle.frame.specs.declared.composer.Placed.{Placed}
-use Rattle.frame.specs.Packets.{packetLength, frameLength}
+use Rattle.packet.specs.Packets.{packetLength, frameLength}
 use Rattle.frame.specs.Slots.{cleared, marksAfter, placedBy, someUnfit, frameAfter, someUnplanned, numbersOf}
 
 -- ---- the state
-
--- slot information, identifiers and control information: what raises the version where it differs
-unfoldable pub announced : Setting → Announced
-announced s =
-    record {
-      «slot_allocation_type» = s .«slot_allocation_type»;
-      «frame_type» = s .«frame_type»;
-      availability = s .availability;
-      «ts_id» = s .«ts_id»;
-      «original_network_id» = s .«original_network_id»;
-      «receive_status» = s .«receive_status»;
-      «emergency_indicator» = s .«emergency_indicator»;
-    }
-
--- whether two lists of the same length differ somewhere
-unfoldable pub someDiffer : List ℕ → List ℕ → Bool
-someDiffer xs ys = anyBelow (length xs) (λ i. not (eqb (getD xs i 0) (getD ys i 0)))
-
-unfoldable pub differ : Announced → Announced → Bool
-differ a b =
-    not (eqb (a .«slot_allocation_type») (b .«slot_allocation_type»))
-    || (not (eqb (a .«frame_type») (b .«frame_type»))
-    || (not (eqb (a .availability) (b .availability))
-    || (someDiffer (a .«ts_id») (b .«ts_id»)
-    || (someDiffer (a .«original_network_id») (b .«original_network_id»)
-    || (someDiffer (a .«receive_status») (b .«receive_status»)
-    || not (eqb (a .«emergency_indicator») (b .«emergency_indicator»)))))))
 
 -- a run's state before its first begin: no header was closed yet, and the one before the first would have had counter 15 and
 -- version 7 and announced another frame type
@@ -155,16 +127,6 @@ inTurn [] ds = ds
 inTurn (c ∷ cs) [] = c ∷ cs
 inTurn (c ∷ cs) (d ∷ ds) = c ∷ d ∷ inTurn cs ds
 
--- 17: the numbers of the last closed header
-unfoldable pub announcedChecks : Announced → List Check
-announcedChecks a =
-    (17, leb (2 ^ 1) (a .«slot_allocation_type»))
-    ∷ (17, leb (2 ^ 4) (a .«frame_type»))
-    ∷ (17, leb (2 ^ lastStream) (a .availability))
-    ∷ (17, someAtLeast (2 ^ 2) (a .«receive_status»))
-    ∷ (17, leb (2 ^ 1) (a .«emergency_indicator»))
-    ∷ []
-
 -- 2 and 17: a state's PID and numbers, and its setting's fields while a frame is open
 unfoldable pub stateChecks : Composer → List Check
 stateChecks c =
@@ -241,10 +203,6 @@ putOf c r stream lent =
 unfoldable pub putFrame : Composer → ℕ → List ℕ → List ℕ → List ℕ
 putFrame c r stream frame =
     leaves (putRefusal c r stream (length frame)) (frameAfter r (c .setting .«relative_ts_number») (c .filled) stream frame) frame
-
--- the rest of a lent stream of which so many packets were placed
-unfoldable pub restOf : List ℕ → ℕ → List ℕ
-restOf stream placed = drop (packetLength * placed) stream
 
 unfoldable pub closeOf : Composer → ℕ → Answer
 closeOf c lent = answer (closeRefusal c lent) (closed c) c

@@ -5,8 +5,8 @@ use mathlib.Core.List.{List, [], _∷_, _++_}
 use lib.Dec.{leb, eqb}
 use lib.ListN.{length, getD, take, drop}
 use Rattle.slices.specs.Slices.{anyBelow}
-use Rattle.setting.specs.Counters.{lastSlot}
-use Rattle.frame.specs.Packets.{packetLength, nullPacket, unfit}
+use Rattle.counters.specs.Counters.{lastSlot}
+use Rattle.packet.specs.Packets.{packetLength, nullPacket, unfit}
 
 -- n null packets, one behind the other
 unfoldable pub nulls : ℕ → List ℕ

@@ -1,101 +1,16 @@
 // What each call of the composer asks of its state and of what it is lent, in the table's order.
-use crate::composer::Announced;
 use crate::composer::Composer;
-use crate::packet::FRAME_BYTES;
-use crate::packet::PACKET_BYTES;
+use packet::FRAME_BYTES;
+use packet::PACKET_BYTES;
 use crate::slots;
 use setting::Setting;
-use setting::counters::RelativeNumber;
+use counters::RelativeNumber;
 use setting::limits;
-use setting::rules;
 ghost use mathlib.Core.Path.{_≡_};
 ghost use lib.ListN.{length};
-ghost use Rattle.setting.specs.Refusal.{firstOf};
-ghost use Rattle.setting.specs.Rules.{widthChecks, ruleChecks};
-ghost use Rattle.frame.specs.Composing.{someDiffer, differ, asked, announcedChecks, stateChecks, openRuleChecks, markChecks, inTurn, openChecks, streamChecks, beginRefusal, putRefusal, closeRefusal};
-
-// Whether two arrays of bytes, or of identifiers, differ somewhere.
-fn differ_bytes(xs: &[u8], ys: &[u8]) -> bool
-    requires { ⌜ length (now xs) ≡ length (now ys) ⌝ }
-    ensures { λ r. ⌜ r ≡ someDiffer (now (xs .entry)) (now (ys .entry)) ⌝ }
-{
-    let mut i = 0;
-    while i < xs.len() {
-        if xs[i] != ys[i] {
-            return true;
-        }
-        i += 1;
-    }
-    false
-}
-
-fn differ_words(xs: &[u16], ys: &[u16]) -> bool
-    requires { ⌜ length (now xs) ≡ length (now ys) ⌝ }
-    ensures { λ r. ⌜ r ≡ someDiffer (now (xs .entry)) (now (ys .entry)) ⌝ }
-{
-    let mut i = 0;
-    while i < xs.len() {
-        if xs[i] != ys[i] {
-            return true;
-        }
-        i += 1;
-    }
-    false
-}
-
-// Whether two headers announce different things.
-pub(crate) fn differs(a: Announced, b: Announced) -> bool
-    ensures { λ r. ⌜ r ≡ differ a b ⌝ }
-{
-    if a.slot_allocation_type != b.slot_allocation_type {
-        return true;
-    }
-    if a.frame_type != b.frame_type {
-        return true;
-    }
-    if a.availability != b.availability {
-        return true;
-    }
-    let a_ts = a.ts_id;
-    let b_ts = b.ts_id;
-    if differ_words(&a_ts, &b_ts) {
-        return true;
-    }
-    let a_network = a.original_network_id;
-    let b_network = b.original_network_id;
-    if differ_words(&a_network, &b_network) {
-        return true;
-    }
-    let a_status = a.receive_status;
-    let b_status = b.receive_status;
-    if differ_bytes(&a_status, &b_status) {
-        return true;
-    }
-    a.emergency_indicator != b.emergency_indicator
-}
-
-// 17: the numbers of the last closed header.
-fn announced_refusal(a: Announced) -> u8
-    ensures { λ r. ⌜ r ≡ firstOf (announcedChecks a) ⌝ }
-{
-    if limits::SLOT_ALLOCATION_TYPES <= a.slot_allocation_type {
-        return 17;
-    }
-    if limits::FRAME_TYPES <= a.frame_type {
-        return 17;
-    }
-    if limits::AVAILABILITIES <= a.availability {
-        return 17;
-    }
-    let receive_status = a.receive_status;
-    if slices::some_at_least(&receive_status, limits::RECEIVE_STATUSES) {
-        return 17;
-    }
-    if limits::EMERGENCY_INDICATORS <= a.emergency_indicator {
-        return 17;
-    }
-    0
-}
+ghost use Rattle.rules.specs.Refusal.{firstOf};
+ghost use Rattle.rules.specs.Rules.{widthChecks, ruleChecks};
+ghost use Rattle.frame.specs.Composing.{asked, stateChecks, openRuleChecks, markChecks, inTurn, openChecks, streamChecks, beginRefusal, putRefusal, closeRefusal};
 
 // 17: the setting's fields while a frame is open.
 fn open_width_refusal(c: Composer) -> u8
@@ -123,7 +38,7 @@ fn state_refusal(c: Composer) -> u8
         return 17;
     }
     let last = c.last;
-    let shown = announced_refusal(last);
+    let shown = announced::announced_refusal(last);
     if shown != 0 {
         return shown;
     }

@@ -1,28 +1,16 @@
 // A run of frames: begun, filled and closed one after another, over a state that goes in and comes out by value.
+use announced::Announced;
 use crate::checks;
-use crate::packet::PACKET_BYTES;
 use crate::slots;
+use packet::PACKET_BYTES;
 use setting::Kind;
 use setting::SLOTS;
-use setting::STREAMS;
 use setting::Setting;
-use setting::counters::RelativeNumber;
-use setting::rules;
+use counters::RelativeNumber;
 ghost use mathlib.Core.Path.{_≡_};
 ghost use Prim.Native.Nat.{_<_};
 ghost use lib.ListN.{length};
-ghost use Rattle.frame.specs.Composing.{announced, differ, fresh, opened, nextVersion, closing, closedWith, startOf, beginOf, begunFrame, putOf, putFrame, restOf, closeOf, closedFrame};
-
-// What of the last closed header decides on the next version: slot information, identifiers and control information.
-pub struct Announced {
-    pub slot_allocation_type: u8,
-    pub frame_type: u8,
-    pub availability: u16,
-    pub ts_id: [u16; STREAMS],
-    pub original_network_id: [u16; STREAMS],
-    pub receive_status: [u8; STREAMS],
-    pub emergency_indicator: u8,
-}
+ghost use Rattle.frame.specs.Composing.{fresh, opened, nextVersion, closing, closedWith, startOf, beginOf, begunFrame, putOf, putFrame, closeOf, closedFrame};
 
 // A run's state. A saved one may hold anything: each call checks it.
 pub struct Composer {
@@ -51,28 +39,10 @@ pub struct Placed {
     pub state: Composer,
 }
 
-// What a header with this setting announces.
-pub fn announce(s: Setting) -> Announced
-    ensures { λ r. ⌜ r ≡ announced s ⌝ }
-{
-    let ts_id = s.ts_id;
-    let original_network_id = s.original_network_id;
-    let receive_status = s.receive_status;
-    Announced {
-        slot_allocation_type: s.slot_allocation_type,
-        frame_type: s.frame_type,
-        availability: s.availability,
-        ts_id,
-        original_network_id,
-        receive_status,
-        emergency_indicator: s.emergency_indicator,
-    }
-}
-
 fn new_run(pid: u16, kind: Kind) -> Composer
     ensures { λ r. ⌜ r ≡ fresh kind pid ⌝ }
 {
-    let last = announce(Setting::blank());
+    let last = announced::announce(Setting::blank());
     let setting = Setting::blank();
     Composer {
         pid,
@@ -189,17 +159,6 @@ impl Composer {
     }
 }
 
-// What is left of a lent stream of which so many packets were placed.
-pub fn rest<'a>(stream: &'a [u8], placed: usize) -> &'a [u8]
-    ensures { λ r. ⌜ now r ≡ restOf (now (stream .entry)) placed ⌝ }
-{
-    let end = stream.len();
-    if end / PACKET_BYTES < placed {
-        return &stream[end..];
-    }
-    &stream[PACKET_BYTES * placed..]
-}
-
 // The version of the open frame's header: raised where it announces something else than the last one.
 fn next_version(c: Composer) -> u8
     requires { ⌜ c .version < 8 ⌝ }
@@ -207,7 +166,7 @@ fn next_version(c: Composer) -> u8
 {
     let setting = c.setting;
     let last = c.last;
-    if checks::differs(announce(setting), last) {
+    if announced::differs(announced::announce(setting), last) {
         return (c.version + 1) % 8;
     }
     c.version
@@ -232,7 +191,7 @@ fn ended(c: Composer, counter: u8, version: u8) -> Composer
     ensures { λ r. ⌜ r ≡ closedWith c counter version ⌝ }
 {
     let kind = c.kind;
-    let last = announce(c.setting);
+    let last = announced::announce(c.setting);
     let setting = Setting::blank();
     Composer {
         pid: c.pid,

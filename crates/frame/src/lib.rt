@@ -1,5 +1,4 @@
 // Frames of 53 packets above the header: composed slot by slot.
 mod checks;
 pub mod composer;
-pub mod packet;
 mod slots;

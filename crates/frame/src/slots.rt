@@ -1,12 +1,22 @@
 // The slots of a frame, one after another: slot i is the 188 bytes at 188 × i.
-use crate::packet;
-use crate::packet::PACKET_BYTES;
+use packet::PACKET_BYTES;
 use setting::SLOTS;
 ghost use mathlib.Core.Path.{_≡_};
 ghost use lib.ListN.{length};
-ghost use Rattle.setting.specs.Counters.{lastSlot};
-ghost use Rattle.frame.specs.Packets.{frameLength};
+ghost use Rattle.counters.specs.Counters.{lastSlot};
+ghost use Rattle.packet.specs.Packets.{packetLength, frameLength, nullPacket};
 ghost use Rattle.frame.specs.Slots.{cleared, takes, someUnfit, frameAfter, marksAfter, restAfter, someUnplanned, numbersOf};
+
+// Writes a null packet into a slot.
+fn write_null(slot: &mut [u8])
+    requires { ⌜ length (now slot) ≡ packetLength ⌝ }
+    ensures { λ _. ⌜ now (slot .exit) ≡ nullPacket ⌝ }
+{
+    slices::fill(slot, 0xFF);
+    slot[0] = 0x47;
+    slot[1] = 0x1F;
+    slot[3] = 0x10;
+}
 
 // Writes null packets into slots 1 to 52.
 pub(crate) fn clear(frame: &mut [u8])
@@ -16,7 +26,7 @@ pub(crate) fn clear(frame: &mut [u8])
     let mut i = 1;
     while i <= SLOTS {
         let at = PACKET_BYTES * i;
-        packet::write_null(&mut frame[at..at + PACKET_BYTES]);
+        write_null(&mut frame[at..at + PACKET_BYTES]);
         i += 1;
     }
 }
@@ -43,7 +53,7 @@ pub(crate) fn has_unfit(stream: &[u8], plan: &[u8], filled: &[bool], r: u8, pid:
     let mut at = 0;
     while i < SLOTS {
         if is_taken(r, plan[i], filled[i], stream.len() - at) {
-            if packet::is_unfit(&stream[at..at + PACKET_BYTES], pid) {
+            if packet::place_refusal(&stream[at..at + PACKET_BYTES], pid) != 0 {
                 return true;
             }
             at += PACKET_BYTES;

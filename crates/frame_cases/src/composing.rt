@@ -6,9 +6,9 @@ use draws::settings;
 use draws::streams;
 use frame::composer;
 use frame::composer::Composer;
-use frame::packet::PACKET_BYTES;
+use packet::PACKET_BYTES;
 use setting::Setting;
-use setting::counters::RelativeNumber;
+use counters::RelativeNumber;
 
 // One more than the largest number of packets that are put for a stream, and the bytes of so many.
 const PACKETS: u16 = 8;
@@ -37,7 +37,7 @@ pub(crate) fn next_setting(f: u64, state: &mut u32, last: Setting) -> Setting {
 // Puts a stream for r, and prints what came of it.
 fn put_stream(f: u64, run: Composer, frame: &mut [u8], stream: &[u8], r: u8) -> Composer {
     let placed = run.put(frame, stream, RelativeNumber(r));
-    let left = composer::rest(stream, placed.placed).len() / PACKET_BYTES;
+    let left = packet::rest(stream, placed.placed).len() / PACKET_BYTES;
     lines::print_put(f, r, placed.refusal, placed.placed, left);
     placed.state
 }

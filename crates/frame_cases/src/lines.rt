@@ -1,6 +1,6 @@
 // The lines that are printed: words and decimal numbers with one space between.
 use libc::STDOUT_FILENO;
-use receiver::table::Event;
+use receiver_table::Event;
 
 fn put_number(x: u64) {
     io::write_all(STDOUT_FILENO, b" ");

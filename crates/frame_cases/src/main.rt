@@ -2,7 +2,7 @@
 // compare/FRAME-CASES.md says how; the steps of composing are numbered as there.
 use crate::receiving::Link;
 use frame::composer::Composer;
-use frame::packet::FRAME_BYTES;
+use packet::FRAME_BYTES;
 use receiver::Receiver;
 use receiver::STORE_BYTES;
 use setting::Kind;

@@ -1,10 +1,10 @@
 // Packets received one after another, and ready frames handed out.
 use crate::lines;
-use frame::packet::PACKET_BYTES;
+use packet::PACKET_BYTES;
 use receiver::Receiver;
 use receiver::STORE_BYTES;
-use receiver::table::Event;
-use setting::counters::RelativeNumber;
+use receiver_table::Event;
+use counters::RelativeNumber;
 
 // The receiver, and how many packets it received, a count that would wrap at 2^64.
 pub(crate) struct Link {

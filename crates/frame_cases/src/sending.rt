@@ -1,7 +1,7 @@
 // A frame sent packet by packet: what is lost on the way, what is spoiled, and what comes twice.
 use crate::receiving::Link;
 use crate::receiving::receive_packet;
-use frame::packet::PACKET_BYTES;
+use packet::PACKET_BYTES;
 use setting::SLOTS;
 ghost use mathlib.Core.Path.{_≡_};
 ghost use lib.ListN.{length};

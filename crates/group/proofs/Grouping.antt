@@ -12,7 +12,7 @@ use lib.ListN.{length, getD, set, replicate, length-set, length-replicate}
 use lib.Seq.{getD-set-same, getD-set-other, set-getD}
 use Rattle.slices.proofs.Any.{both}
 use Rattle.setting.specs.declared.Setting.{Setting}
-use Rattle.setting.specs.Counters.{firstPosition, lastPosition}
+use Rattle.counters.specs.Counters.{firstPosition, lastPosition}
 use Rattle.setting.specs.Setting.{blank}
 use Rattle.group.specs.declared.Bond.{Bond}
 use Rattle.group.specs.declared.headers.Shown.{Shown}

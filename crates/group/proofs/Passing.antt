@@ -7,13 +7,13 @@ use borrow.Author.Tests.{eqb-true, eqb-false, ne-eqb, not-false}
 use lib.Dec.{leb, eqb}
 use lib.ListN.{length}
 use Rattle.slices.proofs.Any.{both, neither}
-use Rattle.setting.specs.Counters.{within}
-use Rattle.setting.specs.Refusal.{Check, NoneHolds, firstOf}
-use Rattle.setting.specs.Rules.{pidAllowed, ruleChecks, bondingChecks}
-use Rattle.setting.proofs.Refusals.{numbered, none-first, none-at, onward, at-once}
-use Rattle.setting.proofs.Fields.{at-most}
+use Rattle.counters.specs.Counters.{within}
+use Rattle.rules.specs.Refusal.{Check, NoneHolds, firstOf}
+use Rattle.rules.specs.Rules.{pidAllowed, ruleChecks, bondingChecks}
+use Rattle.rules.proofs.Refusals.{numbered, none-first, none-at, onward, at-once}
+use Rattle.rules.proofs.Fields.{at-most}
 use Rattle.header.specs.Header.{packetChecks}
-use Rattle.frame.specs.Packets.{frameLength}
+use Rattle.packet.specs.Packets.{frameLength}
 use Rattle.places.specs.Walk.{lastCarrier}
 use Rattle.group.specs.declared.Bond.{Bond}
 use Rattle.group.specs.declared.headers.Planned.{Planned}

@@ -12,7 +12,7 @@ use lib.ListN.{length, getD, set, length-set, length-replicate, length-append}
 use lib.Seq.{getD-set-same, getD-set-other}
 use Rattle.slices.specs.Slices.{anyBelow}
 use Rattle.slices.proofs.Any.{both}
-use Rattle.frame.specs.Packets.{frameLength}
+use Rattle.packet.specs.Packets.{frameLength}
 use Rattle.group.specs.declared.Bond.{Bond}
 use Rattle.places.specs.Order.{picked, framePackets}
 use Rattle.places.specs.Walk.{lastCarrier, mostFrames, twelfths, placeAt, packetAt, isStop, isMarked, stops, InBuffer}

@@ -11,13 +11,13 @@ use lib.Dec.{leb}
 use Rattle.slices.proofs.Any.{both}
 use Rattle.setting.specs.declared.Kind.{Kind}
 use Rattle.setting.specs.declared.Setting.{Setting}
-use Rattle.setting.specs.Counters.{firstPosition, within}
-use Rattle.setting.specs.Refusal.{NoneHolds}
-use Rattle.setting.specs.Rules.{ruleChecks, bondingChecks}
-use Rattle.setting.proofs.Refusals.{none-at, none-before, none-behind}
-use Rattle.setting.proofs.Fields.{at-most, bonding-none}
+use Rattle.counters.specs.Counters.{firstPosition, within}
+use Rattle.rules.specs.Refusal.{NoneHolds}
+use Rattle.rules.specs.Rules.{ruleChecks, bondingChecks}
+use Rattle.rules.proofs.Refusals.{none-at, none-before, none-behind}
+use Rattle.rules.proofs.Fields.{at-most, bonding-none}
 use Rattle.header.specs.Header.{packetChecks}
-use Rattle.frame.specs.Packets.{slot}
+use Rattle.packet.specs.Packets.{slot}
 use Rattle.group.specs.declared.Bond.{Bond}
 use Rattle.group.specs.declared.headers.Shown.{Shown}
 use Rattle.places.specs.Order.{framePackets}

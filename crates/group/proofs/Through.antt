@@ -11,15 +11,15 @@ use lib.Dec.{eqb}
 use lib.ListN.{length, take, drop, length-drop}
 use lib.Seq.{length-take-le}
 use Rattle.setting.specs.declared.Kind.{Kind}
-use Rattle.setting.specs.Counters.{lastPosition}
+use Rattle.counters.specs.Counters.{lastPosition}
 use Rattle.setting.specs.Setting.{blank}
-use Rattle.setting.specs.Refusal.{Check, NoneHolds, firstOf}
-use Rattle.setting.specs.Rules.{pidAllowed, ruleChecks, bondingChecks}
-use Rattle.setting.proofs.Refusals.{answers, first-none, onward, at-once, none-append, none-before, none-behind, none-first}
+use Rattle.rules.specs.Refusal.{Check, NoneHolds, firstOf}
+use Rattle.rules.specs.Rules.{pidAllowed, ruleChecks, bondingChecks}
+use Rattle.rules.proofs.Refusals.{answers, first-none, onward, at-once, none-append, none-before, none-behind, none-first}
 use Rattle.header.specs.declared.Reading.{Reading}
 use Rattle.header.specs.Header.{headerLength, packetChecks, reading, readRefusal, readOf}
 use Rattle.header.proofs.Calls.{right-call}
-use Rattle.frame.specs.Packets.{packetLength, frameLength, slot}
+use Rattle.packet.specs.Packets.{packetLength, frameLength, slot}
 use Rattle.group.specs.declared.Bond.{Bond}
 use Rattle.group.specs.declared.headers.Shown.{Shown}
 use Rattle.group.specs.declared.headers.Plan.{Plan}

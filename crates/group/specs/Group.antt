@@ -6,10 +6,9 @@ use lib.Dec.{eqb}
 use lib.ListN.{length, getD}
 use Rattle.setting.specs.declared.Kind.{Kind}
 use Rattle.setting.specs.declared.Setting.{Setting}
-use Rattle.setting.specs.Counters.{lastStream}
-use Rattle.setting.specs.Rules.{available}
+use Rattle.counters.specs.Counters.{lastStream, available}
 use Rattle.header.specs.Header.{reading}
-use Rattle.frame.specs.Packets.{frameLength, slot}
+use Rattle.packet.specs.Packets.{frameLength, slot}
 use Rattle.group.specs.declared.Bond.{Bond}
 use Rattle.places.specs.Order.{framePackets, placeOf, Place, comesBefore, picked, sorted}
 

@@ -7,12 +7,12 @@ use lib.ListN.{length}
 use Rattle.slices.specs.Slices.{anyBelow}
 use Rattle.setting.specs.declared.Kind.{Kind}
 use Rattle.setting.specs.declared.Setting.{Setting}
-use Rattle.setting.specs.Counters.{firstPosition, within}
+use Rattle.counters.specs.Counters.{firstPosition, within}
 use Rattle.setting.specs.Setting.{blank}
-use Rattle.setting.specs.Refusal.{Check}
-use Rattle.setting.specs.Rules.{pidAllowed, ruleChecks}
+use Rattle.rules.specs.Refusal.{Check}
+use Rattle.rules.specs.Rules.{pidAllowed, ruleChecks}
 use Rattle.header.specs.Header.{packetChecks}
-use Rattle.frame.specs.Packets.{frameLength, slot}
+use Rattle.packet.specs.Packets.{frameLength, slot}
 use Rattle.group.specs.declared.Bond.{Bond}
 use Rattle.group.specs.declared.headers.Shown.{Shown}
 use Rattle.places.specs.Order.{framePackets}

@@ -1,10 +1,9 @@
 // What is asked of a group before its headers are looked at, in the table's order.
 use crate::Bond;
 use crate::headers::CARRIERS;
-use frame::packet::FRAME_BYTES;
-use setting::rules;
+use packet::FRAME_BYTES;
 ghost use mathlib.Core.Path.{_≡_};
-ghost use Rattle.setting.specs.Refusal.{firstOf};
+ghost use Rattle.rules.specs.Refusal.{firstOf};
 ghost use Rattle.group.specs.Standing.{callChecks};
 
 // 1, 2, 17: the group's length and the numbers.

@@ -14,10 +14,10 @@ use Rattle.slices.proofs.Any.{both}
 use Rattle.setting.specs.declared.Kind.{Kind}
 use Rattle.setting.specs.declared.Setting.{Setting}
 use Rattle.setting.specs.Setting.{privateBytes, auxiliaryBytes}
-use Rattle.setting.specs.Refusal.{NoneHolds, none, more}
-use Rattle.setting.specs.Rules.{pidAllowed, absentChecks, widthChecks, bondingChecks, ruleChecks}
-use Rattle.setting.proofs.Fields.{some-fit}
-use Rattle.setting.proofs.Refusals.{numbered, none-first, none-at, none-append, none-behind}
+use Rattle.rules.specs.Refusal.{NoneHolds, none, more}
+use Rattle.rules.specs.Rules.{pidAllowed, absentChecks, widthChecks, bondingChecks, ruleChecks}
+use Rattle.rules.proofs.Fields.{some-fit}
+use Rattle.rules.proofs.Refusals.{numbered, none-first, none-at, none-append, none-behind}
 use Rattle.header.specs.Rows.{place, rowAt}
 use Rattle.header.specs.Layout.{syncByte, tsmfSync, layout}
 use Rattle.header.specs.Header.{headerLength, row, value, reading, callChecks, packetChecks, readRefusal}

@@ -10,7 +10,7 @@ use Rattle.bits.specs.Fields.{Fit, bitsOf, number, run}
 use Rattle.bits.proofs.Laws.{fit-run, fit-drop, length-run, bitsOf-number, number-lt}
 use Rattle.crc.proofs.Laws.{own-bits-only}
 use Rattle.setting.specs.declared.Kind.{Kind}
-use Rattle.setting.specs.Counters.{lastStream}
+use Rattle.counters.specs.Counters.{lastStream}
 use Rattle.header.specs.Layout.{layout, reservedRows}
 use Rattle.header.specs.Header.{headerLength, one, paired, firsts, seconds, content, body, header, row, value, reading}
 use Rattle.header.specs.Demands.{Among, here, there, allOnes, SameButReserved, ReservedOnes, WrittenAgain}

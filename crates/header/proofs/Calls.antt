@@ -9,9 +9,9 @@ use borrow.Author.Tests.{eq-eqb, ne-eqb}
 use Rattle.setting.specs.declared.Kind.{Kind}
 use Rattle.setting.specs.declared.Setting.{Setting}
 use Rattle.setting.specs.Setting.{blank}
-use Rattle.setting.specs.Refusal.{Check, firstOf, more}
-use Rattle.setting.specs.Rules.{pidAllowed}
-use Rattle.setting.proofs.Refusals.{answers, passed, first-none}
+use Rattle.rules.specs.Refusal.{Check, firstOf, more}
+use Rattle.rules.specs.Rules.{pidAllowed}
+use Rattle.rules.proofs.Refusals.{answers, passed, first-none}
 use Rattle.header.specs.declared.Reading.{Reading}
 use Rattle.header.specs.Header.{headerLength, header, reading, callChecks, writeRefusal, written, readRefusal, readOf}
 use Rattle.header.specs.Demands.{MeetsRules}

@@ -8,11 +8,11 @@ use lib.ListN.{length, getD, replicate, length-replicate}
 use Rattle.bits.specs.Fields.{Fit, none, more}
 use Rattle.setting.specs.declared.Kind.{Kind}
 use Rattle.setting.specs.declared.Setting.{Setting}
-use Rattle.setting.specs.Counters.{lastStream}
+use Rattle.counters.specs.Counters.{lastStream}
 use Rattle.setting.specs.Setting.{Array, OfItsTypes}
-use Rattle.setting.specs.Rules.{widthChecks, ruleChecks}
-use Rattle.setting.proofs.Fields.{at-most, bonded, bonding-none, narrow}
-use Rattle.setting.proofs.Refusals.{none-before, none-behind}
+use Rattle.rules.specs.Rules.{widthChecks, ruleChecks}
+use Rattle.rules.proofs.Fields.{at-most, bonded, bonding-none, narrow}
+use Rattle.rules.proofs.Refusals.{none-before, none-behind}
 use Rattle.header.specs.Layout.{reservedByte, reservedBytes, layout}
 use Rattle.header.specs.Header.{one, paired, content}
 use Rattle.header.specs.Demands.{MeetsRules}

@@ -9,8 +9,8 @@ use lib.Dec.{eqb}
 use lib.ListN.{length, getD}
 use Rattle.bits.specs.Fields.{Fit, cut}
 use Rattle.bits.proofs.Laws.{fit-getD}
-use Rattle.setting.specs.Refusal.{firstOf, NoneHolds}
-use Rattle.setting.proofs.Refusals.{none-first}
+use Rattle.rules.specs.Refusal.{firstOf, NoneHolds}
+use Rattle.rules.proofs.Refusals.{none-first}
 use Rattle.header.specs.Rows.{place, rowAt}
 use Rattle.header.specs.Layout.{startRows}
 use Rattle.header.specs.Header.{headerLength, startValue, packetChecks}

@@ -11,9 +11,9 @@ use Rattle.slices.specs.Slices.{copied}
 use Rattle.slices.proofs.Front.{put, front-none, front-part, front-length, front-all}
 use Rattle.setting.specs.declared.Kind.{Kind}
 use Rattle.setting.specs.declared.Setting.{Setting}
-use Rattle.setting.specs.Refusal.{NoneHolds}
-use Rattle.setting.specs.Rules.{bondingChecks}
-use Rattle.setting.proofs.Fields.{bonded}
+use Rattle.rules.specs.Refusal.{NoneHolds}
+use Rattle.rules.specs.Rules.{bondingChecks}
+use Rattle.rules.proofs.Fields.{bonded}
 use Rattle.header.specs.Rows.{pack}
 use Rattle.header.specs.Layout.{privateRows}
 use Rattle.header.specs.Bytes.{bondingBytes}

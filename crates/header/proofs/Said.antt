@@ -10,7 +10,7 @@ use Rattle.bits.proofs.Laws.{fit-getD}
 use Rattle.setting.specs.declared.Kind.{Kind}
 use Rattle.setting.specs.declared.Setting.{Setting}
 use Rattle.setting.specs.Setting.{privateBytes, auxiliaryBytes}
-use Rattle.setting.specs.Rules.{byKind}
+use Rattle.rules.specs.Rules.{byKind}
 use Rattle.header.specs.Rows.{place, rowAt}
 use Rattle.header.specs.Header.{headerLength, row, reading}
 use Rattle.header.proofs.Cut.{byte-field, word-field, wordAt, part-row, byte-row}

@@ -7,7 +7,7 @@ use lib.Dec.{lit<}
 use Rattle.bits.specs.Fields.{bitsOf, run}
 use Rattle.bits.proofs.Laws.{bitsOf-join}
 use Rattle.setting.specs.declared.Setting.{Setting}
-use Rattle.setting.specs.Rules.{Narrow}
+use Rattle.rules.specs.Rules.{Narrow}
 use Rattle.header.specs.Rows.{pack}
 use Rattle.header.specs.Layout.{startRows}
 use Rattle.header.specs.Header.{startContent}

@@ -8,8 +8,8 @@ use Rattle.bits.specs.Fields.{Fit}
 use Rattle.setting.specs.declared.Kind.{Kind}
 use Rattle.setting.specs.declared.Setting.{Setting}
 use Rattle.setting.specs.Setting.{OfItsTypes}
-use Rattle.setting.specs.Refusal.{NoneHolds}
-use Rattle.setting.specs.Rules.{pidAllowed, widthChecks, ruleChecks}
+use Rattle.rules.specs.Refusal.{NoneHolds}
+use Rattle.rules.specs.Rules.{pidAllowed, widthChecks, ruleChecks}
 use Rattle.header.specs.Rows.{Row}
 use Rattle.header.specs.Layout.{layout, reservedRows}
 use Rattle.header.specs.Header.{headerLength, header, row, reading, writeRefusal, written, readRefusal, readOf}

@@ -9,8 +9,8 @@ use Rattle.crc.specs.Crc.{registerFrom, registerOf}
 use Rattle.setting.specs.declared.Kind.{Kind}
 use Rattle.setting.specs.declared.Setting.{Setting}
 use Rattle.setting.specs.Setting.{privateBytes, auxiliaryBytes, blank}
-use Rattle.setting.specs.Refusal.{Check, firstOf}
-use Rattle.setting.specs.Rules.{byKind, pidAllowed, widthChecks, ruleChecks}
+use Rattle.rules.specs.Refusal.{Check, firstOf}
+use Rattle.rules.specs.Rules.{byKind, pidAllowed, widthChecks, ruleChecks}
 use Rattle.header.specs.declared.Reading.{Reading}
 use Rattle.header.specs.Rows.{pack, rowAt}
 use Rattle.header.specs.Layout.{syncByte, tsmfSync, reservedByte, reservedBytes, startRows, layout}

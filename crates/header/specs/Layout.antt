@@ -2,9 +2,9 @@
 use Prim.Native.Nat.{ℕ, _*_}
 use mathlib.Core.List.{List, [], _∷_, _++_}
 use Rattle.setting.specs.declared.Kind.{Kind}
-use Rattle.setting.specs.Counters.{lastSlot, lastStream}
+use Rattle.counters.specs.Counters.{lastSlot, lastStream}
 use Rattle.setting.specs.Setting.{privateBytes, auxiliaryBytes}
-use Rattle.setting.specs.Rules.{byKind}
+use Rattle.rules.specs.Rules.{byKind}
 use Rattle.header.specs.Rows.{Row}
 
 -- sync_byte, TSMF_sync, and the value of a reserved byte

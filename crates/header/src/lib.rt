@@ -1,7 +1,6 @@
 // The TSMF header of J.183: its writer and reader.
 use setting::Kind;
 use setting::Setting;
-use setting::rules;
 ghost use mathlib.Core.Path.{_≡_};
 ghost use lib.ListN.{length};
 ghost use Rattle.header.specs.Header.{writeRefusal, written, readOf};

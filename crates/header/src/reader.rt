@@ -8,15 +8,15 @@ use setting::PRIVATE_BYTES;
 use setting::SLOTS;
 use setting::STREAMS;
 use setting::Setting;
-use setting::counters::FramePosition;
+use counters::FramePosition;
 ghost use mathlib.Core.Path.{_≡_};
 ghost use Prim.Native.Nat.{_+_, _*_};
 ghost use lib.ListN.{length, take, drop};
 ghost use Rattle.bits.specs.Fields.{run, cut};
-ghost use Rattle.setting.specs.Counters.{lastStream};
+ghost use Rattle.counters.specs.Counters.{lastStream};
 ghost use Rattle.setting.specs.Setting.{privateBytes, auxiliaryBytes, blank};
-ghost use Rattle.setting.specs.Refusal.{firstOf};
-ghost use Rattle.setting.specs.Rules.{byKind};
+ghost use Rattle.rules.specs.Refusal.{firstOf};
+ghost use Rattle.rules.specs.Rules.{byKind};
 ghost use Rattle.header.specs.Header.{headerLength, firsts, seconds, packetChecks, reading};
 
 // A number of 16 bits from its two bytes.

@@ -6,8 +6,8 @@ use mathlib.Core.List.{List, [], _∷_, _++_}
 use lib.Dec.{eqb, ltb}
 use lib.ListN.{length, take, drop}
 use Rattle.setting.specs.declared.Kind.{Kind}
-use Rattle.setting.specs.Refusal.{Check, firstOf}
-use Rattle.setting.specs.Rules.{countAvailable}
+use Rattle.rules.specs.Refusal.{Check, firstOf}
+use Rattle.counters.specs.Counters.{countAvailable}
 use Rattle.header.specs.declared.Reading.{Reading}
 use Rattle.header.specs.Header.{readOf}
 use Rattle.listing.specs.declared.Listed.{Listed}

@@ -43,7 +43,7 @@ fn put_line(out: &mut [u8], at: usize, number: u64, packet: &[u8]) -> usize
         return put_refused(out, next, reading.refusal);
     }
     let setting = reading.setting;
-    let available = setting::count_available(setting.availability);
+    let available = counters::count_available(setting.availability);
     put_header(
         out,
         next,

@@ -4,7 +4,7 @@ use mathlib.Core.Path.{_≡_, refl, ap}
 use mathlib.Core.List.{List, [], _∷_}
 use native.Mathlib.Omega.{arith}
 use lib.ListN.{getD, set}
-use Rattle.setting.specs.Counters.{lastPosition}
+use Rattle.counters.specs.Counters.{lastPosition}
 use Rattle.places.specs.Walk.{framesBefore}
 
 -- those of one carrier more

@@ -6,8 +6,8 @@ use mathlib.Core.Bool.{Bool, true, cond, _&&_}
 use mathlib.Core.List.{List, [], _∷_}
 use lib.Dec.{ltb, eqb}
 use lib.ListN.{length, getD}
-use Rattle.setting.specs.Counters.{lastPosition}
-use Rattle.frame.specs.Packets.{packetLength}
+use Rattle.counters.specs.Counters.{lastPosition}
+use Rattle.packet.specs.Packets.{packetLength}
 use Rattle.places.specs.Order.{framePackets, picked}
 
 -- a group has up to 8 carriers

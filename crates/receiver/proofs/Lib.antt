@@ -1,5 +1,5 @@
+mod Arrived
 pub mod Handing
 mod Receipts
 pub mod ReceiverChecks
-mod Rows
 pub mod Sorts

@@ -7,15 +7,16 @@ use lib.ListN.{length}
 use Rattle.setting.specs.declared.Setting.{Setting}
 use Rattle.header.specs.Header.{reading}
 use Rattle.frame.proofs.Answers.{kept, written}
-use Rattle.receiver.specs.declared.table.Event.{Event}
+use Rattle.receiver_table.specs.declared.Event.{Event}
 use Rattle.receiver.specs.declared.Received.{Received}
 use Rattle.receiver.specs.declared.Receiver.{Receiver}
-use Rattle.receiver.specs.declared.table.Row.{Row}
+use Rattle.receiver_table.specs.declared.Row.{Row}
 use Rattle.slices.specs.Slices.{over}
 use Rattle.receiver.specs.Store.{numbered, slotsFor}
-use Rattle.receiver.specs.Table.{Sort, good, broken, other, sortOf, rowOf, storeAfter}
+use Rattle.receiver_table.specs.Table.{Sort, good, broken, other, rowOf}
+use Rattle.receiver.specs.Arriving.{sortOf, storeAfter}
 use Rattle.receiver.specs.Receiving.{rowFor, moved, renumbered, receiverAfter, receiveRefusal, receiveOf, receiveStore, handOutRefusal, handOutOf, handOutBuffer}
-use Rattle.receiver.proofs.Rows.{other-counter, broken-counter}
+use Rattle.receiver_table.proofs.Rows.{other-counter, broken-counter}
 
 -- ---- a packet
 

@@ -6,15 +6,15 @@ use mathlib.Core.List.{List, [], _∷_, _++_}
 use borrow.Author.Tests.{eqb-true, ltb-false, not-false}
 use lib.Dec.{eqb, ltb}
 use Rattle.slices.specs.Slices.{someAtLeast}
-use Rattle.setting.specs.Counters.{firstStream, lastStream, within}
-use Rattle.setting.specs.Refusal.{Check, firstOf, NoneHolds}
-use Rattle.setting.proofs.Refusals.{numbered, none-first, none-at, none-behind}
-use Rattle.frame.specs.Packets.{packetLength}
+use Rattle.counters.specs.Counters.{firstStream, lastStream, within}
+use Rattle.rules.specs.Refusal.{Check, firstOf, NoneHolds}
+use Rattle.rules.proofs.Refusals.{numbered, none-first, none-at, none-behind}
+use Rattle.packet.specs.Packets.{packetLength}
 use Rattle.frame.proofs.Refusals.{numbered-append}
-use Rattle.receiver.specs.declared.table.Stage.{Stage}
+use Rattle.receiver_table.specs.declared.Stage.{Stage}
 use Rattle.receiver.specs.declared.Receiver.{Receiver}
 use Rattle.receiver.specs.Store.{storeLength, slotsFor}
-use Rattle.receiver.specs.Table.{isReady}
+use Rattle.receiver_table.specs.Table.{isReady}
 use Rattle.receiver.specs.Receiving.{stageChecks, receiverChecks, receiveRefusal, handOutRefusal}
 
 -- ---- no check of a part has the number 0: where it answers 0, none holds

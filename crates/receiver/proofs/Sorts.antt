@@ -8,28 +8,15 @@ use lib.Dec.{eqb}
 use lib.ListN.{length}
 use Rattle.slices.proofs.Any.{neither}
 use Rattle.setting.specs.declared.Kind.{Kind}
-use Rattle.setting.specs.Refusal.{none, more}
-use Rattle.setting.proofs.Refusals.{first-none, none-first, none-at}
+use Rattle.rules.specs.Refusal.{none, more}
+use Rattle.rules.proofs.Refusals.{first-none, none-first, none-at}
 use Rattle.header.specs.Rows.{place, rowAt}
 use Rattle.header.specs.Layout.{syncByte, startRows, identifierRows, controlRows, numberRows, privateRows, layout}
 use Rattle.header.specs.Header.{startValue, reading, readRefusal, readOf}
 use Rattle.header.proofs.Accepted.{shown}
-use Rattle.frame.specs.Packets.{packetLength, unfit, placeRefusal}
-use Rattle.receiver.specs.Table.{good, broken, other, sortOf}
-
--- ---- a packet of 188 bytes may stand in a slot, or is unfit
-
-pub may-stand : (pid : ℕ) (p : List ℕ) → placeRefusal pid p ≡ 0 → unfit pid p ≡ false
-unfolding placeRefusal
-may-stand pid p e = none-at (none-first ((1, not (eqb (length p) packetLength)) ∷ (12, unfit pid p) ∷ []) refl e) 1
-
-pub may-not-stand : (pid : ℕ) (p : List ℕ) → length p ≡ packetLength → (placeRefusal pid p ≡ 0 → ⊥) → unfit pid p ≡ true
-unfolding placeRefusal
-may-not-stand pid p l h = unless-fit (unfit pid p) (λ e. h (first-none (more (ap not (eq-eqb (length p) packetLength l)) (more e none))))
-  where
-    unless-fit : (b : Bool) → (b ≡ false → ⊥) → b ≡ true
-    unless-fit true fit = refl
-    unless-fit false fit = absurd (fit refl)
+use Rattle.packet.specs.Packets.{packetLength, unfit, placeRefusal}
+use Rattle.receiver_table.specs.Table.{good, broken, other}
+use Rattle.receiver.specs.Arriving.{sortOf}
 
 -- ---- by what the reader says
 

@@ -1,4 +1,4 @@
--- The receiver: its table, and what each call answers and leaves.
+-- The receiver: its store, and what each call answers and leaves.
 pub mod Store
-pub mod Table
+pub mod Arriving
 pub mod Receiving

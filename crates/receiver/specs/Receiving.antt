@@ -6,21 +6,22 @@ use lib.Dec.{leb, ltb, eqb}
 use lib.ListN.{length, replicate}
 use Rattle.slices.specs.Slices.{someAtLeast, over}
 use Rattle.setting.specs.declared.Kind.{Kind}
-use Rattle.setting.specs.Counters.{firstStream, lastStream, lastSlot, within}
-use Rattle.setting.specs.Refusal.{Check, firstOf}
-use Rattle.setting.specs.Rules.{pidAllowed}
+use Rattle.counters.specs.Counters.{firstStream, lastStream, lastSlot, within}
+use Rattle.rules.specs.Refusal.{Check, firstOf}
+use Rattle.rules.specs.Rules.{pidAllowed}
 use Rattle.header.specs.Header.{reading}
-use Rattle.frame.specs.Packets.{packetLength}
+use Rattle.packet.specs.Packets.{packetLength}
 use Rattle.frame.specs.Composing.{leaves}
-use Rattle.receiver.specs.declared.table.Stage.{Stage}
-use Rattle.receiver.specs.declared.table.Event.{Event}
-use Rattle.receiver.specs.declared.table.Row.{Row}
+use Rattle.receiver_table.specs.declared.Stage.{Stage}
+use Rattle.receiver_table.specs.declared.Event.{Event}
+use Rattle.receiver_table.specs.declared.Row.{Row}
 use Rattle.receiver.specs.declared.Receiver.{Receiver}
 use Rattle.receiver.specs.declared.Started.{Started}
 use Rattle.receiver.specs.declared.Received.{Received}
 use Rattle.receiver.specs.declared.HandedOut.{HandedOut}
 use Rattle.receiver.specs.Store.{storeLength, numbered, slotsFor}
-use Rattle.receiver.specs.Table.{Sort, good, broken, other, sortOf, rowOf, isReady, storeAfter}
+use Rattle.receiver_table.specs.Table.{Sort, good, broken, other, rowOf, isReady}
+use Rattle.receiver.specs.Arriving.{sortOf, storeAfter}
 
 -- ---- the state
 

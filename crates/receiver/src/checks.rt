@@ -2,15 +2,13 @@
 use crate::Receiver;
 use crate::STORE_BYTES;
 use crate::numbered;
-use crate::table;
-use crate::table::Stage;
-use frame::packet::PACKET_BYTES;
+use receiver_table::Stage;
+use packet::PACKET_BYTES;
 use setting::SLOTS;
-use setting::counters::RelativeNumber;
+use counters::RelativeNumber;
 use setting::limits;
-use setting::rules;
 ghost use mathlib.Core.Path.{_≡_};
-ghost use Rattle.setting.specs.Refusal.{firstOf};
+ghost use Rattle.rules.specs.Refusal.{firstOf};
 ghost use Rattle.receiver.specs.Receiving.{stageChecks, receiverChecks, receiveRefusal, handOutRefusal};
 
 // 17: the counter and the number of stored packets.
@@ -89,7 +87,7 @@ pub(crate) fn hand_out_refusal(c: Receiver, r: RelativeNumber, store: usize, out
         return 17;
     }
     let stage = c.stage;
-    if !table::is_frame_ready(stage) {
+    if !receiver_table::is_frame_ready(stage) {
         return 16;
     }
     let before = c.before;

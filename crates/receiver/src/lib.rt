@@ -2,22 +2,20 @@
 // out by value; the packets stand in a lent store, slot i at 188 × (i − 1).
 mod checks;
 mod numbered;
-pub mod table;
 
-use frame::packet;
-use frame::packet::PACKET_BYTES;
+use packet::PACKET_BYTES;
 use setting::Kind;
 use setting::SLOTS;
-use setting::counters::RelativeNumber;
-use setting::rules;
-use table::Event;
-use table::Row;
-use table::Stage;
+use counters::RelativeNumber;
+use receiver_table::Event;
+use receiver_table::Row;
+use receiver_table::Stage;
 ghost use mathlib.Core.Path.{_≡_};
 ghost use lib.ListN.{length};
-ghost use Rattle.frame.specs.Packets.{packetLength};
+ghost use Rattle.packet.specs.Packets.{packetLength};
 ghost use Rattle.receiver.specs.Store.{storeLength};
-ghost use Rattle.receiver.specs.Table.{other, storeAfter};
+ghost use Rattle.receiver_table.specs.Table.{other};
+ghost use Rattle.receiver.specs.Arriving.{storeAfter};
 ghost use Rattle.receiver.specs.Receiving.{waiting, moved, renumbered, startReceiverOf, receiveOf, receiveStore, handOutOf, handOutBuffer};
 
 // The bytes of the store: a packet for each slot but the header's.
@@ -69,7 +67,7 @@ fn store_packet(stage: Stage, packet: &[u8], store: &mut [u8])
     requires { ⌜ (length (now packet) ≡ packetLength) × (length (now store) ≡ storeLength) ⌝ }
     ensures { λ _. ⌜ now (store .exit) ≡ storeAfter stage other (now (packet .entry)) (now (store .entry)) ⌝ }
 {
-    let k = table::stored(stage);
+    let k = receiver_table::stored(stage);
     if k < SLOTS {
         let at = PACKET_BYTES * k;
         slices::copy(&mut store[at..at + PACKET_BYTES], packet);
@@ -154,18 +152,18 @@ impl Receiver {
         let stage = self.stage;
         if packet::place_refusal(packet, self.pid) == 0 {
             store_packet(stage, packet, store);
-            return on_row(self, table::other_row(stage));
+            return on_row(self, receiver_table::other_row(stage));
         }
         let kind = self.kind;
         let reading = header::read(packet, self.pid, kind);
         if reading.refusal != 0 {
-            return on_row(self, table::broken_row(stage));
+            return on_row(self, receiver_table::broken_row(stage));
         }
         let said = reading.setting;
         let numbers = said.relative_ts_number;
         on_header(
             self,
-            table::header_row(stage, said.continuity_counter),
+            receiver_table::header_row(stage, said.continuity_counter),
             numbers,
         )
     }

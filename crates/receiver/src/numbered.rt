@@ -1,11 +1,11 @@
 // The slots with one number: how many there are, and their packets one behind the other.
-use frame::packet::PACKET_BYTES;
+use packet::PACKET_BYTES;
 use setting::SLOTS;
 ghost use mathlib.Core.Path.{_≡_};
 ghost use Prim.Native.Nat.{_*_, _≤_};
 ghost use lib.ListN.{length};
-ghost use Rattle.setting.specs.Counters.{lastSlot};
-ghost use Rattle.frame.specs.Packets.{packetLength};
+ghost use Rattle.counters.specs.Counters.{lastSlot};
+ghost use Rattle.packet.specs.Packets.{packetLength};
 ghost use Rattle.slices.specs.Slices.{over};
 ghost use Rattle.receiver.specs.Store.{storeLength, numbered, slotsFor};
 

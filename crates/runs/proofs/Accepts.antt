@@ -11,18 +11,19 @@ use Rattle.bits.specs.Fields.{bitsOf, number, run, cut}
 use Rattle.slices.specs.Slices.{anyBelow, someAtLeast}
 use Rattle.setting.specs.declared.Kind.{Kind}
 use Rattle.setting.specs.declared.Setting.{Setting}
-use Rattle.setting.specs.Counters.{lastStream, lastSlot}
+use Rattle.counters.specs.Counters.{lastStream, lastSlot, available}
 use Rattle.setting.specs.Setting.{privateBytes, auxiliaryBytes, blank, OfItsTypes}
-use Rattle.setting.specs.Refusal.{Check, firstOf, NoneHolds, none, more}
-use Rattle.setting.specs.Rules.{pidAllowed, available, someUnavailable, pairTwice, absentChecks, widthChecks, bondingChecks, ruleChecks}
-use Rattle.setting.proofs.Refusals.{first-none, none-append, width-none, rule-none}
-use Rattle.setting.proofs.Fields.{fit-some}
+use Rattle.rules.specs.Refusal.{Check, firstOf, NoneHolds, none, more}
+use Rattle.rules.specs.Rules.{pidAllowed, someUnavailable, pairTwice, absentChecks, widthChecks, bondingChecks, ruleChecks}
+use Rattle.rules.proofs.Refusals.{first-none, none-append, width-none, rule-none}
+use Rattle.rules.proofs.Fields.{fit-some}
 use Rattle.header.specs.Rows.{place, rowAt}
 use Rattle.header.specs.Layout.{startRows}
 use Rattle.frame.specs.declared.composer.Composer.{Composer}
-use Rattle.frame.specs.Packets.{packetLength, frameLength, unfit}
+use Rattle.packet.specs.Packets.{packetLength, frameLength, unfit}
 use Rattle.frame.specs.Slots.{marksAfter, someUnfit, someUnplanned}
-use Rattle.frame.specs.Composing.{announced, differ, fresh, opened, marked, nextCounter, nextVersion, closedWith, closed, asked, inTurn, announcedChecks, stateChecks, openRuleChecks, markChecks, openChecks, streamChecks, beginRefusal, putRefusal, closeRefusal}
+use Rattle.announced.specs.Announcing.{announced, differ, announcedChecks}
+use Rattle.frame.specs.Composing.{fresh, opened, marked, nextCounter, nextVersion, closedWith, closed, asked, inTurn, stateChecks, openRuleChecks, markChecks, openChecks, streamChecks, beginRefusal, putRefusal, closeRefusal}
 use Rattle.frame.proofs.Refusals.{ask-all, ask-none}
 use Rattle.frame.proofs.Said.{version-narrow}
 use Rattle.runs.specs.Runs.{Call, begin, put, close, Each, none, more, OfTypes, Run, started, refusalOf, after}

@@ -13,7 +13,7 @@ use Rattle.slices.proofs.Any.{neither}
 use Rattle.bits.specs.Fields.{bitsOf, number, run, cut}
 use Rattle.header.specs.Rows.{place, rowAt}
 use Rattle.header.specs.Layout.{startRows}
-use Rattle.frame.specs.Packets.{packetLength, nullPacket, slot, unfit}
+use Rattle.packet.specs.Packets.{packetLength, nullPacket, slot, unfit}
 use Rattle.frame.specs.Slots.{nulls, numbersOf}
 use Rattle.receiver.specs.Store.{numbered, slotsFor}
 use Rattle.runs.specs.Work.{carries, taken, slotsFilled, numbersFilled}

@@ -10,20 +10,21 @@ use lib.ListN.{length, take, length-append}
 use Rattle.slices.proofs.Any.{both}
 use Rattle.setting.specs.declared.Kind.{Kind}
 use Rattle.setting.specs.declared.Setting.{Setting}
-use Rattle.setting.specs.Counters.{firstStream, firstSlot, lastSlot}
+use Rattle.counters.specs.Counters.{firstStream, firstSlot, lastSlot}
 use Rattle.setting.specs.Setting.{blank, OfItsTypes}
-use Rattle.setting.specs.Refusal.{firstOf}
-use Rattle.setting.specs.Rules.{pidAllowed, ruleChecks}
-use Rattle.setting.proofs.Refusals.{none-at}
-use Rattle.setting.proofs.Fields.{at-most}
+use Rattle.rules.specs.Refusal.{firstOf}
+use Rattle.rules.specs.Rules.{pidAllowed, ruleChecks}
+use Rattle.rules.proofs.Refusals.{none-at}
+use Rattle.rules.proofs.Fields.{at-most}
 use Rattle.header.specs.Header.{header, readOf}
 use Rattle.header.specs.Demands.{MeetsRules}
 use Rattle.header.proofs.RoundTrip.{written-and-read-back}
 use Rattle.header.proofs.Calls.{made}
 use Rattle.header.proofs.Whole.{length-header}
-use Rattle.frame.specs.declared.composer.Announced.{Announced}
-use Rattle.frame.specs.Packets.{packetLength, frameLength, nullPacket, slot, unfit}
-use Rattle.frame.specs.Composing.{announced, differ, saying, fresh, answer, startOf}
+use Rattle.announced.specs.declared.Announced.{Announced}
+use Rattle.packet.specs.Packets.{packetLength, frameLength, nullPacket, slot, unfit}
+use Rattle.announced.specs.Announcing.{announced, differ}
+use Rattle.frame.specs.Composing.{saying, fresh, answer, startOf}
 use Rattle.receiver.specs.Store.{numbered, slotsFor}
 use Rattle.runs.specs.Runs.{Call, Each, none, more, OfTypes, started, framesOf}
 use Rattle.runs.specs.Work.{Work, noWork, worksOf, slotsFilled, numbersFilled, said, versionBehind, headedBehind, headed, frameOf}

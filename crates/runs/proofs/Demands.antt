@@ -11,17 +11,18 @@ use Rattle.bits.specs.Fields.{Fit}
 use Rattle.slices.specs.Slices.{anyBelow, someAtLeast}
 use Rattle.setting.specs.declared.Kind.{Kind}
 use Rattle.setting.specs.declared.Setting.{Setting}
-use Rattle.setting.specs.Counters.{lastSlot}
-use Rattle.setting.specs.Rules.{pidAllowed, widthChecks}
-use Rattle.setting.proofs.Refusals.{none-at}
-use Rattle.setting.proofs.Fields.{fit-some}
+use Rattle.counters.specs.Counters.{lastSlot}
+use Rattle.rules.specs.Rules.{pidAllowed, widthChecks}
+use Rattle.rules.proofs.Refusals.{none-at}
+use Rattle.rules.proofs.Fields.{fit-some}
 use Rattle.header.specs.declared.Reading.{Reading}
 use Rattle.header.specs.Header.{header}
 use Rattle.header.proofs.Whole.{length-header}
-use Rattle.frame.specs.declared.composer.Announced.{Announced}
-use Rattle.frame.specs.Packets.{packetLength, unfit}
-use Rattle.frame.specs.Composing.{announced, saying}
-use Rattle.receiver.specs.declared.table.Stage.{Stage}
+use Rattle.announced.specs.declared.Announced.{Announced}
+use Rattle.packet.specs.Packets.{packetLength, unfit}
+use Rattle.announced.specs.Announcing.{announced}
+use Rattle.frame.specs.Composing.{saying}
+use Rattle.receiver_table.specs.declared.Stage.{Stage}
 use Rattle.receiver.specs.Store.{storeLength, numbered, slotsFor}
 use Rattle.receiver.specs.Receiving.{waiting, startReceiverOf}
 use Rattle.runs.specs.Runs.{Call, Each, none, more, OfTypes, started, framesOf}

@@ -10,7 +10,7 @@ use lib.Dec.{leb, eqb}
 use lib.ListN.{length, take, drop, length-append, length-drop}
 use lib.Seq.{take-at, drop-at, take-append-le, drop-append-le, length-take-le}
 use Rattle.slices.proofs.Any.{neither}
-use Rattle.frame.specs.Packets.{packetLength, nullPacket, unfit}
+use Rattle.packet.specs.Packets.{packetLength, nullPacket, unfit}
 use Rattle.frame.specs.Slots.{takes, slotsAfter, marksAfter, someUnfit}
 use Rattle.runs.specs.Work.{added, carries, taken, slotsFilled, numbersFilled}
 

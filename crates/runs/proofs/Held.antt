@@ -10,16 +10,17 @@ use lib.ListN.{length, take, drop, replicate}
 use lib.Seq.{drop-at, length-take-le}
 use Rattle.setting.specs.declared.Kind.{Kind}
 use Rattle.setting.specs.declared.Setting.{Setting}
-use Rattle.setting.specs.Counters.{lastSlot}
+use Rattle.counters.specs.Counters.{lastSlot}
 use Rattle.setting.specs.Setting.{OfItsTypes}
-use Rattle.setting.specs.Refusal.{NoneHolds}
-use Rattle.setting.specs.Rules.{widthChecks, ruleChecks}
+use Rattle.rules.specs.Refusal.{NoneHolds}
+use Rattle.rules.specs.Rules.{widthChecks, ruleChecks}
 use Rattle.header.specs.Header.{header}
-use Rattle.frame.specs.declared.composer.Announced.{Announced}
+use Rattle.announced.specs.declared.Announced.{Announced}
 use Rattle.frame.specs.declared.composer.Composer.{Composer}
-use Rattle.frame.specs.Packets.{packetLength, frameLength}
+use Rattle.packet.specs.Packets.{packetLength, frameLength}
 use Rattle.frame.specs.Slots.{nulls, cleared, slotsAfter, marksAfter, someUnfit, frameAfter}
-use Rattle.frame.specs.Composing.{announced, opened, marked, nextCounter, nextVersion, closing, closedWith, closed, answer, leaves, beginOf, begunFrame, putOf, putFrame, closeOf, closedFrame}
+use Rattle.announced.specs.Announcing.{announced}
+use Rattle.frame.specs.Composing.{opened, marked, nextCounter, nextVersion, closing, closedWith, closed, answer, leaves, beginOf, begunFrame, putOf, putFrame, closeOf, closedFrame}
 use Rattle.frame.proofs.Passed.{begin-passed, PutPassed, put-passed, ClosePassed, close-passed}
 use Rattle.runs.specs.Runs.{Call, begin, put, close, Each, none, more, OfTypes, Run, refusalOf, after, closedBy, framesOf}
 use Rattle.runs.specs.Work.{Work, added, workAfter, doneBy, worksOf, slotsFilled, said, versionBehind, headedBehind, frameOf}

@@ -9,10 +9,10 @@ use lib.Dec.{eqb}
 use lib.ListN.{length, take, drop, length-drop, drop-of-length-le, take-append-drop}
 use lib.Seq.{length-take-le, drop-drop}
 use Rattle.setting.specs.declared.Kind.{Kind}
-use Rattle.setting.specs.Counters.{lastSlot}
+use Rattle.counters.specs.Counters.{lastSlot}
 use Rattle.header.specs.declared.Reading.{Reading}
-use Rattle.frame.specs.Packets.{packetLength, slot, unfit}
-use Rattle.receiver.specs.declared.table.Stage.{Stage}
+use Rattle.packet.specs.Packets.{packetLength, slot, unfit}
+use Rattle.receiver_table.specs.declared.Stage.{Stage}
 use Rattle.receiver.specs.Store.{storeLength, numbered}
 use Rattle.receiver.proofs.Sorts.{not-good}
 use Rattle.runs.specs.Runs.{Each, none, more}

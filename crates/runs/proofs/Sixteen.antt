@@ -11,11 +11,12 @@ use lib.ListN.{length, take, drop, replicate, length-append, length-drop, length
 use lib.Seq.{length-take-le}
 use Rattle.setting.specs.declared.Kind.{Kind}
 use Rattle.setting.specs.declared.Setting.{Setting}
-use Rattle.setting.specs.Counters.{lastSlot}
+use Rattle.counters.specs.Counters.{lastSlot}
 use Rattle.header.specs.declared.Reading.{Reading}
-use Rattle.frame.specs.declared.composer.Announced.{Announced}
-use Rattle.frame.specs.Packets.{packetLength, slot, unfit}
-use Rattle.frame.specs.Composing.{announced, saying}
+use Rattle.announced.specs.declared.Announced.{Announced}
+use Rattle.packet.specs.Packets.{packetLength, slot, unfit}
+use Rattle.announced.specs.Announcing.{announced}
+use Rattle.frame.specs.Composing.{saying}
 use Rattle.receiver.specs.declared.Receiver.{Receiver}
 use Rattle.receiver.specs.Store.{storeLength, numbered, slotsFor}
 use Rattle.receiver.specs.Receiving.{waiting}

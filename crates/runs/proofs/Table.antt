@@ -11,21 +11,22 @@ use lib.ListN.{length, take, drop, length-append, length-drop}
 use lib.Seq.{length-take-le, take-at, drop-append-add, drop-drop}
 use Rattle.bits.specs.Fields.{Fit}
 use Rattle.setting.specs.declared.Kind.{Kind}
-use Rattle.setting.specs.Counters.{lastSlot}
-use Rattle.setting.specs.Refusal.{NoneHolds, none, more}
-use Rattle.setting.specs.Rules.{pidAllowed}
-use Rattle.setting.proofs.Refusals.{first-none, none-append}
-use Rattle.setting.proofs.Fields.{some-fit}
+use Rattle.counters.specs.Counters.{lastSlot}
+use Rattle.rules.specs.Refusal.{NoneHolds, none, more}
+use Rattle.rules.specs.Rules.{pidAllowed}
+use Rattle.rules.proofs.Refusals.{first-none, none-append}
+use Rattle.rules.proofs.Fields.{some-fit}
 use Rattle.header.specs.Header.{readRefusal, reading}
-use Rattle.frame.specs.Packets.{packetLength, unfit}
+use Rattle.packet.specs.Packets.{packetLength, unfit}
 use Rattle.frame.specs.Composing.{leaves}
-use Rattle.receiver.specs.declared.table.Stage.{Stage}
-use Rattle.receiver.specs.declared.table.Event.{Event}
-use Rattle.receiver.specs.declared.table.Row.{Row}
+use Rattle.receiver_table.specs.declared.Stage.{Stage}
+use Rattle.receiver_table.specs.declared.Event.{Event}
+use Rattle.receiver_table.specs.declared.Row.{Row}
 use Rattle.receiver.specs.declared.Receiver.{Receiver}
 use Rattle.slices.specs.Slices.{over}
 use Rattle.receiver.specs.Store.{storeLength}
-use Rattle.receiver.specs.Table.{makesReady, Sort, good, broken, other, sortOf, row, openRow, rowOf, storedOf, storeAfter}
+use Rattle.receiver_table.specs.Table.{makesReady, Sort, good, broken, other, row, openRow, rowOf, storedOf}
+use Rattle.receiver.specs.Arriving.{sortOf, storeAfter}
 use Rattle.receiver.specs.Receiving.{moved, receiverAfter, stageChecks, receiverChecks, receiveRefusal, rowFor, receiveOf, receiveStore}
 use Rattle.receiver.proofs.Sorts.{not-good}
 use Rattle.runs.specs.Runs.{Each, none, more}

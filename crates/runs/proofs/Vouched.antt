@@ -12,19 +12,20 @@ use lib.Seq.{length-take-le, take-at}
 use Rattle.bits.specs.Fields.{Fit}
 use Rattle.setting.specs.declared.Kind.{Kind}
 use Rattle.setting.specs.declared.Setting.{Setting}
-use Rattle.setting.specs.Counters.{firstStream, lastStream, lastSlot}
-use Rattle.setting.specs.Refusal.{none, more}
-use Rattle.setting.proofs.Refusals.{first-none, none-append}
+use Rattle.counters.specs.Counters.{firstStream, lastStream, lastSlot}
+use Rattle.rules.specs.Refusal.{none, more}
+use Rattle.rules.proofs.Refusals.{first-none, none-append}
 use Rattle.header.specs.declared.Reading.{Reading}
 use Rattle.header.specs.Header.{readRefusal, reading, readOf}
-use Rattle.frame.specs.Packets.{packetLength, frameLength, slot, unfit}
+use Rattle.packet.specs.Packets.{packetLength, frameLength, slot, unfit}
 use Rattle.frame.specs.Composing.{leaves}
-use Rattle.receiver.specs.declared.table.Stage.{Stage}
-use Rattle.receiver.specs.declared.table.Event.{Event}
-use Rattle.receiver.specs.declared.table.Row.{Row}
+use Rattle.receiver_table.specs.declared.Stage.{Stage}
+use Rattle.receiver_table.specs.declared.Event.{Event}
+use Rattle.receiver_table.specs.declared.Row.{Row}
 use Rattle.slices.specs.Slices.{over}
 use Rattle.receiver.specs.Store.{storeLength, numbered, slotsFor}
-use Rattle.receiver.specs.Table.{makesReady, Sort, good, broken, other, sortOf, counterStep, row, openRow, rowOf, storeAfter, isReady}
+use Rattle.receiver_table.specs.Table.{makesReady, Sort, good, broken, other, counterStep, row, openRow, rowOf, isReady}
+use Rattle.receiver.specs.Arriving.{sortOf, storeAfter}
 use Rattle.receiver.specs.Receiving.{renumbered, receiverAfter, rowFor, receiveOf, handOutRefusal, handOutOf, handOutBuffer}
 use Rattle.receiver.proofs.Handing.{length-numbered}
 use Rattle.runs.specs.Losses.{Reception, afterPacket, handed, handedOut}

@@ -6,10 +6,10 @@ use mathlib.Core.List.{List, map}
 use lib.ListN.{length, take}
 use Rattle.setting.specs.declared.Kind.{Kind}
 use Rattle.setting.specs.declared.Setting.{Setting}
-use Rattle.setting.specs.Counters.{firstStream, firstSlot, lastSlot}
-use Rattle.setting.specs.Rules.{pidAllowed}
+use Rattle.counters.specs.Counters.{firstStream, firstSlot, lastSlot}
+use Rattle.rules.specs.Rules.{pidAllowed}
 use Rattle.header.specs.Header.{readOf}
-use Rattle.frame.specs.Packets.{packetLength, frameLength, slot, unfit}
+use Rattle.packet.specs.Packets.{packetLength, frameLength, slot, unfit}
 use Rattle.receiver.specs.Store.{numbered, slotsFor}
 use Rattle.runs.specs.Runs.{Call, Each, OfTypes, started, framesOf}
 use Rattle.runs.specs.Work.{Work, noWork, worksOf, slotsFilled, headed, frameOf}

@@ -6,9 +6,9 @@ use mathlib.Core.List.{List, [], _∷_, _++_, map}
 use lib.ListN.{length, take, replicate}
 use Rattle.setting.specs.declared.Kind.{Kind}
 use Rattle.setting.specs.declared.Setting.{Setting}
-use Rattle.setting.specs.Counters.{firstStream, lastStream, lastSlot}
-use Rattle.setting.specs.Rules.{pidAllowed}
-use Rattle.frame.specs.Packets.{packetLength}
+use Rattle.counters.specs.Counters.{firstStream, lastStream, lastSlot}
+use Rattle.rules.specs.Rules.{pidAllowed}
+use Rattle.packet.specs.Packets.{packetLength}
 use Rattle.receiver.specs.Store.{storeLength, slotsFor}
 use Rattle.runs.specs.Runs.{Call, Each, OfTypes, started, framesOf}
 use Rattle.runs.specs.Work.{Work, frameOf}

@@ -8,9 +8,10 @@ use Rattle.setting.specs.declared.Kind.{Kind}
 use Rattle.setting.specs.declared.Setting.{Setting}
 use Rattle.setting.specs.Setting.{blank}
 use Rattle.header.specs.Header.{header}
-use Rattle.frame.specs.declared.composer.Announced.{Announced}
-use Rattle.frame.specs.Packets.{packetLength, nullPacket}
-use Rattle.frame.specs.Composing.{announced, differ, saying}
+use Rattle.announced.specs.declared.Announced.{Announced}
+use Rattle.packet.specs.Packets.{packetLength, nullPacket}
+use Rattle.announced.specs.Announcing.{announced, differ}
+use Rattle.frame.specs.Composing.{saying}
 use Rattle.runs.specs.Runs.{Call, begin, put, close, Run, refusalOf, after}
 
 -- what was asked of a frame: its setting with the plan, and for each stream number the packets that were lent, one behind the other

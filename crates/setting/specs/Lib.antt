@@ -1,5 +1,2 @@
--- What a header of J.183 says, and what it has to obey.
-pub mod Counters
+-- What a header of J.183 says.
 pub mod Setting
-pub mod Refusal
-pub mod Rules

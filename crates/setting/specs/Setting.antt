@@ -5,7 +5,7 @@ use mathlib.Core.List.{List}
 use lib.ListN.{length, replicate}
 use Rattle.bits.specs.Fields.{Fit}
 use Rattle.setting.specs.declared.Setting.{Setting}
-use Rattle.setting.specs.Counters.{lastSlot, lastStream}
+use Rattle.counters.specs.Counters.{lastSlot, lastStream}
 
 -- how many bytes of private data there are; in an extended header the first are auxiliary
 abbrev pub privateBytes : ℕ

@@ -1,14 +1,11 @@
-// What a header of J.183 says: its setting, the counters in it, and the rules that it has to obey.
-use crate::counters::FramePosition;
-use crate::counters::RelativeNumber;
-use crate::counters::Slot;
+// What a header of J.183 says: its setting, and the range of each field.
+use counters::FramePosition;
+use counters::RelativeNumber;
+use counters::Slot;
 ghost use mathlib.Core.Path.{_≡_};
 ghost use Rattle.setting.specs.Setting.{blank};
-ghost use Rattle.setting.specs.Rules.{countAvailable};
 
-pub mod counters;
 pub mod limits;
-pub mod rules;
 
 // How many slots carry packets, and how many streams a header knows.
 pub const SLOTS: usize = Slot::LAST as usize;
@@ -76,11 +73,4 @@ impl Setting {
             frame_position: FramePosition(0),
         }
     }
-}
-
-// How many of the fifteen streams are available: the ones of the field.
-pub fn count_available(availability: u16) -> u32
-    ensures { λ r. ⌜ r ≡ countAvailable availability ⌝ }
-{
-    u16::count_ones(availability % limits::AVAILABILITIES)
 }

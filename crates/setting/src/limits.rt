@@ -1,7 +1,7 @@
 // What a caller can set, each range once: the rules ask by these, and tables for menus are made of them. Of a field that starts at 0
 // stands how many values it has.
-use crate::counters::FramePosition;
-use crate::counters::RelativeNumber;
+use counters::FramePosition;
+use counters::RelativeNumber;
 
 pub const FIRST_PID: u16 = 16;
 
@@ -20,8 +20,7 @@ pub const FIRST_FRAME_TYPE: u8 = 1;
 
 pub const LAST_FRAME_TYPE: u8 = 2;
 
-// There is a bit for each stream.
-pub const AVAILABILITIES: u16 = 1 << RelativeNumber::LAST;
+pub const AVAILABILITIES: u16 = counters::AVAILABILITIES;
 
 pub const RECEIVE_STATUSES: u8 = 4;
 

@@ -3,7 +3,7 @@ use mathlib.Core.Path.{refl, sym, ap, _∙_}
 use native.Mathlib.Omega.{arith}
 use borrow.Author.Tests.{eq-eqb, ne-eqb, lt-ltb, le-ltb, not-true, not-false}
 use lib.ListN.{length}
-use Rattle.setting.specs.Refusal.{firstOf}
+use Rattle.rules.specs.Refusal.{firstOf}
 use Rattle.frame.specs.declared.composer.Answer.{Answer}
 use Rattle.frame.specs.Composing.{leaves, startOf}
 use Rattle.board_frame.specs.States.{composerLength, composerBytes}

@@ -3,7 +3,7 @@ use mathlib.Core.Path.{sym, _∙_}
 use mathlib.Core.Bool.{true, false, not}
 use native.Mathlib.Omega.{arith}
 use borrow.Author.Tests.{eq-eqb, ne-eqb, lt-ltb, le-ltb, not-true, not-false}
-use Rattle.setting.specs.Refusal.{firstOf}
+use Rattle.rules.specs.Refusal.{firstOf}
 use Rattle.header.specs.Header.{headerLength}
 use Rattle.coding.specs.Settings.{settingLength}
 use Rattle.board_header.specs.Calls.{callRefused}

@@ -5,7 +5,7 @@ use native.Mathlib.Omega.{arith}
 use borrow.Author.Needs.{needs}
 use borrow.Author.Tests.{not-true, not-false}
 use Rattle.setting.specs.declared.Kind.{Kind}
-use Rattle.setting.specs.Rules.{pidAllowed}
+use Rattle.rules.specs.Rules.{pidAllowed}
 use Rattle.receiver.specs.Receiving.{startReceiverOf}
 use Rattle.board_receiver.proofs.Answers.{start-no-state, start-no-pid, start-no-kind, starts}
 use Rattle.board_receiver.proofs.niranbok_receiver_start.Statement.{statement}

@@ -5,7 +5,7 @@ use borrow.Author.Tests.{eq-eqb, ne-eqb}
 use lib.ListN.{length, replicate}
 use Rattle.slices.proofs.Front.{copied-over}
 use Rattle.setting.specs.Setting.{blank}
-use Rattle.frame.specs.Composing.{announced}
+use Rattle.announced.specs.Announcing.{announced}
 use Rattle.coding.specs.Settings.{announcedLength, announcedOf, part}
 use Rattle.coding.proofs.Parts.{length-part}
 use borrow.Author.Needs.{needs}

@@ -3,7 +3,7 @@ use mathlib.Core.Path.{refl, _∙_}
 use native.Mathlib.Omega.{arith}
 use borrow.Author.Tests.{eq-eqb, ne-eqb}
 use lib.ListN.{length}
-use Rattle.setting.specs.Counters.{lastSlot}
+use Rattle.counters.specs.Counters.{lastSlot}
 use Rattle.setting.specs.Setting.{privateBytes, auxiliaryBytes}
 use Rattle.coding.specs.Settings.{settingLength, settingOf}
 use Rattle.coding.proofs.Parts.{copied-part}

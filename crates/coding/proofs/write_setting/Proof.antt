@@ -7,7 +7,7 @@ use borrow.Author.Tests.{eq-eqb, ne-eqb}
 use borrow.Rule.Slice.PartMut.{same-len-mid, mid-len}
 use lib.ListN.{length, take, drop}
 use Rattle.slices.proofs.Front.{put, copied-over}
-use Rattle.frame.specs.Composing.{announced}
+use Rattle.announced.specs.Announcing.{announced}
 use Rattle.coding.specs.Settings.{announcedLength, announcedBytes, settingLength}
 use Rattle.coding.proofs.Parts.{Long, setting-parts}
 use borrow.Author.Needs.{needs}

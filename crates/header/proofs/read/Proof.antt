@@ -4,9 +4,9 @@ use mathlib.Core.Path.{_≡_, refl, sym, ap, _∙_}
 use mathlib.Core.List.{List, _++_}
 use native.Mathlib.Omega.{arith}
 use borrow.Author.Tests.{not-true, not-false}
-use Rattle.setting.specs.Refusal.{Check, firstOf}
-use Rattle.setting.specs.Rules.{ruleChecks}
-use Rattle.setting.proofs.Refusals.{onward, at-once}
+use Rattle.rules.specs.Refusal.{Check, firstOf}
+use Rattle.rules.specs.Rules.{ruleChecks}
+use Rattle.rules.proofs.Refusals.{onward, at-once}
 use Rattle.header.specs.Header.{reading, packetChecks, readRefusal}
 use Rattle.header.proofs.Calls.{wrong-length, wrong-pid, right-call, refused, accepted}
 use Rattle.header.proofs.Packet.{packet-none}

@@ -6,10 +6,10 @@ use mathlib.Core.List.{List, _++_}
 use native.Mathlib.Omega.{arith}
 use borrow.Author.Tests.{not-true, not-false}
 use lib.ListN.{length}
-use Rattle.setting.specs.Refusal.{Check, firstOf, NoneHolds}
-use Rattle.setting.specs.Rules.{pidAllowed, widthChecks, ruleChecks}
-use Rattle.setting.proofs.Fields.{at-most, narrow, bonding-none}
-use Rattle.setting.proofs.Refusals.{onward, at-once, first-none, width-none, rule-none}
+use Rattle.rules.specs.Refusal.{Check, firstOf, NoneHolds}
+use Rattle.rules.specs.Rules.{pidAllowed, widthChecks, ruleChecks}
+use Rattle.rules.proofs.Fields.{at-most, narrow, bonding-none}
+use Rattle.rules.proofs.Refusals.{onward, at-once, first-none, width-none, rule-none}
 use Rattle.header.specs.Header.{writeRefusal}
 use Rattle.header.proofs.Calls.{wrong-length, wrong-pid, right-call, left, made}
 use borrow.Author.Needs.{needs}

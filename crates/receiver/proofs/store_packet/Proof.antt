@@ -5,8 +5,8 @@ use native.Mathlib.Omega.{arith}
 use borrow.Author.Needs.{needs}
 use borrow.Rule.Slice.PartMut.{mid-len}
 use Rattle.slices.proofs.Front.{copied-over, put-over}
-use Rattle.frame.specs.Packets.{packetLength}
-use Rattle.receiver.proofs.Rows.{stored-behind, no-room}
+use Rattle.packet.specs.Packets.{packetLength}
+use Rattle.receiver.proofs.Arrived.{stored-behind, no-room}
 use Rattle.receiver.proofs.store_packet.Statement.{statement}
 use Rattle.receiver.proofs.store_packet.Tie as tie
 

@@ -3,7 +3,7 @@ use Prim.Native.Nat.{_+_, _-_}
 use mathlib.Core.Path.{_≡_, _∙_}
 use native.Mathlib.Omega.{arith}
 use borrow.Author.Needs.{needs}
-use Rattle.setting.specs.Counters.{lastSlot}
+use Rattle.counters.specs.Counters.{lastSlot}
 use Rattle.board_receiver.proofs.Parts.{copied-part}
 use Rattle.board_receiver.proofs.states.numbers_at.Statement.{statement}
 use Rattle.board_receiver.proofs.states.numbers_at.Tie as tie

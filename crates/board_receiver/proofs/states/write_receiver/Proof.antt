@@ -3,7 +3,7 @@ use mathlib.Core.Path.{_≡_, _∙_}
 use native.Mathlib.Omega.{arith}
 use lib.ListN.{length}
 use borrow.Author.Needs.{needs}
-use Rattle.setting.specs.Counters.{lastSlot}
+use Rattle.counters.specs.Counters.{lastSlot}
 use Rattle.board_receiver.proofs.Parts.{whole}
 use Rattle.board_receiver.proofs.states.write_receiver.Statement.{statement}
 use Rattle.board_receiver.proofs.states.write_receiver.Tie as tie

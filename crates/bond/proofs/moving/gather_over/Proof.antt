@@ -5,7 +5,7 @@ use native.Mathlib.Omega.{arith}
 use borrow.Author.Needs.{needs}
 use lib.ListN.{length}
 use Rattle.slices.proofs.Toward.{toward-length}
-use Rattle.frame.specs.Packets.{packetLength}
+use Rattle.packet.specs.Packets.{packetLength}
 use Rattle.bond.specs.Walking.{stepOf}
 use Rattle.bond.proofs.Moves.{Found, found, Gathering, gathering-none, gathering-more, all-gathered, copied-part}
 use Rattle.bond.proofs.moving.gather_over.Statement.{statement}

@@ -4,7 +4,7 @@ use mathlib.Core.Path.{_∙_}
 use native.Mathlib.Omega.{arith}
 use borrow.Author.Needs.{needs}
 use lib.ListN.{length}
-use Rattle.frame.specs.Packets.{packetLength}
+use Rattle.packet.specs.Packets.{packetLength}
 use Rattle.bond.specs.Walking.{stepOf}
 use Rattle.bond.proofs.Moves.{Found, found, Spreading, spreading-none, spreading-more, all-spread, copied-part}
 use Rattle.bond.proofs.moving.spread_over.Statement.{statement}

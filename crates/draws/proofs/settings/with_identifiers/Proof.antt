@@ -1,7 +1,7 @@
 -- `with_identifiers` meets its contract. Assumes nothing.
 use mathlib.Core.Path.{ap, _∙_}
 use borrow.Author.Needs.{needs}
-use Rattle.setting.specs.Counters.{lastStream}
+use Rattle.counters.specs.Counters.{lastStream}
 use Rattle.draws.specs.Draws.{after}
 use Rattle.draws.specs.Settings.{withIdentifiers}
 use Rattle.draws.proofs.settings.with_identifiers.Statement.{statement}

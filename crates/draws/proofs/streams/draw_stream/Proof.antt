@@ -6,7 +6,7 @@ use native.Mathlib.Numerals.{add-one}
 use native.Mathlib.Omega.{arith}
 use borrow.Author.Needs.{needs}
 use lib.ListN.{length, getD, set, length-set}
-use Rattle.frame.specs.Packets.{packetLength}
+use Rattle.packet.specs.Packets.{packetLength}
 use Rattle.draws.specs.Draws.{next, drawnList, limitedByte}
 use Rattle.draws.specs.Streams.{placeable}
 use Rattle.draws.proofs.streams.draw_stream.Statement.{statement}

@@ -4,9 +4,9 @@ use mathlib.Core.Bool.{not}
 use mathlib.Core.List.{List, _++_}
 use borrow.Author.Needs.{needs}
 use borrow.Author.Tests.{eq-eqb, ne-eqb}
-use Rattle.setting.specs.Refusal.{Check, firstOf}
-use Rattle.setting.specs.Rules.{widthChecks, ruleChecks}
-use Rattle.setting.proofs.Refusals.{answers, passed, onward, at-once, width-none}
+use Rattle.rules.specs.Refusal.{Check, firstOf}
+use Rattle.rules.specs.Rules.{widthChecks, ruleChecks}
+use Rattle.rules.proofs.Refusals.{answers, passed, onward, at-once, width-none}
 use Rattle.frame.specs.Composing.{stateChecks, openRuleChecks, markChecks, inTurn, beginRefusal}
 use Rattle.frame.proofs.Refusals.{state-none, both-rules-none}
 use Rattle.frame.proofs.checks.begin_refusal.Statement.{statement}

@@ -2,8 +2,8 @@ use mathlib.Core.Path.{_≡_, sym, ap₂, _∙_}
 use native.Mathlib.Omega.{arith}
 use borrow.Author.Needs.{needs}
 use borrow.Author.Tests.{eq-eqb, ne-eqb, lt-ltb, le-ltb}
-use Rattle.setting.specs.Refusal.{firstOf}
-use Rattle.setting.specs.Rules.{ruleChecks}
+use Rattle.rules.specs.Refusal.{firstOf}
+use Rattle.rules.specs.Rules.{ruleChecks}
 use Rattle.frame.specs.Composing.{inTurn, openRuleChecks}
 use Rattle.frame.proofs.Refusals.{lesser, in-turn, rules-rise}
 use Rattle.frame.proofs.checks.both_rules_refusal.Statement.{statement}

@@ -2,8 +2,8 @@ use mathlib.Core.Path.{_≡_, sym, _∙_}
 use borrow.Author.Needs.{needs}
 use borrow.Author.Tests.{not-true, not-false}
 use lib.ListN.{length}
-use Rattle.setting.specs.Counters.{lastSlot}
-use Rattle.setting.specs.Refusal.{firstOf}
+use Rattle.counters.specs.Counters.{lastSlot}
+use Rattle.rules.specs.Refusal.{firstOf}
 use Rattle.frame.specs.Composing.{markChecks}
 use Rattle.frame.proofs.checks.mark_refusal.Statement.{statement}
 use Rattle.frame.proofs.checks.mark_refusal.Tie as tie

@@ -4,10 +4,10 @@ use mathlib.Core.Bool.{not}
 use mathlib.Core.List.{List, _∷_, _++_}
 use borrow.Author.Needs.{needs}
 use borrow.Author.Tests.{eq-eqb, ne-eqb}
-use Rattle.setting.specs.Counters.{firstStream, lastStream, within}
-use Rattle.setting.specs.Refusal.{Check, firstOf}
-use Rattle.setting.proofs.Refusals.{answers, passed, onward, at-once}
-use Rattle.setting.proofs.Within.{under, past, between}
+use Rattle.counters.specs.Counters.{firstStream, lastStream, within}
+use Rattle.rules.specs.Refusal.{Check, firstOf}
+use Rattle.rules.proofs.Refusals.{answers, passed, onward, at-once}
+use Rattle.counters.proofs.Within.{under, past, between}
 use Rattle.frame.specs.Composing.{stateChecks, openChecks, streamChecks, putRefusal}
 use Rattle.frame.proofs.Refusals.{state-none, open-none}
 use Rattle.frame.proofs.checks.put_refusal.Statement.{statement}

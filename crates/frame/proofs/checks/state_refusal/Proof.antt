@@ -3,10 +3,11 @@ use mathlib.Core.Bool.{not}
 use mathlib.Core.List.{List, _++_}
 use borrow.Author.Needs.{needs}
 use borrow.Author.Tests.{le-leb, lt-leb}
-use Rattle.setting.specs.Refusal.{Check, firstOf}
-use Rattle.setting.specs.Rules.{widthChecks}
-use Rattle.setting.proofs.Refusals.{Past, answers, passed, onward, at-once}
-use Rattle.frame.specs.Composing.{asked, announcedChecks, stateChecks}
+use Rattle.rules.specs.Refusal.{Check, firstOf}
+use Rattle.rules.specs.Rules.{widthChecks}
+use Rattle.rules.proofs.Refusals.{Past, answers, passed, onward, at-once}
+use Rattle.announced.specs.Announcing.{announcedChecks}
+use Rattle.frame.specs.Composing.{asked, stateChecks}
 use Rattle.frame.proofs.Refusals.{announced-none}
 use Rattle.frame.proofs.checks.state_refusal.Statement.{statement}
 use Rattle.frame.proofs.checks.state_refusal.Tie as tie

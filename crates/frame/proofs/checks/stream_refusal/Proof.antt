@@ -3,9 +3,9 @@ use mathlib.Core.Bool.{not}
 use mathlib.Core.List.{List}
 use borrow.Author.Needs.{needs}
 use lib.ListN.{length}
-use Rattle.setting.specs.Counters.{lastSlot}
-use Rattle.setting.specs.Refusal.{Check, firstOf}
-use Rattle.setting.proofs.Refusals.{Past, answers, passed}
+use Rattle.counters.specs.Counters.{lastSlot}
+use Rattle.rules.specs.Refusal.{Check, firstOf}
+use Rattle.rules.proofs.Refusals.{Past, answers, passed}
 use Rattle.frame.specs.Composing.{streamChecks}
 use Rattle.frame.proofs.checks.stream_refusal.Statement.{statement}
 use Rattle.frame.proofs.checks.stream_refusal.Tie as tie

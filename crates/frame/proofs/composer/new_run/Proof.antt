@@ -1,6 +1,7 @@
 use mathlib.Core.Path.{ap, _∙_}
 use borrow.Author.Needs.{needs}
-use Rattle.frame.specs.Composing.{announced, fresh}
+use Rattle.announced.specs.Announcing.{announced}
+use Rattle.frame.specs.Composing.{fresh}
 use Rattle.frame.proofs.composer.new_run.Statement.{statement}
 use Rattle.frame.proofs.composer.new_run.Tie as tie
 

@@ -1,7 +1,8 @@
 use mathlib.Core.Path.{_≡_, sym, ap, _∙_}
 use borrow.Author.Needs.{needs}
-use Rattle.frame.specs.declared.composer.Announced.{Announced}
-use Rattle.frame.specs.Composing.{announced, differ, nextVersion}
+use Rattle.announced.specs.declared.Announced.{Announced}
+use Rattle.announced.specs.Announcing.{announced, differ}
+use Rattle.frame.specs.Composing.{nextVersion}
 use Rattle.frame.proofs.composer.next_version.Statement.{statement}
 use Rattle.frame.proofs.composer.next_version.Tie as tie
 

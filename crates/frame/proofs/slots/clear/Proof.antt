@@ -7,8 +7,8 @@ use borrow.Author.Needs.{needs}
 use borrow.Rule.Slice.PartMut.{mid-len}
 use lib.ListN.{length}
 use Rattle.slices.proofs.Toward.{Toward, toward-none, toward-kept, toward-part, toward-length, toward-all}
-use Rattle.setting.specs.Counters.{lastSlot}
-use Rattle.frame.specs.Packets.{packetLength, frameLength}
+use Rattle.counters.specs.Counters.{lastSlot}
+use Rattle.packet.specs.Packets.{packetLength, frameLength}
 use Rattle.frame.specs.Slots.{nulls, cleared}
 use Rattle.frame.proofs.Walk.{nulls-from, nulls-none}
 use Rattle.frame.proofs.slots.clear.Statement.{statement}

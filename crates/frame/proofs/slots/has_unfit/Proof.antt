@@ -8,8 +8,9 @@ use native.Mathlib.Omega.{arith}
 use borrow.Author.Needs.{needs}
 use borrow.Rule.Slice.PartMut.{mid-len}
 use lib.ListN.{length, getD, take, drop}
-use Rattle.setting.specs.Counters.{lastSlot}
-use Rattle.frame.specs.Packets.{packetLength, unfit}
+use Rattle.counters.specs.Counters.{lastSlot}
+use Rattle.packet.specs.Packets.{packetLength, unfit}
+use Rattle.packet.proofs.Fit.{may-stand, may-not-stand}
 use Rattle.frame.specs.Slots.{someUnfit}
 use Rattle.frame.proofs.Walk.{packet-left, unfit-from, unfit-none}
 use Rattle.frame.proofs.slots.has_unfit.Statement.{statement}
@@ -49,6 +50,16 @@ room c =
     (sym (slot .is-taken .ensures) ∙ c .if1 .taken) in
     omega arith
 
+-- the packet that is lent, which has its 188 bytes
+abbrev lent : tie.After-is-taken Inv-loop μ-loop → List ℕ
+lent c = take (turn c .loop .at + packetLength - turn c .loop .at) (drop (turn c .loop .at) (stream c))
+
+whole : (c : tie.Then1 Inv-loop μ-loop) → length (lent (c .before)) ≡ packetLength
+whole c =
+    let at = turn (c .before) .loop .at in
+    let r = room c in
+    mid-len at (at + packetLength) (stream (c .before)) (omega arith) ∙ omega arith
+
 -- whether there is an unfit packet, by what the slot does and by the packet that is lent
 module _ (c : tie.After-is-taken Inv-loop μ-loop) where
   abbrev later : ℕ → Bool
@@ -58,7 +69,7 @@ module _ (c : tie.After-is-taken Inv-loop μ-loop) where
       someUnfit (a .pid) (a .r) (drop (i + 1) (plan c)) (drop (i + 1) (marks c)) (drop at (stream c))
 
   unfit-by : {t u : Bool} → c .is-taken .result ≡ t
-      → unfit (start (turn c) .args .pid) (take (turn c .loop .at + packetLength - turn c .loop .at) (drop (turn c .loop .at) (stream c))) ≡ u
+      → unfit (start (turn c) .args .pid) (lent c) ≡ u
       → someUnfit (start (turn c) .args .pid) (start (turn c) .args .r) (plan c) (marks c) (stream c)
       ≡ cond t (u || later (turn c .loop .at + packetLength)) (later (turn c .loop .at))
   unfit-by e f =
@@ -83,32 +94,31 @@ sub-is-taken c = search needs
 is-taken-requires : tie.Need-is-taken-requires Inv-loop μ-loop
 is-taken-requires c κs = search needs
 
-add-is-unfit : tie.Need-add-is-unfit Inv-loop μ-loop
-add-is-unfit c =
+add-place-refusal : tie.Need-add-place-refusal Inv-loop μ-loop
+add-place-refusal c =
     let r = room c in
     search needs
 
-sub-is-unfit : tie.Need-sub-is-unfit Inv-loop μ-loop
-sub-is-unfit c = search needs
+sub-place-refusal : tie.Need-sub-place-refusal Inv-loop μ-loop
+sub-place-refusal c = search needs
 
-part-is-unfit-start : tie.Need-part-is-unfit-start Inv-loop μ-loop
-part-is-unfit-start c = search needs
+part-place-refusal-start : tie.Need-part-place-refusal-start Inv-loop μ-loop
+part-place-refusal-start c = search needs
 
-part-is-unfit-end : tie.Need-part-is-unfit-end Inv-loop μ-loop
-part-is-unfit-end c =
+part-place-refusal-end : tie.Need-part-place-refusal-end Inv-loop μ-loop
+part-place-refusal-end c =
     let r = room c in
     search needs
 
-is-unfit-requires : tie.Need-is-unfit-requires Inv-loop μ-loop
-is-unfit-requires c κs =
-    let k = turn (c .before .before) in
-    let r = room (c .before) in
-    mid-len (k .loop .at) (k .loop .at + packetLength) (stream (c .before .before)) (omega arith) ∙ omega arith
+place-refusal-requires : tie.Need-place-refusal-requires Inv-loop μ-loop
+place-refusal-requires c κs = search needs
 
 returns : tie.Need-returns Inv-loop μ-loop
 returns c =
     let call = c .before in
-    sym (unfit-by (call .before .before .before) (call .before .before .if1 .taken) (sym (call .is-unfit .ensures) ∙ c .if2 .taken))
+    let slot = call .before .before .before in
+    let unfit-one = may-not-stand (start (turn slot) .args .pid) (lent slot) (whole (call .before .before)) (λ e. c .if2 .taken (call .place-refusal .ensures ∙ e)) in
+    sym (unfit-by slot (call .before .before .if1 .taken) unfit-one)
 
 add-at : tie.Need-add-at Inv-loop μ-loop
 add-at c =
@@ -128,7 +138,7 @@ loop-again c =
       omega arith,
       ⊎-elim (λ w. rw (w .4) (room (record { before = slot; if1 = w .0 }))) (λ w. rw (w .1) (k .loop .inv .1)) (c .if1 .came),
       ⊎-elim
-          (λ w. rw (w .4) (unfit-by slot (w .0 .taken) (sym (w .2 .ensures) ∙ w .3 .left)))
+          (λ w. rw (w .4) (unfit-by slot (w .0 .taken) (may-stand (start k .args .pid) (lent slot) (sym (w .2 .ensures) ∙ w .3 .left))))
           (λ w. rw (w .1) (unfit-by slot (w .0 .left) refl))
           (c .if1 .came),
     )
@@ -149,11 +159,11 @@ has-unfit-spec =
     shared-slice-read-is-taken-2
     sub-is-taken
     is-taken-requires
-    add-is-unfit
-    sub-is-unfit
-    part-is-unfit-start
-    part-is-unfit-end
-    is-unfit-requires
+    add-place-refusal
+    sub-place-refusal
+    part-place-refusal-start
+    part-place-refusal-end
+    place-refusal-requires
     returns
     add-at
     add-i

@@ -10,8 +10,8 @@ use lib.ListN.{length, getD, take, drop, length-drop}
 use lib.Seq.{take-all}
 use Rattle.slices.proofs.Front.{copied-over}
 use Rattle.slices.proofs.Toward.{toward-length, toward-next}
-use Rattle.setting.specs.Counters.{lastSlot}
-use Rattle.frame.specs.Packets.{packetLength, frameLength}
+use Rattle.counters.specs.Counters.{lastSlot}
+use Rattle.packet.specs.Packets.{packetLength, frameLength}
 use Rattle.frame.specs.Slots.{takes}
 use Rattle.frame.proofs.Walk.{packet-left}
 use Rattle.frame.proofs.Placing.{Placing, placing-none, placing-placed, placing-passed, all-placed, all-marked, all-rest}

@@ -9,7 +9,7 @@ use lib.Dec.{eqb}
 use lib.ListN.{length}
 use Rattle.receiver.specs.declared.HandedOut.{HandedOut}
 use Rattle.receiver.specs.declared.Receiver.{Receiver}
-use Rattle.frame.specs.Packets.{packetLength}
+use Rattle.packet.specs.Packets.{packetLength}
 use Rattle.receiver.specs.Store.{slotsFor}
 use Rattle.receiver.specs.Receiving.{handOutRefusal, handOutOf}
 use Rattle.receiver.proofs.ReceiverChecks.{handed-room}

@@ -5,9 +5,9 @@ use mathlib.Core.Bool.{not}
 use mathlib.Core.List.{[]}
 use borrow.Author.Needs.{needs}
 use borrow.Author.Tests.{eq-eqb, ne-eqb}
-use Rattle.setting.specs.Refusal.{firstOf}
-use Rattle.setting.proofs.Refusals.{Past, answers, passed}
-use Rattle.setting.proofs.Within.{under, past, between}
+use Rattle.rules.specs.Refusal.{firstOf}
+use Rattle.rules.proofs.Refusals.{Past, answers, passed}
+use Rattle.counters.proofs.Within.{under, past, between}
 use Rattle.places.specs.Walk.{lastCarrier}
 use Rattle.group.specs.Standing.{callChecks}
 use Rattle.group.proofs.checks.call_refusal.Statement.{statement}

@@ -12,7 +12,7 @@ use borrow.Author.Tests.{eq-eqb, ne-eqb}
 use lib.Dec.{eqb}
 use lib.ListN.{getD}
 use lib.Pow.{shl-exact, pow-mono}
-use Rattle.setting.specs.Counters.{lastSlot}
+use Rattle.counters.specs.Counters.{lastSlot}
 use Rattle.places.specs.Order.{framePackets}
 use Rattle.group.specs.Group.{hasNumber}
 use Rattle.group.specs.Plan.{marksUpTo}

@@ -10,8 +10,7 @@ use borrow.Author.Tests.{eq-eqb, ne-eqb}
 use lib.Dec.{eqb}
 use lib.ListN.{getD}
 use Rattle.setting.specs.declared.Setting.{Setting}
-use Rattle.setting.specs.Counters.{lastStream}
-use Rattle.setting.specs.Rules.{available}
+use Rattle.counters.specs.Counters.{lastStream, available}
 use Rattle.group.specs.declared.Bond.{Bond}
 use Rattle.group.specs.Group.{names, numberUpTo, numberOf}
 use Rattle.group.proofs.headers.number_of.Statement.{statement}

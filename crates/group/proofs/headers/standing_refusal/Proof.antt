@@ -7,9 +7,9 @@ use mathlib.Core.List.{[]}
 use borrow.Author.Needs.{needs}
 use borrow.Author.Tests.{eq-eqb, ne-eqb, not-true, not-false}
 use lib.Dec.{eqb}
-use Rattle.setting.specs.declared.counters.FramePosition.{FramePosition}
-use Rattle.setting.specs.Refusal.{firstOf}
-use Rattle.setting.proofs.Refusals.{Past, answers, passed}
+use Rattle.counters.specs.declared.FramePosition.{FramePosition}
+use Rattle.rules.specs.Refusal.{firstOf}
+use Rattle.rules.proofs.Refusals.{Past, answers, passed}
 use Rattle.group.specs.Standing.{isLast, nextPosition, standingChecks}
 use Rattle.group.proofs.headers.standing_refusal.Statement.{statement}
 use Rattle.group.proofs.headers.standing_refusal.Tie as tie

@@ -9,8 +9,8 @@ use lib.Seq.{take-all}
 use Rattle.bits.specs.Fields.{Fit}
 use Rattle.bits.proofs.Laws.{fit-of}
 use Rattle.crc.specs.Crc.{registerOf}
-use Rattle.setting.specs.Refusal.{Check, firstOf}
-use Rattle.setting.proofs.Refusals.{Past, answers, passed}
+use Rattle.rules.specs.Refusal.{Check, firstOf}
+use Rattle.rules.proofs.Refusals.{Past, answers, passed}
 use Rattle.header.specs.Layout.{syncByte, tsmfSync}
 use Rattle.header.specs.Header.{startValue, packetChecks}
 use Rattle.header.proofs.Packet.{differs, agrees, first-differs, second-differs, both-agree, sync-byte, zeros, header-pid, one, tsmf-sync}

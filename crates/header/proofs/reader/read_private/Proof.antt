@@ -5,7 +5,7 @@ use Prim.Native.Nat.{ℕ}
 use native.Mathlib.Omega.{arith}
 use lib.ListN.{take, drop}
 use Rattle.setting.specs.declared.Kind.{Kind}
-use Rattle.setting.specs.Rules.{byKind}
+use Rattle.rules.specs.Rules.{byKind}
 use Rattle.header.proofs.Cut.{length-part}
 use Rattle.header.proofs.Private.{copied-all}
 use borrow.Author.Needs.{needs}

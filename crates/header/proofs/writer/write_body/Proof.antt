@@ -6,7 +6,7 @@ use native.Mathlib.Omega.{arith}
 use borrow.Rule.Slice.PartMut.{same-len-mid, mid-len}
 use lib.ListN.{length}
 use Rattle.slices.proofs.Front.{put}
-use Rattle.setting.specs.Counters.{lastStream, lastSlot}
+use Rattle.counters.specs.Counters.{lastStream, lastSlot}
 use Rattle.header.proofs.Body.{body-parts}
 use borrow.Author.Needs.{needs}
 use Rattle.header.proofs.writer.write_body.Statement.{statement}

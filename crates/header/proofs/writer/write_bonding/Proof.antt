@@ -2,9 +2,9 @@
 use mathlib.Core.Path.{refl}
 use native.Mathlib.Omega.{arith}
 use Rattle.setting.specs.declared.Kind.{Kind}
-use Rattle.setting.specs.Rules.{bondingChecks}
-use Rattle.setting.proofs.Fields.{Bonded, bonded}
-use Rattle.setting.proofs.Refusals.{none-first}
+use Rattle.rules.specs.Rules.{bondingChecks}
+use Rattle.rules.proofs.Fields.{Bonded, bonded}
+use Rattle.rules.proofs.Refusals.{none-first}
 use Rattle.header.specs.Bytes.{bondingBytes}
 use Rattle.slices.proofs.Front.{stored}
 use borrow.Author.Needs.{needs}

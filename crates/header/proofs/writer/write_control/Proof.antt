@@ -4,7 +4,7 @@ use mathlib.Core.Path.{_≡_, _∙_}
 use native.Mathlib.Omega.{arith}
 use lib.ListN.{length}
 use lib.Seq.{length-take-le}
-use Rattle.setting.specs.Counters.{lastStream}
+use Rattle.counters.specs.Counters.{lastStream}
 use Rattle.header.proofs.Control.{control-bits}
 use borrow.Author.Needs.{needs}
 use Rattle.header.proofs.writer.write_control.Statement.{statement}

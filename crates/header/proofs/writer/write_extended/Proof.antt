@@ -5,8 +5,8 @@ use lib.ListN.{length, take}
 use lib.Seq.{length-take-le}
 use Rattle.setting.specs.declared.Kind.{Kind}
 use Rattle.setting.specs.Setting.{auxiliaryBytes}
-use Rattle.setting.specs.Rules.{bondingChecks}
-use Rattle.setting.proofs.Refusals.{none-first}
+use Rattle.rules.specs.Rules.{bondingChecks}
+use Rattle.rules.proofs.Refusals.{none-first}
 use Rattle.header.proofs.Private.{copied-all, extended-parts}
 use borrow.Author.Needs.{needs}
 use Rattle.header.proofs.writer.write_extended.Statement.{statement}

@@ -5,8 +5,8 @@ use lib.ListN.{length}
 use Rattle.bits.specs.Fields.{run}
 use Rattle.setting.specs.declared.Kind.{Kind}
 use Rattle.setting.specs.Setting.{privateBytes}
-use Rattle.setting.specs.Refusal.{firstOf}
-use Rattle.setting.specs.Rules.{bondingChecks}
+use Rattle.rules.specs.Refusal.{firstOf}
+use Rattle.rules.specs.Rules.{bondingChecks}
 use Rattle.header.specs.Rows.{pack}
 use Rattle.header.specs.Layout.{privateRows}
 use Rattle.header.specs.Header.{privateContent}

@@ -2,7 +2,7 @@
 use mathlib.Core.Path.{_≡_, sym, _∙_}
 use borrow.Author.Needs.{needs}
 use lib.ListN.{length}
-use Rattle.setting.specs.Counters.{lastSlot}
+use Rattle.counters.specs.Counters.{lastSlot}
 use Rattle.receiver.specs.Receiving.{handOutRefusal}
 use Rattle.receiver.proofs.ReceiverChecks.{handed-store, handed-room}
 use Rattle.receiver.proofs.Receipts.{refused-frame, refused-buffer, handed-frame, handed-buffer}

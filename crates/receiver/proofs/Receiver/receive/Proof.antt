@@ -5,10 +5,11 @@ use borrow.Author.Needs.{needs}
 use lib.ListN.{length}
 use Rattle.header.specs.declared.Reading.{Reading}
 use Rattle.header.specs.Header.{readRefusal}
-use Rattle.frame.specs.Packets.{unfit}
+use Rattle.packet.specs.Packets.{unfit}
 use Rattle.receiver.specs.Receiving.{receiveRefusal}
 use Rattle.receiver.proofs.ReceiverChecks.{whole-packet, whole-store}
-use Rattle.receiver.proofs.Sorts.{may-stand, may-not-stand, other-sort, broken-sort, good-sort, read-refusal, read-setting}
+use Rattle.packet.proofs.Fit.{may-stand, may-not-stand}
+use Rattle.receiver.proofs.Sorts.{other-sort, broken-sort, good-sort, read-refusal, read-setting}
 use Rattle.receiver.proofs.Receipts.{refused-receipt, refused-store, other-receipt, other-store, broken-receipt, broken-store, good-receipt, good-store}
 use Rattle.receiver.proofs.Receiver.receive.Statement.{statement}
 use Rattle.receiver.proofs.Receiver.receive.Tie as tie

@@ -8,13 +8,13 @@ use borrow.Author.Needs.{needs}
 use borrow.Author.Tests.{eq-eqb, ne-eqb, lt-ltb, le-ltb}
 use lib.Dec.{ltb}
 use lib.ListN.{drop}
-use Rattle.setting.specs.Counters.{firstStream, lastStream, within}
-use Rattle.setting.specs.Refusal.{Check, firstOf}
-use Rattle.setting.proofs.Refusals.{answers, passed, onward, at-once}
-use Rattle.setting.proofs.Within.{under, past, between}
-use Rattle.frame.specs.Packets.{packetLength}
+use Rattle.counters.specs.Counters.{firstStream, lastStream, within}
+use Rattle.rules.specs.Refusal.{Check, firstOf}
+use Rattle.rules.proofs.Refusals.{answers, passed, onward, at-once}
+use Rattle.counters.proofs.Within.{under, past, between}
+use Rattle.packet.specs.Packets.{packetLength}
 use Rattle.receiver.specs.Store.{slotsFor}
-use Rattle.receiver.specs.Table.{isReady}
+use Rattle.receiver_table.specs.Table.{isReady}
 use Rattle.receiver.specs.Receiving.{receiverChecks, handOutRefusal}
 use Rattle.receiver.proofs.ReceiverChecks.{receiver-none}
 use Rattle.receiver.proofs.checks.hand_out_refusal.Statement.{statement}

@@ -3,7 +3,7 @@ use mathlib.Core.Path.{sym, ap, _∙_}
 use mathlib.Core.Bool.{not}
 use borrow.Author.Needs.{needs}
 use borrow.Author.Tests.{eq-eqb, ne-eqb}
-use Rattle.setting.proofs.Refusals.{answers, passed}
+use Rattle.rules.proofs.Refusals.{answers, passed}
 use Rattle.receiver.specs.Receiving.{receiveRefusal, receiverChecks}
 use Rattle.receiver.proofs.checks.receive_refusal.Statement.{statement}
 use Rattle.receiver.proofs.checks.receive_refusal.Tie as tie

@@ -6,8 +6,8 @@ use mathlib.Core.List.{List, [], _∷_, _++_}
 use borrow.Author.Needs.{needs}
 use lib.ListN.{drop}
 use Rattle.slices.specs.Slices.{someAtLeast}
-use Rattle.setting.specs.Refusal.{Check, firstOf}
-use Rattle.setting.proofs.Refusals.{answers, passed, onward, at-once}
+use Rattle.rules.specs.Refusal.{Check, firstOf}
+use Rattle.rules.proofs.Refusals.{answers, passed, onward, at-once}
 use Rattle.receiver.specs.Receiving.{stageChecks, receiverChecks}
 use Rattle.receiver.proofs.ReceiverChecks.{stage-none}
 use Rattle.receiver.proofs.checks.receiver_refusal.Statement.{statement}

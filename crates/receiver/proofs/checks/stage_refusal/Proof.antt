@@ -4,9 +4,9 @@ use mathlib.Core.List.{[], _∷_}
 use borrow.Author.Tests.{le-leb, lt-leb, lt-ltb, le-ltb}
 use borrow.Author.Needs.{needs}
 use lib.Dec.{ltb}
-use Rattle.setting.specs.Counters.{lastSlot}
-use Rattle.setting.specs.Refusal.{firstOf}
-use Rattle.setting.proofs.Refusals.{answers, passed}
+use Rattle.counters.specs.Counters.{lastSlot}
+use Rattle.rules.specs.Refusal.{firstOf}
+use Rattle.rules.proofs.Refusals.{answers, passed}
 use Rattle.receiver.specs.Receiving.{stageChecks}
 use Rattle.receiver.proofs.checks.stage_refusal.Statement.{statement}
 use Rattle.receiver.proofs.checks.stage_refusal.Tie as tie

@@ -9,8 +9,8 @@ use borrow.Rule.Slice.PartMut.{mid-len}
 use lib.ListN.{length, take, drop}
 use Rattle.slices.proofs.Front.{copied-over}
 use Rattle.slices.proofs.Toward.{toward-length}
-use Rattle.setting.specs.Counters.{lastSlot}
-use Rattle.frame.specs.Packets.{packetLength}
+use Rattle.counters.specs.Counters.{lastSlot}
+use Rattle.packet.specs.Packets.{packetLength}
 use Rattle.receiver.proofs.Handing.{HandingOut, handing-none, handing-one, handing-passed, handing-all, room-for}
 use Rattle.receiver.proofs.numbered.copy_numbered.Statement.{statement}
 use Rattle.receiver.proofs.numbered.copy_numbered.Tie as tie

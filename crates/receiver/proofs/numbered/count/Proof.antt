@@ -6,7 +6,7 @@ use native.Mathlib.Omega.{arith}
 use borrow.Author.Needs.{needs}
 use borrow.Author.Tests.{eq-eqb, ne-eqb}
 use lib.ListN.{drop}
-use Rattle.setting.specs.Counters.{lastSlot}
+use Rattle.counters.specs.Counters.{lastSlot}
 use Rattle.receiver.specs.Store.{slotsFor}
 use Rattle.receiver.proofs.Handing.{count-from, count-none}
 use Rattle.receiver.proofs.numbered.count.Statement.{statement}

@@ -7,8 +7,8 @@ use borrow.Author.Needs.{needs}
 use borrow.Rule.Slice.PartMut.{mid-len}
 use lib.ListN.{length, take, drop}
 use Rattle.setting.specs.declared.Setting.{Setting}
-use Rattle.setting.specs.Counters.{lastSlot}
-use Rattle.frame.specs.Packets.{packetLength}
+use Rattle.counters.specs.Counters.{lastSlot}
+use Rattle.packet.specs.Packets.{packetLength}
 use Rattle.frame.specs.Composing.{saying, closing, closedWith, closed, closeOf, closedFrame}
 use Rattle.frame.proofs.Answers.{refused, kept, granted, written}
 use Rattle.frame.proofs.Passed.{ClosePassed, close-passed}

@@ -4,7 +4,7 @@ use native.Mathlib.Omega.{arith}
 use borrow.Author.Needs.{needs}
 use borrow.Author.Tests.{ne-eqb}
 use lib.ListN.{length}
-use Rattle.setting.specs.Counters.{lastSlot}
+use Rattle.counters.specs.Counters.{lastSlot}
 use Rattle.frame.specs.Composing.{marked, putOf, putFrame}
 use Rattle.frame.proofs.Answers.{kept, written}
 use Rattle.frame.proofs.Passed.{PutPassed, put-passed}

@@ -1,0 +1,2 @@
+-- What of a header decides on the next header's version.
+pub mod Announcing

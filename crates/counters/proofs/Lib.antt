@@ -1,0 +1,3 @@
+mod Checked
+mod Streams
+pub mod Within

@@ -1,0 +1,107 @@
+// The three counters of J.183, each with its first and last value, and which streams are available. The counts stand here and nowhere
+// else in the code.
+ghost use mathlib.Core.Path.{_≡_};
+ghost use Rattle.counters.specs.Counters.{firstSlot, lastSlot, firstStream, lastStream, firstPosition, lastPosition, checked, slotAnswer, relativeNumberAnswer, framePositionAnswer, available, countAvailable};
+
+// A slot of a frame. Slot 0 is the header's and is no value of this type.
+pub struct Slot(pub u8);
+
+// The number by which a frame's header knows a stream.
+pub struct RelativeNumber(pub u8);
+
+// The place of a frame in its super frame: a count, and no offset.
+pub struct FramePosition(pub u8);
+
+// What a checked constructor answers: the value, or the refusal's number.
+pub enum SlotAnswer {
+    Is(Slot),
+    Refused(u8),
+}
+
+pub enum RelativeNumberAnswer {
+    Is(RelativeNumber),
+    Refused(u8),
+}
+
+pub enum FramePositionAnswer {
+    Is(FramePosition),
+    Refused(u8),
+}
+
+impl Slot {
+    pub const FIRST: u8 = 1;
+
+    pub const LAST: u8 = 52;
+
+    pub fn new(n: u8) -> SlotAnswer
+        ensures { λ r. ⌜ r ≡ slotAnswer (checked firstSlot lastSlot n) ⌝ }
+    {
+        if n < Slot::FIRST {
+            return SlotAnswer::Refused(17);
+        }
+        if Slot::LAST < n {
+            return SlotAnswer::Refused(17);
+        }
+        SlotAnswer::Is(Slot(n))
+    }
+}
+
+impl RelativeNumber {
+    pub const FIRST: u8 = 1;
+
+    pub const LAST: u8 = 15;
+
+    pub fn new(n: u8) -> RelativeNumberAnswer
+        ensures { λ r. ⌜ r ≡ relativeNumberAnswer (checked firstStream lastStream n) ⌝ }
+    {
+        if n < RelativeNumber::FIRST {
+            return RelativeNumberAnswer::Refused(17);
+        }
+        if RelativeNumber::LAST < n {
+            return RelativeNumberAnswer::Refused(17);
+        }
+        RelativeNumberAnswer::Is(RelativeNumber(n))
+    }
+
+    // Whether the stream is available by a setting's fifteen bits, of which stream 1 has the highest.
+    pub fn is_available(self, availability: u16) -> bool
+        ensures { λ r. ⌜ r ≡ available availability (self .0) ⌝ }
+    {
+        let n = self.0;
+        if n < RelativeNumber::FIRST {
+            return false;
+        }
+        if RelativeNumber::LAST < n {
+            return false;
+        }
+        (availability >> ((RelativeNumber::LAST - n) as u32)) % 2 == 1
+    }
+}
+
+impl FramePosition {
+    pub const FIRST: u8 = 1;
+
+    pub const LAST: u8 = 4;
+
+    pub fn new(n: u8) -> FramePositionAnswer
+        ensures { λ r. ⌜ r ≡ framePositionAnswer (checked firstPosition lastPosition n) ⌝ }
+    {
+        if n < FramePosition::FIRST {
+            return FramePositionAnswer::Refused(17);
+        }
+        if FramePosition::LAST < n {
+            return FramePositionAnswer::Refused(17);
+        }
+        FramePositionAnswer::Is(FramePosition(n))
+    }
+}
+
+// How many contents the availability field has: there is a bit for each stream.
+pub const AVAILABILITIES: u16 = 1 << RelativeNumber::LAST;
+
+// How many of the fifteen streams are available: the ones of the field.
+pub fn count_available(availability: u16) -> u32
+    ensures { λ r. ⌜ r ≡ countAvailable availability ⌝ }
+{
+    u16::count_ones(availability % AVAILABILITIES)
+}

@@ -1,0 +1,2 @@
+pub mod Fit
+mod Left

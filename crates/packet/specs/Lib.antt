@@ -1,0 +1,2 @@
+-- Packets, and what is left of a stream of them.
+pub mod Packets

@@ -1,0 +1,36 @@
+-- Packets of 188 bytes, of which a frame has a header and one for each slot.
+use Prim.Native.Nat.{ℕ, _*_}
+use mathlib.Core.Bool.{Bool, not, _||_}
+use mathlib.Core.List.{List, [], _∷_}
+use lib.Dec.{eqb}
+use lib.ListN.{length, take, drop, replicate}
+use Rattle.rules.specs.Refusal.{firstOf}
+use Rattle.header.specs.Layout.{syncByte}
+use Rattle.header.specs.Header.{startValue}
+
+abbrev pub packetLength : ℕ
+packetLength = 188
+
+-- 53 packets
+abbrev pub frameLength : ℕ
+frameLength = 9964
+
+-- slot i: the 188 bytes that start at 188 × i. Slot 0 is the header
+unfoldable pub slot : ℕ → List ℕ → List ℕ
+slot i frame = take packetLength (drop (packetLength * i) frame)
+
+-- 47 1F FF 10, then 184 bytes FF
+unfoldable pub nullPacket : List ℕ
+nullPacket = 0x47 ∷ 0x1F ∷ 0xFF ∷ 0x10 ∷ replicate 184 0xFF
+
+-- whether a packet lacks 0x47 or bears the header PID
+unfoldable pub unfit : ℕ → List ℕ → Bool
+unfit pid p = not (eqb (startValue p 0) syncByte) || eqb (startValue p 2) pid
+
+-- 1: it has not 188 bytes; 12: it is unfit; 0: it may stand in a slot
+unfoldable pub placeRefusal : ℕ → List ℕ → ℕ
+placeRefusal pid p = firstOf ((1, not (eqb (length p) packetLength)) ∷ (12, unfit pid p) ∷ [])
+
+-- the rest of a lent stream of which so many packets were placed
+unfoldable pub restOf : List ℕ → ℕ → List ℕ
+restOf stream placed = drop (packetLength * placed) stream

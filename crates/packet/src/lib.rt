@@ -1,0 +1,44 @@
+// Packets of 188 bytes, of which a frame has a header and one for each slot, and what is left of a stream of them.
+use setting::SLOTS;
+ghost use mathlib.Core.Path.{_≡_};
+ghost use lib.ListN.{length};
+ghost use Rattle.packet.specs.Packets.{packetLength, unfit, placeRefusal, restOf};
+
+pub const PACKET_BYTES: usize = 188;
+
+pub const FRAME_BYTES: usize = PACKET_BYTES * (SLOTS + 1);
+
+// 12: whether a packet lacks 0x47 or bears the header PID.
+fn is_unfit(packet: &[u8], pid: u16) -> bool
+    requires { ⌜ length (now packet) ≡ packetLength ⌝ }
+    ensures { λ r. ⌜ r ≡ unfit pid (now (packet .entry)) ⌝ }
+{
+    if packet[0] != 0x47 {
+        return true;
+    }
+    ((packet[1] % 32) as u16) * 256 + packet[2] as u16 == pid
+}
+
+// 1: not 188 bytes; 12: lacks 0x47 or bears the header PID; 0: may stand in a slot.
+pub fn place_refusal(packet: &[u8], pid: u16) -> u8
+    ensures { λ r. ⌜ r ≡ placeRefusal pid (now (packet .entry)) ⌝ }
+{
+    if packet.len() != PACKET_BYTES {
+        return 1;
+    }
+    if is_unfit(packet, pid) {
+        return 12;
+    }
+    0
+}
+
+// What is left of a lent stream of which so many packets were placed.
+pub fn rest<'a>(stream: &'a [u8], placed: usize) -> &'a [u8]
+    ensures { λ r. ⌜ now r ≡ restOf (now (stream .entry)) placed ⌝ }
+{
+    let end = stream.len();
+    if end / PACKET_BYTES < placed {
+        return &stream[end..];
+    }
+    &stream[PACKET_BYTES * placed..]
+}

@@ -1,0 +1,2 @@
+-- The receiver's table.
+pub mod Table

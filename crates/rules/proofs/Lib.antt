@@ -1,0 +1,4 @@
+pub mod Fields
+mod Pairs
+pub mod Refusals
+mod Unavailable

@@ -1,9 +1,0 @@
-use Rattle.setting.proofs.Streams.{counted-all}
-use Rattle.setting.proofs.count_available.Statement.{statement}
-use Rattle.setting.proofs.count_available.Tie as tie
-
-returns : tie.Need-returns
-returns c = counted-all (c .args .availability)
-
-pub count-available-spec : {M : Type 1} → statement M
-count-available-spec = tie.close (tie.spec returns)
