@@ -4,7 +4,7 @@
 SHELL = /bin/bash
 .SHELLFLAGS = -o pipefail -c
 
-BOARD = board_setting board_header board_frame board_receiver board_bond
+BOARD = board_setting board_header board_packet board_frame board_receiver board_bond
 GATE = compare/target/gate.log
 
 run:

@@ -16,8 +16,8 @@ use Rattle.rules.proofs.Refusals.{answers, passed}
 use Rattle.packet.specs.Packets.{packetLength, frameLength}
 use Rattle.frame.specs.Composing.{stateChecks, answer, beginOf, putOf, closeOf, beginRefusal, putRefusal, closeRefusal}
 use Rattle.frame.specs.declared.composer.Composer.{Composer}
-use Rattle.coding.specs.Words.{wordBytes, wordAt}
-use Rattle.coding.specs.Kinds.{isKind, kindNumber}
+use Rattle.words.specs.Words.{wordBytes, wordAt}
+use Rattle.words.specs.Kinds.{isKind, kindNumber}
 use Rattle.coding.specs.Settings.{part, announcedBytes, settingLength, settingBytes, settingOf}
 use Rattle.coding.proofs.Parts.{length-announced}
 use Rattle.coding.proofs.Back.{part-behind, part-first, byte-behind, long, announced-back, length-setting, setting-back, kind-back}

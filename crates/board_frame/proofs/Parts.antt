@@ -6,8 +6,8 @@ use native.Mathlib.Omega.{arith}
 use lib.ListN.{length, set, length-map}
 use Rattle.slices.proofs.Front.{put, front-none, front-part, front-more, front-all}
 use Rattle.counters.specs.Counters.{lastSlot}
-use Rattle.coding.specs.Words.{wordBytes}
-use Rattle.coding.specs.Kinds.{kindNumber}
+use Rattle.words.specs.Words.{wordBytes}
+use Rattle.words.specs.Kinds.{kindNumber}
 use Rattle.coding.specs.Settings.{announcedBytes, settingBytes}
 use Rattle.coding.proofs.Parts.{Streams, Long, length-announced}
 use Rattle.coding.proofs.Back.{length-setting}

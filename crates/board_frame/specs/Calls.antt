@@ -7,7 +7,7 @@ use lib.ListN.{length}
 use Rattle.rules.specs.Refusal.{firstOf}
 use Rattle.rules.specs.Rules.{pidAllowed}
 use Rattle.frame.specs.Composing.{leaves, startOf, beginOf, begunFrame, putOf, putFrame, closeOf, closedFrame}
-use Rattle.coding.specs.Kinds.{isKind, kindOf}
+use Rattle.words.specs.Kinds.{isKind, kindOf}
 use Rattle.coding.specs.Settings.{settingLength, settingOf}
 use Rattle.board_frame.specs.States.{composerLength, composerBytes, composerOf}
 

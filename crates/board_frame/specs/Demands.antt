@@ -7,7 +7,7 @@ use lib.ListN.{length}
 use Rattle.rules.specs.Rules.{pidAllowed}
 use Rattle.packet.specs.Packets.{packetLength, frameLength}
 use Rattle.frame.specs.declared.composer.Composer.{Composer}
-use Rattle.coding.specs.Words.{wordAt}
+use Rattle.words.specs.Words.{wordAt}
 use Rattle.coding.specs.Settings.{settingLength}
 use Rattle.board_frame.specs.States.{composerLength, composerBytes, composerOf, isCoded, OfItsTypes}
 use Rattle.board_frame.specs.Calls.{beginRefused, putRefused, closeRefused}

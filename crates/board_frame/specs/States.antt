@@ -8,8 +8,8 @@ use lib.ListN.{length, getD}
 use Rattle.slices.specs.Slices.{someAtLeast}
 use Rattle.counters.specs.Counters.{lastSlot, lastStream}
 use Rattle.setting.specs.Setting.{Array, OfItsTypes as SettingOfItsTypes}
-use Rattle.coding.specs.Words.{wordBytes, wordAt}
-use Rattle.coding.specs.Kinds.{isKind, kindOf, kindNumber}
+use Rattle.words.specs.Words.{wordBytes, wordAt}
+use Rattle.words.specs.Kinds.{isKind, kindOf, kindNumber}
 use Rattle.coding.specs.Settings.{part, announcedBytes, announcedOf, settingBytes, settingOf}
 use Rattle.frame.specs.declared.composer.Composer.{Composer}
 

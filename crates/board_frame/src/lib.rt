@@ -2,24 +2,14 @@
 mod states;
 
 use coding::SETTING_BYTES;
-use frame::composer;
-use frame::composer::Composer;
 use counters::RelativeNumber;
+use frame::composer::Composer;
 ghost use mathlib.Core.Path.{_≡_};
 ghost use lib.ListN.{length};
-ghost use Rattle.packet.specs.Packets.{placeRefusal, restOf};
 ghost use Rattle.board_frame.specs.Calls.{startRefused, startState, beginRefused, beginState, beginMemory, putRefused, putPlaced, putState, putMemory, closeRefused, closeState, closeMemory};
 
 // How many bytes a composer's state takes.
 pub const COMPOSER_BYTES: usize = states::COMPOSER_BYTES;
-
-// Whether a packet may stand in a slot.
-#[no_mangle]
-pub extern "C" fn niranbok_place_refusal(packet: &[u8], pid: u16) -> u8
-    ensures { λ r. ⌜ r ≡ placeRefusal pid (now (packet .entry)) ⌝ }
-{
-    packet::place_refusal(packet, pid)
-}
 
 // Starts a run: writes its state.
 #[no_mangle]
@@ -36,7 +26,7 @@ pub extern "C" fn niranbok_composer_start(state: &mut [u8], pid: u16, kind: u8) 
     if 1 < kind {
         return 17;
     }
-    let started = Composer::start(pid, coding::kind_of(kind));
+    let started = Composer::start(pid, words::kind_of(kind));
     states::write_composer(state, started.state);
     0
 }
@@ -89,14 +79,6 @@ pub extern "C" fn niranbok_composer_put(
     }
     states::write_composer(state, answer.state);
     0
-}
-
-// How many bytes of a stream are left behind so many placed packets.
-#[no_mangle]
-pub extern "C" fn niranbok_composer_rest(stream: &[u8], placed: usize) -> usize
-    ensures { λ r. ⌜ r ≡ length (restOf (now (stream .entry)) placed) ⌝ }
-{
-    packet::rest(stream, placed).len()
 }
 
 // Closes the open frame: writes its header.

@@ -9,8 +9,8 @@ ghost use mathlib.Core.List.{[], _∷_, _++_, map};
 ghost use Prim.Native.Nat.{ℕ};
 ghost use lib.Dec.{eqb};
 ghost use lib.ListN.{length};
-ghost use Rattle.coding.specs.Words.{wordBytes};
-ghost use Rattle.coding.specs.Kinds.{kindNumber};
+ghost use Rattle.words.specs.Words.{wordBytes};
+ghost use Rattle.words.specs.Kinds.{kindNumber};
 ghost use Rattle.board_frame.specs.States.{composerLength, markByte, composerBytes, isCoded, composerOf};
 
 // Where the parts start.
@@ -83,8 +83,8 @@ pub(crate) fn composer_of(bytes: &[u8]) -> Composer
     let mut filled = [false; SLOTS];
     read_marks(&mut filled, &bytes[FILLED..COMPOSER_BYTES]);
     Composer {
-        pid: coding::word(bytes[0], bytes[1]),
-        kind: coding::kind_of(bytes[2]),
+        pid: words::word(bytes[0], bytes[1]),
+        kind: words::kind_of(bytes[2]),
         counter,
         version: bytes[4],
         last,
@@ -101,7 +101,7 @@ fn write_front(part: &mut [u8], c: Composer)
     part[0] = (c.pid / 256) as u8;
     part[1] = (c.pid % 256) as u8;
     let kind = c.kind;
-    part[2] = coding::kind_number(kind);
+    part[2] = words::kind_number(kind);
     part[3] = c.counter;
     part[4] = c.version;
 }

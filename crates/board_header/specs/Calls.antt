@@ -8,7 +8,7 @@ use Rattle.rules.specs.Refusal.{firstOf}
 use Rattle.rules.specs.Rules.{pidAllowed}
 use Rattle.header.specs.Header.{headerLength, writeRefusal, written, readOf}
 use Rattle.frame.specs.Composing.{leaves}
-use Rattle.coding.specs.Kinds.{isKind, kindOf}
+use Rattle.words.specs.Kinds.{isKind, kindOf}
 use Rattle.coding.specs.Settings.{settingLength, settingBytes, settingOf}
 
 -- what both calls ask of what they are lent, by its lengths: 1, 2, and 17 for a number that is no kind

@@ -45,7 +45,7 @@ pub extern "C" fn niranbok_header_write(packet: &mut [u8], pid: u16, kind: u8, s
     header::write(
         packet,
         pid,
-        coding::kind_of(kind),
+        words::kind_of(kind),
         coding::setting_of(setting),
     )
 }
@@ -60,7 +60,7 @@ pub extern "C" fn niranbok_header_read(packet: &[u8], pid: u16, kind: u8, settin
     if call != 0 {
         return call;
     }
-    let reading = header::read(packet, pid, coding::kind_of(kind));
+    let reading = header::read(packet, pid, words::kind_of(kind));
     if reading.refusal != 0 {
         return reading.refusal;
     }

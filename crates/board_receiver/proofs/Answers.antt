@@ -10,7 +10,7 @@ use Rattle.rules.specs.Refusal.{firstOf, none}
 use Rattle.rules.specs.Rules.{pidAllowed}
 use Rattle.rules.proofs.Refusals.{answers, passed, first-none}
 use Rattle.frame.proofs.Answers.{kept, written}
-use Rattle.coding.specs.Kinds.{isKind, kindOf}
+use Rattle.words.specs.Kinds.{isKind, kindOf}
 use Rattle.receiver.specs.declared.Receiver.{Receiver}
 use Rattle.receiver.specs.declared.Started.{Started}
 use Rattle.receiver.specs.declared.Received.{Received}

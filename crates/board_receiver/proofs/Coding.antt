@@ -6,8 +6,8 @@ use mathlib.Core.List.{[], _∷_}
 use native.Mathlib.Omega.{arith}
 use lib.Seq.{take-at, drop-at, take-all}
 use Rattle.setting.specs.declared.Kind.{Kind}
-use Rattle.coding.specs.Words.{wordBytes, wordAt}
-use Rattle.coding.specs.Kinds.{isKind, kindOf, kindNumber}
+use Rattle.words.specs.Words.{wordBytes, wordAt}
+use Rattle.words.specs.Kinds.{isKind, kindOf, kindNumber}
 use Rattle.receiver_table.specs.declared.Stage.{Stage}
 use Rattle.board_receiver.specs.States.{stageBytes, stageOf, receiverBytes, receiverOf}
 use Rattle.board_receiver.specs.Demands.{StateBack}

@@ -10,8 +10,8 @@ use Rattle.slices.specs.Slices.{copied, over}
 use Rattle.slices.proofs.Front.{Front, front-none, front-part, front-all, copied-over, put-over}
 use Rattle.counters.specs.Counters.{lastSlot}
 use Rattle.setting.specs.declared.Kind.{Kind}
-use Rattle.coding.specs.Words.{wordBytes}
-use Rattle.coding.specs.Kinds.{kindOf, kindNumber}
+use Rattle.words.specs.Words.{wordBytes}
+use Rattle.words.specs.Kinds.{kindOf, kindNumber}
 use Rattle.receiver_table.specs.declared.Stage.{Stage}
 use Rattle.receiver.specs.declared.Receiver.{Receiver}
 use Rattle.board_receiver.specs.States.{receiverLength, stageBytes, noStage, stageOf, receiverBytes, receiverOf}

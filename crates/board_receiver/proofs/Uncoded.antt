@@ -11,7 +11,7 @@ use Rattle.rules.specs.Refusal.{firstOf}
 use Rattle.rules.specs.Rules.{pidAllowed}
 use Rattle.rules.proofs.Refusals.{passed, at-once}
 use Rattle.packet.specs.Packets.{packetLength}
-use Rattle.coding.specs.Kinds.{isKind}
+use Rattle.words.specs.Kinds.{isKind}
 use Rattle.receiver_table.specs.declared.Stage.{Stage}
 use Rattle.receiver.specs.declared.Receiver.{Receiver}
 use Rattle.receiver.specs.Store.{storeLength}

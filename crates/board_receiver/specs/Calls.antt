@@ -7,7 +7,7 @@ use lib.ListN.{length}
 use Rattle.rules.specs.Refusal.{firstOf}
 use Rattle.rules.specs.Rules.{pidAllowed}
 use Rattle.frame.specs.Composing.{leaves}
-use Rattle.coding.specs.Kinds.{isKind, kindOf}
+use Rattle.words.specs.Kinds.{isKind, kindOf}
 use Rattle.receiver.specs.Receiving.{startReceiverOf, receiveOf, receiveStore, handOutOf, handOutBuffer}
 use Rattle.board_receiver.specs.States.{receiverLength, receiverBytes, receiverOf, eventNumber}
 

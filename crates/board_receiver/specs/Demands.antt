@@ -6,7 +6,7 @@ use mathlib.Core.List.{List}
 use lib.ListN.{length}
 use Rattle.rules.specs.Rules.{pidAllowed}
 use Rattle.packet.specs.Packets.{packetLength}
-use Rattle.coding.specs.Words.{wordAt}
+use Rattle.words.specs.Words.{wordAt}
 use Rattle.receiver.specs.declared.Receiver.{Receiver}
 use Rattle.receiver.specs.Store.{storeLength}
 use Rattle.board_receiver.specs.States.{receiverLength, receiverBytes, receiverOf, OfItsTypes, isCoded}

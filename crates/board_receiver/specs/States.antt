@@ -4,8 +4,8 @@ use mathlib.Core.Bool.{Bool, cond, not, _&&_, _||_}
 use mathlib.Core.List.{List, [], _∷_, _++_}
 use lib.Dec.{leb, eqb}
 use lib.ListN.{getD, take, drop}
-use Rattle.coding.specs.Words.{wordBytes, wordAt}
-use Rattle.coding.specs.Kinds.{isKind, kindOf, kindNumber}
+use Rattle.words.specs.Words.{wordBytes, wordAt}
+use Rattle.words.specs.Kinds.{isKind, kindOf, kindNumber}
 use Rattle.counters.specs.Counters.{lastSlot}
 use Rattle.setting.specs.Setting.{Array}
 use Rattle.receiver_table.specs.declared.Stage.{Stage}

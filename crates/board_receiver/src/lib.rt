@@ -1,8 +1,8 @@
 // The receiver for callers in other languages: its state is lent bytes, and each call is the receiver's own under their coding.
 mod states;
 
-use receiver::Receiver;
 use counters::RelativeNumber;
+use receiver::Receiver;
 ghost use mathlib.Core.Path.{_≡_};
 ghost use Rattle.board_receiver.specs.Calls.{startRefused, startState, receiveRefused, receiveEvent, receiveState, receiveMemory, handOutRefused, handOutPackets, handOutMemory};
 
@@ -24,7 +24,7 @@ pub extern "C" fn niranbok_receiver_start(state: &mut [u8], pid: u16, kind: u8) 
     if 1 < kind {
         return 17;
     }
-    let started = Receiver::start(pid, coding::kind_of(kind));
+    let started = Receiver::start(pid, words::kind_of(kind));
     states::write_receiver(state, started.state);
     0
 }

@@ -9,8 +9,8 @@ ghost use Prim.Native.Nat.{_+_, _≤_};
 ghost use mathlib.Core.List.{[], _∷_, _++_};
 ghost use lib.ListN.{length, take, drop};
 ghost use Rattle.counters.specs.Counters.{lastSlot};
-ghost use Rattle.coding.specs.Words.{wordBytes};
-ghost use Rattle.coding.specs.Kinds.{kindNumber};
+ghost use Rattle.words.specs.Words.{wordBytes};
+ghost use Rattle.words.specs.Kinds.{kindNumber};
 ghost use Rattle.slices.specs.Slices.{over};
 ghost use Rattle.board_receiver.specs.States.{receiverLength, stageBytes, stageOf, receiverBytes, receiverOf, eventNumber};
 
@@ -57,7 +57,7 @@ fn front_bytes(pid: u16, kind: Kind, stage: Stage) -> [u8; NUMBERS]
 {
     let high = (pid / 256) as u8;
     let low = (pid % 256) as u8;
-    let number = coding::kind_number(kind);
+    let number = words::kind_number(kind);
     match stage {
         Stage::Waiting => [high, low, number, 0, 0, 0],
         Stage::Open(from, k) => [high, low, number, 1, from, k],
@@ -99,8 +99,8 @@ pub(crate) fn receiver_of(bytes: &[u8]) -> Receiver
     ensures { λ r. ⌜ r ≡ receiverOf (now (bytes .entry)) ⌝ }
 {
     Receiver {
-        pid: coding::word(bytes[0], bytes[1]),
-        kind: coding::kind_of(bytes[2]),
+        pid: words::word(bytes[0], bytes[1]),
+        kind: words::kind_of(bytes[2]),
         stage: stage_in(bytes),
         numbers: numbers_at(bytes, NUMBERS),
         before: numbers_at(bytes, BEFORE),

@@ -7,7 +7,7 @@ use lib.Dec.{eqb}
 use borrow.Author.Tests.{eqb-true, not-false}
 use Rattle.rules.specs.Refusal.{Check, NoneHolds, more}
 use Rattle.rules.proofs.Refusals.{none-first}
-use Rattle.coding.specs.Kinds.{isKind}
+use Rattle.words.specs.Kinds.{isKind}
 use Rattle.coding.specs.Settings.{settingLength}
 use Rattle.board_setting.specs.Calls.{callRefused}
 

@@ -8,7 +8,7 @@ use Rattle.rules.specs.Refusal.{firstOf}
 use Rattle.rules.specs.Rules.{widthChecks, ruleChecks}
 use Rattle.setting.specs.Setting.{blank}
 use Rattle.frame.specs.Composing.{leaves}
-use Rattle.coding.specs.Kinds.{isKind, kindOf}
+use Rattle.words.specs.Kinds.{isKind, kindOf}
 use Rattle.coding.specs.Settings.{settingLength, settingBytes, settingOf}
 
 -- 1 for a setting of another length, 17 for a number that is no kind

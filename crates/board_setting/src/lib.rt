@@ -1,12 +1,12 @@
 // Settings and their numbers for callers in other languages: each call is the rules' own under the coding of settings and kinds.
 use coding::SETTING_BYTES;
-use setting::Setting;
 use counters::FramePosition;
 use counters::FramePositionAnswer;
 use counters::RelativeNumber;
 use counters::RelativeNumberAnswer;
 use counters::Slot;
 use counters::SlotAnswer;
+use setting::Setting;
 ghost use mathlib.Core.Path.{_≡_};
 ghost use Rattle.counters.specs.Counters.{firstSlot, lastSlot, firstStream, lastStream, firstPosition, lastPosition, checked, available, countAvailable};
 ghost use Rattle.rules.specs.Rules.{pidAllowed};
@@ -105,7 +105,7 @@ pub extern "C" fn niranbok_setting_widths(setting: &[u8], kind: u8) -> u8
     if call != 0 {
         return call;
     }
-    rules::width_refusal(coding::kind_of(kind), coding::setting_of(setting))
+    rules::width_refusal(words::kind_of(kind), coding::setting_of(setting))
 }
 
 // Whether a setting obeys the rules of a header.
@@ -117,5 +117,5 @@ pub extern "C" fn niranbok_setting_rules(setting: &[u8], kind: u8) -> u8
     if call != 0 {
         return call;
     }
-    rules::rule_refusal(coding::kind_of(kind), coding::setting_of(setting))
+    rules::rule_refusal(words::kind_of(kind), coding::setting_of(setting))
 }

@@ -11,11 +11,11 @@ use Rattle.setting.specs.declared.Setting.{Setting}
 use Rattle.setting.specs.Setting.{OfItsTypes}
 use Rattle.announced.specs.declared.Announced.{Announced}
 use Rattle.announced.specs.Announcing.{announced}
-use Rattle.coding.specs.Words.{wordBytes}
-use Rattle.coding.specs.Kinds.{kindOf, kindNumber}
+use Rattle.words.specs.Words.{wordBytes}
+use Rattle.words.specs.Kinds.{kindOf, kindNumber}
 use Rattle.coding.specs.Settings.{part, announcedLength, announcedBytes, announcedOf, settingLength, settingBytes, settingOf}
 use Rattle.coding.specs.Demands.{SettingBack}
-use Rattle.coding.proofs.Words.{length-bytes, words-back}
+use Rattle.words.proofs.Numbers.{length-bytes, words-back}
 use Rattle.coding.proofs.Parts.{Streams, Long, length-announced, streams}
 
 -- a part behind another, and one at the front

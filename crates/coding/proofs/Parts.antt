@@ -12,9 +12,9 @@ use Rattle.setting.specs.declared.Setting.{Setting}
 use Rattle.setting.specs.Setting.{privateBytes, auxiliaryBytes}
 use Rattle.announced.specs.declared.Announced.{Announced}
 use Rattle.announced.specs.Announcing.{announced}
-use Rattle.coding.specs.Words.{wordBytes}
+use Rattle.words.specs.Words.{wordBytes}
 use Rattle.coding.specs.Settings.{part, announcedLength, announcedBytes, settingLength, settingBytes}
-use Rattle.coding.proofs.Words.{length-bytes}
+use Rattle.words.proofs.Numbers.{length-bytes}
 
 -- n elements from place k on are n where there are so many
 pub length-part : (k n : ℕ) (b : List ℕ) → k + n ≤ length b → length (part k n b) ≡ n

@@ -1,5 +1,3 @@
--- Settings and kinds as numbers and bytes, in a fixed layout.
-pub mod Words
-pub mod Kinds
+-- Settings as bytes, in a fixed layout.
 pub mod Settings
 pub mod Demands

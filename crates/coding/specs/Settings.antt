@@ -8,7 +8,7 @@ use Rattle.setting.specs.declared.Setting.{Setting}
 use Rattle.setting.specs.Setting.{blank}
 use Rattle.announced.specs.declared.Announced.{Announced}
 use Rattle.announced.specs.Announcing.{announced}
-use Rattle.coding.specs.Words.{wordBytes, wordAt, wordsOf}
+use Rattle.words.specs.Words.{wordBytes, wordAt, wordsOf}
 
 -- n bytes from place k on
 abbrev pub part : ℕ → ℕ → List ℕ → List ℕ

@@ -1,21 +1,20 @@
 // Settings as bytes, in a fixed layout: what a caller in another language keeps and hands over. The fields stand in the setting's own
 // order, numbers of 16 bits with the high byte first.
 use announced::Announced;
+use counters::FramePosition;
 use setting::AUXILIARY_BYTES;
 use setting::Kind;
 use setting::PRIVATE_BYTES;
 use setting::SLOTS;
 use setting::STREAMS;
 use setting::Setting;
-use counters::FramePosition;
 ghost use mathlib.Core.Path.{_≡_};
 ghost use mathlib.Core.Bool.{cond};
 ghost use mathlib.Core.List.{[], _∷_};
 ghost use Prim.Native.Nat.{_*_, _+_};
 ghost use lib.Dec.{eqb};
 ghost use lib.ListN.{length};
-ghost use Rattle.coding.specs.Kinds.{kindOf, kindNumber};
-ghost use Rattle.coding.specs.Words.{wordBytes, wordsOf};
+ghost use Rattle.words.specs.Words.{wordBytes, wordsOf};
 ghost use Rattle.coding.specs.Settings.{announcedLength, announcedBytes, announcedOf, settingLength, settingBytes, settingOf};
 
 // How many bytes what a header announces takes, and a setting.
@@ -42,39 +41,13 @@ pub const AUXILIARY: usize = PRIVATE + PRIVATE_BYTES;
 
 pub const BONDING: usize = AUXILIARY + AUXILIARY_BYTES;
 
-// A number of 16 bits from its two bytes.
-pub fn word(high: u8, low: u8) -> u16
-    ensures { λ r. ⌜ r ≡ high * 256 + low ⌝ }
-{
-    (high as u16) * 256 + low as u16
-}
-
-// The kind of a number: 1 is extended; any other number counts as plain, and a caller refuses those above 1.
-pub fn kind_of(n: u8) -> Kind
-    ensures { λ r. ⌜ r ≡ kindOf n ⌝ }
-{
-    if n == 1 {
-        return Kind::Extended;
-    }
-    Kind::Plain
-}
-
-pub fn kind_number(kind: Kind) -> u8
-    ensures { λ r. ⌜ r ≡ kindNumber kind ⌝ }
-{
-    match kind {
-        Kind::Plain => 0,
-        Kind::Extended => 1,
-    }
-}
-
 fn read_words(words: &mut [u16], part: &[u8])
     requires { ⌜ length (now part) ≡ 2 * length (now words) ⌝ }
     ensures { λ _. ⌜ now (words .exit) ≡ wordsOf (now (part .entry)) ⌝ }
 {
     let mut k = 0;
     while k < words.len() {
-        words[k] = word(part[2 * k], part[2 * k + 1]);
+        words[k] = words::word(part[2 * k], part[2 * k + 1]);
         k += 1;
     }
 }
@@ -119,7 +92,7 @@ pub fn announced_of(bytes: &[u8]) -> Announced
     Announced {
         slot_allocation_type: bytes[0],
         frame_type: bytes[1],
-        availability: word(bytes[2], bytes[3]),
+        availability: words::word(bytes[2], bytes[3]),
         ts_id,
         original_network_id,
         receive_status,

@@ -2,13 +2,13 @@
 use crate::Reading;
 use crate::packed;
 use crate::places;
+use counters::FramePosition;
 use setting::AUXILIARY_BYTES;
 use setting::Kind;
 use setting::PRIVATE_BYTES;
 use setting::SLOTS;
 use setting::STREAMS;
 use setting::Setting;
-use counters::FramePosition;
 ghost use mathlib.Core.Path.{_≡_};
 ghost use Prim.Native.Nat.{_+_, _*_};
 ghost use lib.ListN.{length, take, drop};

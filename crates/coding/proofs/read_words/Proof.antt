@@ -5,8 +5,8 @@ use native.Mathlib.Omega.{arith}
 use borrow.Author.Needs.{needs}
 use lib.ListN.{length, take, length-set}
 use lib.Seq.{take-all}
-use Rattle.coding.specs.Words.{wordsOf}
-use Rattle.coding.proofs.Words.{word-read}
+use Rattle.words.specs.Words.{wordsOf}
+use Rattle.words.proofs.Numbers.{word-read}
 use Rattle.coding.proofs.read_words.Statement.{statement}
 use Rattle.coding.proofs.read_words.Tie as tie
 

@@ -1,7 +1,7 @@
 -- `write_information` meets its contract. Assumes nothing.
 use Prim.Native.Nat.{_/_, _%_}
 use mathlib.Core.List.{[], _∷_}
-use Rattle.coding.specs.Words.{wordBytes}
+use Rattle.words.specs.Words.{wordBytes}
 use Rattle.slices.proofs.Front.{stored}
 use borrow.Author.Needs.{needs}
 use Rattle.coding.proofs.write_information.Statement.{statement}

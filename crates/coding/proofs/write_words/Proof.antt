@@ -5,8 +5,8 @@ use native.Mathlib.Omega.{arith}
 use borrow.Author.Needs.{needs}
 use lib.ListN.{length, take, length-set}
 use lib.Seq.{take-all}
-use Rattle.coding.specs.Words.{wordBytes}
-use Rattle.coding.proofs.Words.{word-written}
+use Rattle.words.specs.Words.{wordBytes}
+use Rattle.words.proofs.Numbers.{word-written}
 use Rattle.coding.proofs.write_words.Statement.{statement}
 use Rattle.coding.proofs.write_words.Tie as tie
 

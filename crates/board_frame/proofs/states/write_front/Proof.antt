@@ -3,8 +3,8 @@ use Prim.Native.Nat.{_/_, _%_}
 use mathlib.Core.List.{[], _∷_}
 use native.Mathlib.Omega.{arith}
 use lib.ListN.{length-set}
-use Rattle.coding.specs.Words.{wordBytes}
-use Rattle.coding.specs.Kinds.{kindNumber}
+use Rattle.words.specs.Words.{wordBytes}
+use Rattle.words.specs.Kinds.{kindNumber}
 use Rattle.slices.proofs.Front.{stored}
 use borrow.Author.Needs.{needs}
 use Rattle.board_frame.proofs.states.write_front.Statement.{statement}

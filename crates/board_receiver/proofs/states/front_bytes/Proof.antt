@@ -1,7 +1,7 @@
 -- `front_bytes` meets its contract, stage by stage. Assumes nothing.
 use mathlib.Core.Path.{refl}
 use borrow.Author.Needs.{needs}
-use Rattle.coding.specs.Words.{wordBytes}
+use Rattle.words.specs.Words.{wordBytes}
 use Rattle.board_receiver.specs.States.{stageBytes}
 use Rattle.board_receiver.proofs.states.front_bytes.Statement.{statement}
 use Rattle.board_receiver.proofs.states.front_bytes.Tie as tie

@@ -1,8 +1,8 @@
 -- `kind_of` meets its contract. Assumes nothing.
 use borrow.Author.Tests.{ne-eqb}
-use Rattle.coding.specs.Kinds.{kindOf}
-use Rattle.coding.proofs.kind_of.Statement.{statement}
-use Rattle.coding.proofs.kind_of.Tie as tie
+use Rattle.words.specs.Kinds.{kindOf}
+use Rattle.words.proofs.kind_of.Statement.{statement}
+use Rattle.words.proofs.kind_of.Tie as tie
 
 returns : tie.Need-returns
 unfolding kindOf

@@ -2,8 +2,8 @@
 use mathlib.Core.Path.{ap}
 use lib.ListN.{length}
 use borrow.Author.Needs.{needs}
-use Rattle.board_frame.proofs.niranbok_composer_rest.Statement.{statement}
-use Rattle.board_frame.proofs.niranbok_composer_rest.Tie as tie
+use Rattle.board_packet.proofs.niranbok_composer_rest.Statement.{statement}
+use Rattle.board_packet.proofs.niranbok_composer_rest.Tie as tie
 
 rest-requires : tie.Need-rest-requires
 rest-requires c κs = search needs

@@ -1,8 +1,8 @@
 -- `kind_number` meets its contract. Assumes nothing.
 use borrow.Author.Needs.{needs}
-use Rattle.coding.specs.Kinds.{kindNumber}
-use Rattle.coding.proofs.kind_number.Statement.{statement}
-use Rattle.coding.proofs.kind_number.Tie as tie
+use Rattle.words.specs.Kinds.{kindNumber}
+use Rattle.words.proofs.kind_number.Statement.{statement}
+use Rattle.words.proofs.kind_number.Tie as tie
 
 enum-told : tie.Need-enum-told
 enum-told c = search needs

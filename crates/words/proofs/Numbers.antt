@@ -7,7 +7,7 @@ use native.Mathlib.Numerals.{add-one}
 use lib.ListN.{length, take, getD, set}
 use lib.Seq.{take-suc-set}
 use Rattle.slices.proofs.Front.{stored-behind}
-use Rattle.coding.specs.Words.{wordBytes, wordAt, wordsOf}
+use Rattle.words.specs.Words.{wordBytes, wordAt, wordsOf}
 
 -- two stores, one behind the other
 two-stored : (l : List ℕ) (at a b : ℕ) → at + 2 ≤ length l → take (at + 2) (set (set l at a) (at + 1) b) ≡ take at l ++ (a ∷ b ∷ [])

@@ -1,0 +1,3 @@
+-- Numbers and kinds as bytes.
+pub mod Words
+pub mod Kinds
