@@ -1,0 +1,59 @@
+-- `number_in` is safe and ends. Assumes nothing.
+use Prim.Native.Nat.{_+_, _-_, _*_, _^_, _≤_, _<_}
+use mathlib.Core.Path.{_≡_}
+use native.Mathlib.Omega.{arith}
+use borrow.Author.Needs.{needs}
+use lib.ListN.{length}
+use Rattle.io.proofs.Counting.{counts}
+use mathlib.Core.Path.{refl}
+use Rattle.tools.proofs.demux.number_in.Statement.{statement}
+use Rattle.tools.proofs.demux.number_in.Tie as tie
+
+abbrev Inv-loop : tie.InvT-loop
+Inv-loop s ts-id network-id k₀ k = Unit {0}
+
+abbrev μ-loop : tie.MeasureT-loop
+μ-loop s ts-id network-id k₀ k = 15 - k
+
+loop-holds : tie.Need-loop-holds Inv-loop μ-loop
+loop-holds c = tt
+
+is-stream-requires : tie.Need-is-stream-requires Inv-loop μ-loop
+is-stream-requires c κs = search needs
+
+add-result : tie.Need-add-result Inv-loop μ-loop
+add-result c = search needs
+
+cast-result : tie.Need-cast-result Inv-loop μ-loop
+cast-result c = search needs
+
+returns : tie.Need-returns Inv-loop μ-loop
+returns c = tt
+
+add-k : tie.Need-add-k Inv-loop μ-loop
+add-k c = search needs
+
+loop-less : tie.Need-loop-less Inv-loop μ-loop
+loop-less c = search needs
+
+loop-again : tie.Need-loop-again Inv-loop μ-loop
+loop-again c = tt
+
+returns-2 : tie.Need-returns-2 Inv-loop μ-loop
+returns-2 c = tt
+
+pub number-in-spec : {M : Type 1} → statement M
+number-in-spec =
+    tie.close
+    (tie.spec
+    Inv-loop
+    μ-loop
+    loop-holds
+    is-stream-requires
+    add-result
+    cast-result
+    returns
+    add-k
+    loop-less
+    loop-again
+    returns-2)

@@ -1,0 +1,71 @@
+-- `take_block` is safe and ends. Assumes nothing.
+use Prim.Native.Nat.{_+_, _-_, _*_, _^_, _≤_, _<_}
+use mathlib.Core.Path.{_≡_}
+use native.Mathlib.Omega.{arith}
+use borrow.Author.Needs.{needs}
+use lib.ListN.{length}
+use Rattle.io.proofs.Counting.{counts}
+use mathlib.Core.Path.{refl}
+use Rattle.tools.proofs.demux.take_block.Statement.{statement}
+use Rattle.tools.proofs.demux.take_block.Tie as tie
+
+abbrev Inv-loop : tie.InvT-loop
+Inv-loop block store₀ pid choice packets next₀ i₀ store next i = length store ≡ length store₀
+
+abbrev μ-loop : tie.MeasureT-loop
+μ-loop block store₀ pid choice packets next₀ i₀ store next i = packets - i
+
+loop-holds : tie.Need-loop-holds Inv-loop μ-loop
+loop-holds c = refl
+
+mul-at : tie.Need-mul-at Inv-loop μ-loop
+mul-at c = search needs
+
+add-take : tie.Need-add-take Inv-loop μ-loop
+add-take c = search needs
+
+sub-take : tie.Need-sub-take Inv-loop μ-loop
+sub-take c = search needs
+
+part-take-start : tie.Need-part-take-start Inv-loop μ-loop
+part-take-start c = search needs
+
+part-take-end : tie.Need-part-take-end Inv-loop μ-loop
+part-take-end c = search needs
+
+take-requires : tie.Need-take-requires Inv-loop μ-loop
+take-requires c κs = search needs
+
+add-i : tie.Need-add-i Inv-loop μ-loop
+add-i c = search needs
+
+loop-less : tie.Need-loop-less Inv-loop μ-loop
+loop-less c = search needs
+
+loop-again : tie.Need-loop-again Inv-loop μ-loop
+loop-again c = search needs
+
+same-length : tie.Need-same-length Inv-loop μ-loop
+same-length c = search needs
+
+returns : tie.Need-returns Inv-loop μ-loop
+returns c = tt
+
+pub take-block-spec : {M : Type 1} → statement M
+take-block-spec =
+    tie.close
+    (tie.spec
+    Inv-loop
+    μ-loop
+    loop-holds
+    mul-at
+    add-take
+    sub-take
+    part-take-start
+    part-take-end
+    take-requires
+    add-i
+    loop-less
+    loop-again
+    same-length
+    returns)

@@ -1,0 +1,91 @@
+-- `fill` is safe and ends. Assumes nothing.
+use Prim.Native.Nat.{_+_, _-_, _*_, _^_, _≤_, _<_}
+use mathlib.Core.Path.{_≡_}
+use native.Mathlib.Omega.{arith}
+use borrow.Author.Needs.{needs}
+use lib.ListN.{length}
+use Rattle.io.proofs.Counting.{counts}
+use mathlib.Core.Path.{refl}
+use Rattle.tools.proofs.mux.fill.Statement.{statement}
+use Rattle.tools.proofs.mux.fill.Tie as tie
+
+abbrev Inv-loop : tie.InvT-loop
+Inv-loop frame₀ fds slots streams state₀ packets₀ k₀ frame state packets k = length frame ≡ length frame₀
+
+abbrev μ-loop : tie.MeasureT-loop
+μ-loop frame₀ fds slots streams state₀ packets₀ k₀ frame state packets k = streams - k
+
+loop-holds : tie.Need-loop-holds Inv-loop μ-loop
+loop-holds c = refl
+
+mul-put-stream : tie.Need-mul-put-stream Inv-loop μ-loop
+mul-put-stream c = search needs
+
+shared-slice-copy-out-put-stream : tie.Need-shared-slice-copy-out-put-stream Inv-loop μ-loop
+shared-slice-copy-out-put-stream c = search needs
+
+add-put-stream : tie.Need-add-put-stream Inv-loop μ-loop
+add-put-stream c = search needs
+
+mul-put-stream-2 : tie.Need-mul-put-stream-2 Inv-loop μ-loop
+mul-put-stream-2 c = search needs
+
+shared-slice-read-put-stream : tie.Need-shared-slice-read-put-stream Inv-loop μ-loop
+shared-slice-read-put-stream c = search needs
+
+add-put-stream-2 : tie.Need-add-put-stream-2 Inv-loop μ-loop
+add-put-stream-2 c = search needs
+
+cast-put-stream : tie.Need-cast-put-stream Inv-loop μ-loop
+cast-put-stream c = search needs
+
+put-stream-requires : tie.Need-put-stream-requires Inv-loop μ-loop
+put-stream-requires c κs = search needs
+
+wrapping-add-usize-requires : tie.Need-wrapping-add-usize-requires Inv-loop μ-loop
+wrapping-add-usize-requires c κs = search needs
+
+same-length : tie.Need-same-length Inv-loop μ-loop
+same-length c = search needs
+
+returns : tie.Need-returns Inv-loop μ-loop
+returns c = tt
+
+add-k : tie.Need-add-k Inv-loop μ-loop
+add-k c = search needs
+
+loop-less : tie.Need-loop-less Inv-loop μ-loop
+loop-less c = search needs
+
+loop-again : tie.Need-loop-again Inv-loop μ-loop
+loop-again c = search needs
+
+same-length-2 : tie.Need-same-length-2 Inv-loop μ-loop
+same-length-2 c = search needs
+
+returns-2 : tie.Need-returns-2 Inv-loop μ-loop
+returns-2 c = tt
+
+pub fill-spec : {M : Type 1} → statement M
+fill-spec =
+    tie.close
+    (tie.spec
+    Inv-loop
+    μ-loop
+    loop-holds
+    mul-put-stream
+    shared-slice-copy-out-put-stream
+    add-put-stream
+    mul-put-stream-2
+    shared-slice-read-put-stream
+    add-put-stream-2
+    cast-put-stream
+    put-stream-requires
+    wrapping-add-usize-requires
+    same-length
+    returns
+    add-k
+    loop-less
+    loop-again
+    same-length-2
+    returns-2)

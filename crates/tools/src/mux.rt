@@ -1,0 +1,397 @@
+// mux: transport streams in, frames out.
+use crate::arguments;
+use crate::arguments::Number;
+use crate::input;
+use crate::plan;
+use crate::plan::SHARES;
+use crate::says;
+use crate::settings;
+use counters::RelativeNumber;
+use counters::Slot;
+use frame::composer::Composer;
+use libc::STDOUT_FILENO;
+use packet::FRAME_BYTES;
+use packet::PACKET_BYTES;
+use receiver::STORE_BYTES;
+use setting::Kind;
+use setting::SLOTS;
+use setting::STREAMS;
+use setting::Setting;
+ghost use mathlib.Core.Path.{_≡_};
+ghost use Prim.Native.Nat.{_≤_, _<_};
+ghost use lib.ListN.{length};
+ghost use Rattle.io.specs.Counts.{Counts};
+
+// For each stream: SLOTS, TS_ID, NETWORK_ID and FILE.
+const WORDS: usize = 4;
+
+fn usage() {
+    says::text(b"usage: mux PID SLOTS TS_ID NETWORK_ID FILE [SLOTS TS_ID NETWORK_ID FILE].. > FRAMES\n");
+}
+
+// What the arguments say: the setting, and how many slots each number has, 0 those of none. No good one has no slots.
+struct Given {
+    good: bool,
+    setting: Setting,
+    slots: [u32; SHARES],
+}
+
+// Says of a field of stream r that it is out of range.
+fn out_of_range(r: u8, field: &[u8], first: u32, last: u32) {
+    says::about(b"stream ", r as u64);
+    says::range(field, first, last, 17);
+}
+
+// The number of slots of stream r, 0 where it is none.
+fn slots_at(i: usize, r: u8) -> u32 {
+    let first = Slot::FIRST as u32;
+    let last = Slot::LAST as u32;
+    let Number::Is(n) = arguments::number_at(i, first, last) else {
+        out_of_range(r, b"SLOTS", first, last);
+        return 0;
+    };
+    n
+}
+
+fn with_slots(given: Given, r: u8, n: u32, ts_id: u32, network_id: u32) -> Given
+    requires { ⌜ (1 ≤ r) × (r ≤ 15) ⌝ }
+{
+    let at = r as usize;
+    let mut slots = given.slots;
+    slots[at] = n;
+    let before = given.setting;
+    let setting = settings::with_stream(
+        before,
+        r,
+        arguments::low(ts_id),
+        arguments::low(network_id),
+    );
+    Given {
+        good: given.good && n != 0,
+        setting,
+        slots,
+    }
+}
+
+fn not_good(given: Given) -> Given {
+    let setting = given.setting;
+    let slots = given.slots;
+    Given {
+        good: false,
+        setting,
+        slots,
+    }
+}
+
+// Adds stream r, whose words start at argument i.
+fn with_words(given: Given, i: usize, r: u8) -> Given
+    requires { ⌜ (1 ≤ r) × (r ≤ 15) ⌝ }
+    requires { ⌜ i ≤ 1000 ⌝ }
+{
+    let n = slots_at(i, r);
+    let Number::Is(ts_id) = arguments::number_at(i + 1, 0, 65535) else {
+        out_of_range(r, b"TS_ID", 0, 65535);
+        return not_good(given);
+    };
+    let Number::Is(network_id) = arguments::number_at(i + 2, 0, 65535) else {
+        out_of_range(r, b"NETWORK_ID", 0, 65535);
+        return not_good(given);
+    };
+    with_slots(given, r, n, ts_id, network_id)
+}
+
+fn read_streams(first: usize, streams: usize) -> Given
+    requires { ⌜ (first ≤ 3) × (streams ≤ 15) ⌝ }
+{
+    let mut given = Given {
+        good: true,
+        setting: Setting::blank(),
+        slots: [0u32; SHARES],
+    };
+    let mut k = 0;
+    while k < streams {
+        given = with_words(given, first + WORDS * k, (k + 1) as u8);
+        k += 1;
+    }
+    given
+}
+
+fn sum(slots: &[u32]) -> u32 {
+    let mut n = 0;
+    let mut r = 0;
+    while r < slots.len() {
+        n = std::num::wrapping_add_u32(n, slots[r]);
+        r += 1;
+    }
+    n
+}
+
+// The setting with its plan. Streams that ask for more slots than a frame has are refused.
+fn with_plan(given: Given) -> Given {
+    let mut slots = given.slots;
+    let asked = sum(&slots);
+    if (SLOTS as u32) < asked {
+        says::range(b"SLOTS of all streams together", 1, SLOTS as u32, 17);
+        return not_good(given);
+    }
+    slots[0] = SLOTS as u32 - asked;
+    let mut setting = given.setting;
+    setting.frame_type = 1;
+    let numbers = plan::numbers(&slots);
+    setting.relative_ts_number = numbers;
+    Given {
+        good: given.good,
+        setting,
+        slots,
+    }
+}
+
+// Opens the streams' files. Answers whether all could be.
+fn open_all(fds: &mut [i32], first: usize, streams: usize) -> bool
+    requires { ⌜ (first ≤ 3) × (streams ≤ length (now fds)) ⌝ }
+    requires { ⌜ length (now fds) ≡ 15 ⌝ }
+{
+    let mut k = 0;
+    while k < streams {
+        let fd = arguments::open(first + WORDS * k + 3);
+        if fd < 0 {
+            return false;
+        }
+        fds[k] = fd;
+        k += 1;
+    }
+    true
+}
+
+// What a frame's streams brought: refusal 0 and how many packets, or the refusal's number.
+struct Filled {
+    refusal: u8,
+    packets: usize,
+    state: Composer,
+}
+
+fn at_most(slots: u32) -> usize
+    ensures { λ r. ⌜ r ≤ 52 ⌝ }
+{
+    if slots < SLOTS as u32 {
+        return slots as usize;
+    }
+    SLOTS
+}
+
+// Reads as many packets as there are slots, or as are left. Answers the bytes of whole packets.
+fn read_packets(fd: i32, bytes: &mut [u8], slots: u32, r: u8) -> usize
+    requires { ⌜ length (now bytes) ≡ 9776 ⌝ }
+    ensures { λ t. ⌜ Counts t (now (bytes .exit)) ⌝ }
+{
+    let most = at_most(slots);
+    let got = input::read_block(fd, &mut bytes[0..PACKET_BYTES * most]);
+    let tail = got % PACKET_BYTES;
+    if tail != 0 {
+        says::about(b"stream ", r as u64);
+    }
+    input::say_part(tail);
+    got - tail
+}
+
+fn put_packets(run: Composer, frame: &mut [u8], packets: &[u8], r: u8) -> Filled {
+    let put = run.put(frame, packets, RelativeNumber(r));
+    let state = put.state;
+    if put.refusal != 0 {
+        says::about(b"stream ", r as u64);
+        says::refusal(b"input", put.refusal);
+    }
+    Filled {
+        refusal: put.refusal,
+        packets: put.placed,
+        state,
+    }
+}
+
+fn put_stream(run: Composer, frame: &mut [u8], fd: i32, slots: u32, r: u8) -> Filled {
+    let mut bytes = [0u8; STORE_BYTES];
+    let n = read_packets(fd, &mut bytes, slots, r);
+    put_packets(run, frame, &bytes[0..n], r)
+}
+
+// Puts one stream after another.
+fn fill(run: Composer, frame: &mut [u8], fds: &[i32], slots: &[u32], streams: usize) -> Filled
+    requires { ⌜ (length (now fds) ≡ 15) × (length (now slots) ≡ 16) ⌝ }
+    requires { ⌜ streams ≤ 15 ⌝ }
+{
+    let mut state = run;
+    let mut packets = 0;
+    let mut k = 0;
+    while k < streams {
+        let put = put_stream(state, frame, fds[k], slots[k + 1], (k + 1) as u8);
+        state = put.state;
+        packets = std::num::wrapping_add_usize(packets, put.packets);
+        if put.refusal != 0 {
+            return put;
+        }
+        k += 1;
+    }
+    Filled {
+        refusal: 0,
+        packets,
+        state,
+    }
+}
+
+// The run behind a frame, and whether it goes on.
+struct Made {
+    more: bool,
+    state: Composer,
+}
+
+fn write(bytes: &[u8]) -> bool {
+    if !io::write_all(STDOUT_FILENO, bytes) {
+        os::fail(b"standard output");
+        return false;
+    }
+    true
+}
+
+// Writes a frame, or of one that no stream brought anything for its header alone, which vouches for the frame before.
+fn write_frame(frame: &[u8], packets: usize) -> bool
+    requires { ⌜ length (now frame) ≡ 9964 ⌝ }
+{
+    if packets == 0 {
+        write(&frame[0..PACKET_BYTES]);
+        return false;
+    }
+    write(frame)
+}
+
+fn close_frame(filled: Filled, frame: &mut [u8]) -> Made
+    requires { ⌜ length (now frame) ≡ 9964 ⌝ }
+{
+    let run = filled.state;
+    let closed = run.close(frame);
+    let state = closed.state;
+    if closed.refusal != 0 {
+        says::refusal(b"close", closed.refusal);
+        return Made { more: false, state };
+    }
+    let more = write_frame(frame, filled.packets);
+    Made { more, state }
+}
+
+fn finish_frame(
+    run: Composer,
+    frame: &mut [u8],
+    fds: &[i32],
+    slots: &[u32],
+    streams: usize,
+) -> Made
+    requires { ⌜ (length (now fds) ≡ 15) × (length (now slots) ≡ 16) ⌝ }
+    requires { ⌜ (streams ≤ 15) × (length (now frame) ≡ 9964) ⌝ }
+{
+    let filled = fill(run, frame, fds, slots, streams);
+    if filled.refusal != 0 {
+        let state = filled.state;
+        return Made { more: false, state };
+    }
+    close_frame(filled, frame)
+}
+
+fn make_frame(
+    run: Composer,
+    frame: &mut [u8],
+    setting: Setting,
+    fds: &[i32],
+    slots: &[u32],
+    streams: usize,
+) -> Made
+    requires { ⌜ (length (now fds) ≡ 15) × (length (now slots) ≡ 16) ⌝ }
+    requires { ⌜ (streams ≤ 15) × (length (now frame) ≡ 9964) ⌝ }
+{
+    let begun = run.begin(frame, setting);
+    let state = begun.state;
+    if begun.refusal != 0 {
+        says::refusal(b"streams", begun.refusal);
+        return Made { more: false, state };
+    }
+    finish_frame(state, frame, fds, slots, streams)
+}
+
+// A line every so many frames of a long run, a gigabyte or so.
+const PROGRESS: u64 = 100000;
+
+fn say_progress(frames: u64) {
+    if frames % PROGRESS == 0 {
+        says::number(frames);
+        says::text(b" frames\n");
+    }
+}
+
+// Makes frames until the streams are used up. A loop that is proved has to end: the frames' numbers do.
+fn make_frames(
+    pid: u16,
+    setting: Setting,
+    fds: &[i32],
+    slots: &[u32],
+    streams: usize,
+    frame: &mut [u8],
+)
+    requires { ⌜ (length (now fds) ≡ 15) × (length (now slots) ≡ 16) ⌝ }
+    requires { ⌜ (streams ≤ 15) × (length (now frame) ≡ 9964) ⌝ }
+{
+    let mut run = Composer::start(pid, Kind::Plain).state;
+    let mut frames: u64 = 0;
+    while frames < u64::MAX {
+        let made = make_frame(run, frame, setting, fds, slots, streams);
+        if !made.more {
+            return;
+        }
+        run = made.state;
+        frames += 1;
+        say_progress(frames);
+    }
+}
+
+fn start(pid: u16, given: Given, first: usize, streams: usize)
+    requires { ⌜ (first ≤ 3) × (streams ≤ 15) ⌝ }
+{
+    let mut fds = [0i32; STREAMS];
+    if !open_all(&mut fds, first, streams) {
+        return;
+    }
+    let setting = given.setting;
+    let slots = given.slots;
+    let mut frame = [0u8; FRAME_BYTES];
+    make_frames(pid, setting, &fds, &slots, streams, &mut frame);
+}
+
+// The streams' words start at `first`.
+fn run_streams(pid: u16, first: usize, streams: usize)
+    requires { ⌜ (first ≤ 3) × (streams ≤ 15) ⌝ }
+{
+    let given = with_plan(read_streams(first, streams));
+    if given.good {
+        start(pid, given, first, streams);
+    }
+}
+
+pub(crate) fn run(first: usize)
+    requires { ⌜ first ≤ 2 ⌝ }
+{
+    let count = os::arg_count();
+    if count < first + 1 + WORDS {
+        usage();
+        return;
+    }
+    let words = count - first - 1;
+    if words % WORDS != 0 {
+        usage();
+        return;
+    }
+    if STREAMS < words / WORDS {
+        says::range(b"streams", 1, STREAMS as u32, 17);
+        return;
+    }
+    let pid = arguments::pid(first);
+    if pid != 0 {
+        run_streams(pid, first + 1, words / WORDS);
+    }
+}

@@ -1,0 +1,72 @@
+// The plan of a frame: each stream's slots spread evenly over it.
+use setting::SLOTS;
+use setting::STREAMS;
+ghost use mathlib.Core.Path.{_≡_};
+ghost use Prim.Native.Nat.{_<_};
+ghost use lib.ListN.{length};
+
+// The streams, and before them the slots of none.
+pub(crate) const SHARES: usize = STREAMS + 1;
+
+// Each gains as much as it has slots in a frame.
+fn gain(credits: &mut [u32], slots: &[u32])
+    requires { ⌜ length (now credits) ≡ length (now slots) ⌝ }
+{
+    let mut r = 0;
+    while r < credits.len() {
+        credits[r] = std::num::wrapping_add_u32(credits[r], slots[r]);
+        r += 1;
+    }
+}
+
+fn richer(credits: &[u32], best: usize, r: usize) -> usize
+    requires { ⌜ (best < length (now credits)) × (r < length (now credits)) ⌝ }
+    ensures { λ t. ⌜ t < length (now (credits .entry)) ⌝ }
+{
+    if credits[best] < credits[r] {
+        return r;
+    }
+    best
+}
+
+// The first of those with the most credit.
+fn richest(credits: &[u32]) -> usize
+    requires { ⌜ 0 < length (now credits) ⌝ }
+    ensures { λ r. ⌜ r < length (now (credits .entry)) ⌝ }
+{
+    let mut best = 0;
+    let mut r = 1;
+    while r < credits.len() {
+        best = richer(credits, best, r);
+        r += 1;
+    }
+    best
+}
+
+// The number of the next slot: the richest has it, and pays for it what a whole frame brings to all.
+fn next(credits: &mut [u32], slots: &[u32]) -> u8
+    requires { ⌜ (length (now credits) ≡ 16) × (length (now slots) ≡ 16) ⌝ }
+{
+    gain(credits, slots);
+    let best = richest(credits);
+    credits[best] = std::num::wrapping_sub_u32(credits[best], SLOTS as u32);
+    best as u8
+}
+
+// Before the first slot all have as much, and more than they can lose.
+const START: u32 = 1000;
+
+// The numbers of the slots where number r has so many of them, number 0 with those that are left.
+pub(crate) fn numbers(slots: &[u32]) -> [u8; SLOTS]
+    requires { ⌜ length (now slots) ≡ 16 ⌝ }
+    ensures { λ r. ⌜ length r ≡ 52 ⌝ }
+{
+    let mut plan = [0u8; SLOTS];
+    let mut credits = [START; SHARES];
+    let mut i = 0;
+    while i < SLOTS {
+        plan[i] = next(&mut credits, slots);
+        i += 1;
+    }
+    plan
+}

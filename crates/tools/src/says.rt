@@ -1,0 +1,57 @@
+// What the programs say on standard error, one line each time.
+use libc::STDERR_FILENO;
+
+pub(crate) fn text(words: &[u8]) {
+    io::write_all(STDERR_FILENO, words);
+}
+
+pub(crate) fn number(n: u64) {
+    io::print_decimal(STDERR_FILENO, n);
+}
+
+// Ends a line with the refusal's number.
+pub(crate) fn refused(refusal: u8) {
+    text(b" (refusal ");
+    number(refusal as u64);
+    text(b")\n");
+}
+
+// Names the stream or carrier that a line is about; none by 0.
+pub(crate) fn about(of: &[u8], item: u64) {
+    if item != 0 {
+        text(of);
+        number(item);
+        text(b": ");
+    }
+}
+
+// Of a field that is no number of its range.
+pub(crate) fn range(field: &[u8], first: u32, last: u32, refusal: u8) {
+    text(field);
+    text(b": expected a number from ");
+    number(first as u64);
+    text(b" to ");
+    number(last as u64);
+    refused(refusal);
+}
+
+// What the numbers of 01's table mean that the programs can meet.
+fn meaning(refusal: u8) {
+    match refusal {
+        1 => text(b"not cut on packet borders"),
+        10 => text(b"two streams have the same identifiers"),
+        12 => text(b"a packet lacks 0x47 at its start or bears the header PID"),
+        13 => text(b"no header carries a stream with these identifiers"),
+        14 => text(b"the headers are not those of the carriers in their order"),
+        15 => text(b"not as many packets as there are slots"),
+        _ => text(b"refused"),
+    }
+}
+
+// Of a call that was refused.
+pub(crate) fn refusal(what: &[u8], refusal: u8) {
+    text(what);
+    text(b": ");
+    meaning(refusal);
+    refused(refusal);
+}

@@ -1,0 +1,117 @@
+// What happened to the frames of an input, and the summary of it.
+use crate::says;
+use receiver_table::Event;
+
+// Counts, each of which would wrap at 2^64.
+pub(crate) struct Tally {
+    // Packets that came, and those of a chosen stream that went out.
+    pub(crate) came: u64,
+    pub(crate) went: u64,
+    pub(crate) headers: u64,
+    pub(crate) ready: u64,
+    // Frames dropped, by the reason.
+    pub(crate) short: u64,
+    pub(crate) jump: u64,
+    pub(crate) long: u64,
+    pub(crate) broken: u64,
+}
+
+pub(crate) fn none() -> Tally {
+    Tally {
+        came: 0,
+        went: 0,
+        headers: 0,
+        ready: 0,
+        short: 0,
+        jump: 0,
+        long: 0,
+        broken: 0,
+    }
+}
+
+// Whether the packet opened a frame: it is a good header.
+pub(crate) fn opens(event: Event) -> bool {
+    match event {
+        Event::Opened => true,
+        Event::Ready => true,
+        Event::Short => true,
+        Event::Jump => true,
+        _ => false,
+    }
+}
+
+fn more(n: u64) -> u64 {
+    std::num::wrapping_add_u64(n, 1)
+}
+
+// A line every so many frames of a long input, a gigabyte or so.
+const PROGRESS: u64 = 100000;
+
+fn say_progress(ready: u64) {
+    if ready % PROGRESS == 0 {
+        says::number(ready);
+        says::text(b" frames ready\n");
+    }
+}
+
+// One packet more, and what it did.
+pub(crate) fn with_event(t: Tally, event: Event) -> Tally {
+    let mut next = t;
+    next.came = more(t.came);
+    if opens(event) {
+        next.headers = more(t.headers);
+    }
+    match event {
+        Event::Ready => {
+            next.ready = more(t.ready);
+            say_progress(next.ready);
+        }
+        Event::Short => {
+            next.short = more(t.short);
+        }
+        Event::Jump => {
+            next.jump = more(t.jump);
+        }
+        Event::Long => {
+            next.long = more(t.long);
+        }
+        Event::Broken => {
+            next.broken = more(t.broken);
+        }
+        _ => {}
+    }
+    next
+}
+
+pub(crate) fn with_packets(t: Tally, packets: usize) -> Tally {
+    let mut next = t;
+    next.went = std::num::wrapping_add_u64(t.went, packets as u64);
+    next
+}
+
+fn say_count(words: &[u8], n: u64) {
+    says::text(words);
+    says::number(n);
+}
+
+// The frames, by what became of them.
+pub(crate) fn say_frames(t: Tally) {
+    say_count(b"frames ready ", t.ready);
+    say_count(b"; dropped: short ", t.short);
+    say_count(b", jump ", t.jump);
+    say_count(b", long ", t.long);
+    say_count(b", broken ", t.broken);
+}
+
+// The summary. An input without a header is said to have none.
+pub(crate) fn say(t: Tally, pid: u16) {
+    if t.headers == 0 {
+        say_count(b"no header with PID ", pid as u64);
+        say_count(b" in ", t.came);
+        says::text(b" packets: another PID, or not cut on packet borders\n");
+        return;
+    }
+    say_frames(t);
+    say_count(b"; packets out ", t.went);
+    says::text(b"\n");
+}
