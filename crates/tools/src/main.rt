@@ -1,13 +1,17 @@
 // The programs mux, demux, bond and unbond, which are one: the name by which it is started says which of them it is, or else its
 // first argument.
 mod arguments;
+mod bonding;
+mod carriers;
 mod demux;
 mod input;
 mod mux;
+mod nulls;
 mod plan;
 mod says;
 mod settings;
 mod tally;
+mod unbonding;
 
 ghost use Prim.Native.Nat.{_+_, _^_, _≤_, _<_};
 ghost use lib.ListN.{length};
@@ -15,6 +19,8 @@ ghost use lib.ListN.{length};
 enum Tool {
     Mux,
     Demux,
+    Bond,
+    Unbond,
     None,
 }
 
@@ -49,6 +55,12 @@ fn named(name: &[u8]) -> Tool {
     if arguments::same(name, b"demux") {
         return Tool::Demux;
     }
+    if arguments::same(name, b"bond") {
+        return Tool::Bond;
+    }
+    if arguments::same(name, b"unbond") {
+        return Tool::Unbond;
+    }
     Tool::None
 }
 
@@ -67,6 +79,8 @@ fn run(tool: Tool, first: usize) -> bool
     match tool {
         Tool::Mux => mux::run(first),
         Tool::Demux => demux::run(first),
+        Tool::Bond => bonding::run(first),
+        Tool::Unbond => unbonding::run(first),
         Tool::None => {
             return false;
         }

@@ -1,0 +1,461 @@
+// bond: one stream in, the super frames of its carriers out, a file for each.
+use crate::arguments;
+use crate::arguments::Number;
+use crate::carriers;
+use crate::carriers::CARRIERS;
+use crate::carriers::GROUP_BYTES;
+use crate::carriers::STREAM_BYTES;
+use crate::input;
+use crate::nulls;
+use crate::plan;
+use crate::plan::SHARES;
+use crate::says;
+use crate::settings;
+use counters::FramePosition;
+use counters::Slot;
+use group::Bond;
+use packet::FRAME_BYTES;
+use packet::PACKET_BYTES;
+use setting::Kind;
+use setting::SLOTS;
+use setting::Setting;
+use setting::limits;
+ghost use mathlib.Core.Path.{_≡_};
+ghost use Prim.Native.Nat.{_≤_, _<_};
+ghost use lib.ListN.{length};
+
+// PID, GROUP, TS_ID, NETWORK_ID and FILE; then for each carrier FRAMES, SLOTS and FILE.
+const HEAD: usize = 5;
+
+const WORDS: usize = 3;
+
+fn usage() {
+    says::text(b"usage: bond PID GROUP TS_ID NETWORK_ID FILE FRAMES SLOTS CARRIER_FILE [FRAMES SLOTS CARRIER_FILE]..\n");
+}
+
+// A bond and the id of its group.
+struct Bonded {
+    bond: Bond,
+    group_id: u8,
+}
+
+// Says of a carrier's field that it is out of range.
+fn out_of_range(c: usize, field: &[u8], first: u32, last: u32) {
+    says::about(b"carrier ", c as u64);
+    says::range(field, first, last, 17);
+}
+
+// A number of carrier c; 0, which is none, where it is out of range.
+fn small_at(i: usize, c: usize, field: &[u8], first: u32, last: u32) -> u8 {
+    let Number::Is(n) = arguments::number_at(i, first, last) else {
+        out_of_range(c, field, first, last);
+        return 0;
+    };
+    (n % 256) as u8
+}
+
+// Reads the carriers' numbers of frames and slots. Answers whether all are in range.
+fn read_carriers(frames: &mut [u8], slots: &mut [u8], first: usize, n: usize) -> bool
+    requires { ⌜ (length (now frames) ≡ 8) × (length (now slots) ≡ 8) ⌝ }
+    requires { ⌜ (first ≤ 7) × (n ≤ 8) ⌝ }
+{
+    let fewest = limits::FEWEST_FRAMES as u32;
+    let most = limits::MOST_FRAMES as u32;
+    let mut c = 0;
+    while c < n {
+        let at = first + WORDS * c;
+        let f = small_at(at, c + 1, b"FRAMES", fewest, most);
+        let s = small_at(at + 1, c + 1, b"SLOTS", Slot::FIRST as u32, Slot::LAST as u32);
+        if f == 0 {
+            return false;
+        }
+        if s == 0 {
+            return false;
+        }
+        frames[c] = f;
+        slots[c] = s;
+        c += 1;
+    }
+    true
+}
+
+// Opens the named file to write, emptied. One that cannot be is said, and -1 answered.
+fn create(i: usize) -> i32 {
+    let mut name = io::buffer();
+    let n = arguments::word(i, &mut name);
+    let fd = os::open_overwrite(&name[0..n]);
+    if fd < 0 {
+        os::fail(&name[0..n]);
+    }
+    fd
+}
+
+fn create_all(fds: &mut [i32], first: usize, n: usize) -> bool
+    requires { ⌜ (length (now fds) ≡ 8) × (n ≤ 8) ⌝ }
+    requires { ⌜ first ≤ 7 ⌝ }
+{
+    let mut c = 0;
+    while c < n {
+        let fd = create(first + WORDS * c + 2);
+        if fd < 0 {
+            return false;
+        }
+        fds[c] = fd;
+        c += 1;
+    }
+    true
+}
+
+// The packets of a carrier's super frame, which has 3 or 4 frames.
+fn product(frames: u8, slots: u8) -> usize {
+    if frames == limits::FEWEST_FRAMES {
+        return slots as usize * 3;
+    }
+    slots as usize * 4
+}
+
+// How many packets a super frame of the whole group takes.
+fn packets_of(frames: &[u8], slots: &[u8], n: usize) -> usize
+    requires { ⌜ (length (now frames) ≡ 8) × (length (now slots) ≡ 8) ⌝ }
+    requires { ⌜ n ≤ 8 ⌝ }
+    ensures { λ r. ⌜ r ≤ 1664 ⌝ }
+{
+    let mut sum = 0;
+    let mut c = 0;
+    while c < n {
+        sum = std::num::wrapping_add_usize(sum, product(frames[c], slots[c]));
+        c += 1;
+    }
+    carriers::at_most(sum, STREAM_BYTES / PACKET_BYTES)
+}
+
+// The plan of a carrier whose stream has so many slots of each frame.
+fn plan_of(slots: u8) -> [u8; SLOTS]
+    ensures { λ r. ⌜ length r ≡ 52 ⌝ }
+{
+    let mut shares = [0u32; SHARES];
+    let n = carriers::at_most(slots as usize, SLOTS);
+    shares[1] = n as u32;
+    shares[0] = (SLOTS - n) as u32;
+    plan::numbers(&shares)
+}
+
+// The counter of a frame, from 0, in the super frame with this number: the run's first header has 0.
+fn counter(number: u64, frames: u8, f: u8) -> u8
+    requires { ⌜ f < 4 ⌝ }
+{
+    let n = (number % 16) as u8;
+    if frames == limits::FEWEST_FRAMES {
+        return (n * 3 + f) % 16;
+    }
+    (n * 4 + f) % 16
+}
+
+// The setting of a carrier's frame, from 0, in the super frame with this number.
+fn setting_of(b: Bonded, c: u8, frames: u8, f: u8, number: u64) -> Setting
+    requires { ⌜ f < 4 ⌝ }
+{
+    let bond = b.bond;
+    let mut s = settings::with_stream(
+        Setting::blank(),
+        1,
+        bond.ts_id,
+        bond.original_network_id,
+    );
+    s.continuity_counter = counter(number, frames, f);
+    s.frame_type = limits::LAST_FRAME_TYPE;
+    s.group_id = b.group_id;
+    s.number_of_carriers = bond.carriers;
+    s.carrier_sequence = c;
+    s.number_of_frames = frames;
+    let position = FramePosition(f + 1);
+    s.frame_position = position;
+    s
+}
+
+// Writes a header into the lent packet. Answers whether it was written.
+fn write_header(
+    packet: &mut [u8],
+    b: Bonded,
+    c: u8,
+    frames: u8,
+    f: u8,
+    number: u64,
+    slots: u8,
+) -> bool
+    requires { ⌜ f < 4 ⌝ }
+{
+    let mut s = setting_of(b, c, frames, f, number);
+    let numbers = plan_of(slots);
+    s.relative_ts_number = numbers;
+    let bond = b.bond;
+    let refusal = header::write(packet, bond.pid, Kind::Extended, s);
+    if refusal != 0 {
+        says::refusal(b"header", refusal);
+        return false;
+    }
+    true
+}
+
+// Writes the headers of a carrier's super frame, which starts here.
+fn write_super(
+    group: &mut [u8],
+    at: usize,
+    b: Bonded,
+    c: u8,
+    frames: u8,
+    number: u64,
+    slots: u8,
+) -> bool
+    requires { ⌜ (length (now group) ≡ 318848) × (at ≤ 318848) ⌝ }
+{
+    let mut f = 0;
+    while f < limits::MOST_FRAMES {
+        if frames <= f {
+            return true;
+        }
+        let from = carriers::at_most(at + FRAME_BYTES * f as usize, GROUP_BYTES - PACKET_BYTES);
+        if !write_header(&mut group[from..from + PACKET_BYTES], b, c, frames, f, number, slots) {
+            return false;
+        }
+        f += 1;
+    }
+    true
+}
+
+// Writes the headers of all carriers.
+fn write_headers(group: &mut [u8], b: Bonded, frames: &[u8], slots: &[u8], number: u64, n: usize) -> bool
+    requires { ⌜ (length (now frames) ≡ 8) × (length (now slots) ≡ 8) ⌝ }
+    requires { ⌜ (length (now group) ≡ 318848) × (n ≤ 8) ⌝ }
+{
+    let mut c = 0;
+    while c < n {
+        let at = carriers::bytes_before(frames, c);
+        if !write_super(group, at, b, (c + 1) as u8, frames[c], number, slots[c]) {
+            return false;
+        }
+        c += 1;
+    }
+    true
+}
+
+fn write(fd: i32, c: usize, bytes: &[u8]) -> bool {
+    if !io::write_all(fd, bytes) {
+        says::about(b"carrier ", c as u64);
+        os::fail(b"output");
+        return false;
+    }
+    true
+}
+
+// Writes each carrier's super frame to its file.
+fn write_parts(fds: &[i32], group: &[u8], frames: &[u8], n: usize) -> bool
+    requires { ⌜ (length (now frames) ≡ 8) × (length (now fds) ≡ 8) ⌝ }
+    requires { ⌜ (length (now group) ≡ 318848) × (n ≤ 8) ⌝ }
+{
+    let mut c = 0;
+    while c < n {
+        let at = carriers::bytes_before(frames, c);
+        let bytes = carriers::bytes_of(frames[c], GROUP_BYTES - at);
+        if !write(fds[c], c + 1, &group[at..at + bytes]) {
+            return false;
+        }
+        c += 1;
+    }
+    true
+}
+
+// Writes to each carrier the header that vouches for its last frame.
+fn write_last(fds: &[i32], group: &[u8], frames: &[u8], n: usize)
+    requires { ⌜ (length (now frames) ≡ 8) × (length (now fds) ≡ 8) ⌝ }
+    requires { ⌜ (length (now group) ≡ 318848) × (n ≤ 8) ⌝ }
+{
+    let mut c = 0;
+    while c < n {
+        let at = carriers::bytes_before(frames, c);
+        let bytes = carriers::at_most(PACKET_BYTES, GROUP_BYTES - at);
+        write(fds[c], c + 1, &group[at..at + bytes]);
+        c += 1;
+    }
+}
+
+// Spreads a stream's packets over the group.
+fn spread(group: &mut [u8], stream: &[u8], bond: Bond) -> bool {
+    let moved = bond::spread(group, stream, bond);
+    if moved.refusal != 0 {
+        says::refusal(b"input", moved.refusal);
+        return false;
+    }
+    true
+}
+
+// Reads what a super frame takes, with null packets behind it where less is left. Answers whether there was a packet.
+fn read_stream(fd: i32, stream: &mut [u8]) -> bool {
+    let got = input::read_block(fd, stream);
+    input::say_part(got);
+    let whole = got - got % PACKET_BYTES;
+    nulls::write_nulls(&mut stream[whole..]);
+    whole != 0
+}
+
+// A super frame of the group, its headers in place. Answers whether more may follow.
+fn make_super(
+    fd: i32,
+    fds: &[i32],
+    group: &mut [u8],
+    stream: &mut [u8],
+    bond: Bond,
+    frames: &[u8],
+    n: usize,
+) -> bool
+    requires { ⌜ (length (now frames) ≡ 8) × (length (now fds) ≡ 8) ⌝ }
+    requires { ⌜ (length (now group) ≡ 318848) × (n ≤ 8) ⌝ }
+{
+    if !read_stream(fd, stream) {
+        write_last(fds, group, frames, n);
+        return false;
+    }
+    let end = carriers::bytes_before(frames, n);
+    if !spread(&mut group[0..end], stream, bond) {
+        return false;
+    }
+    write_parts(fds, group, frames, n)
+}
+
+// A line every so many super frames of a long input.
+const PROGRESS: u64 = 10000;
+
+fn say_progress(number: u64) {
+    if number % PROGRESS == 0 {
+        says::number(number);
+        says::text(b" super frames\n");
+    }
+}
+
+// Makes super frames until the stream is used up. A loop that is proved has to end: the super frames' numbers do.
+fn make_all(
+    fd: i32,
+    fds: &[i32],
+    group: &mut [u8],
+    stream: &mut [u8],
+    b: Bonded,
+    frames: &[u8],
+    slots: &[u8],
+    n: usize,
+)
+    requires { ⌜ (length (now frames) ≡ 8) × (length (now slots) ≡ 8) ⌝ }
+    requires { ⌜ (length (now group) ≡ 318848) × (n ≤ 8) ⌝ }
+    requires { ⌜ length (now fds) ≡ 8 ⌝ }
+{
+    let mut number: u64 = 0;
+    while number < u64::MAX {
+        if !write_headers(group, b, frames, slots, number, n) {
+            return;
+        }
+        let bond = b.bond;
+        if !make_super(fd, fds, group, stream, bond, frames, n) {
+            return;
+        }
+        number += 1;
+        say_progress(number);
+    }
+}
+
+fn bond_files(fd: i32, fds: &[i32], b: Bonded, frames: &[u8], slots: &[u8], n: usize)
+    requires { ⌜ (length (now frames) ≡ 8) × (length (now slots) ≡ 8) ⌝ }
+    requires { ⌜ (length (now fds) ≡ 8) × (n ≤ 8) ⌝ }
+{
+    let mut group = [0u8; GROUP_BYTES];
+    nulls::write_nulls(&mut group);
+    let mut stream = [0u8; STREAM_BYTES];
+    let packets = packets_of(frames, slots, n);
+    make_all(
+        fd,
+        fds,
+        &mut group,
+        &mut stream[0..PACKET_BYTES * packets],
+        b,
+        frames,
+        slots,
+        n,
+    );
+}
+
+fn run_carriers(b: Bonded, input: usize, n: usize)
+    requires { ⌜ (input ≤ 6) × (n ≤ 8) ⌝ }
+{
+    let mut frames = [0u8; CARRIERS];
+    let mut slots = [0u8; CARRIERS];
+    if !read_carriers(&mut frames, &mut slots, input + 1, n) {
+        return;
+    }
+    let fd = arguments::open(input);
+    if fd < 0 {
+        return;
+    }
+    let mut fds = [0i32; CARRIERS];
+    if create_all(&mut fds, input + 1, n) {
+        bond_files(fd, &fds, b, &frames, &slots, n);
+    }
+}
+
+// A word's number in 16 bits, or none, which is said.
+pub(crate) fn identifier(i: usize, field: &[u8]) -> Number {
+    let Number::Is(n) = arguments::number_at(i, 0, 65535) else {
+        says::range(field, 0, 65535, 17);
+        return Number::None;
+    };
+    Number::Is(n)
+}
+
+fn run_group(pid: u16, group_id: u8, first: usize, n: usize)
+    requires { ⌜ (first ≤ 2) × (n ≤ 8) ⌝ }
+{
+    let Number::Is(ts_id) = identifier(first + 2, b"TS_ID") else {
+        return;
+    };
+    let Number::Is(network_id) = identifier(first + 3, b"NETWORK_ID") else {
+        return;
+    };
+    let bond = Bond {
+        carriers: n as u8,
+        pid,
+        ts_id: arguments::low(ts_id),
+        original_network_id: arguments::low(network_id),
+    };
+    run_carriers(Bonded { bond, group_id }, first + 4, n);
+}
+
+fn run_counted(first: usize, n: usize)
+    requires { ⌜ (first ≤ 2) × (n ≤ 8) ⌝ }
+{
+    let pid = arguments::pid(first);
+    if pid == 0 {
+        return;
+    }
+    let Number::Is(group_id) = arguments::number_at(first + 1, 0, 255) else {
+        says::range(b"GROUP", 0, 255, 17);
+        return;
+    };
+    run_group(pid, (group_id % 256) as u8, first, n);
+}
+
+pub(crate) fn run(first: usize)
+    requires { ⌜ first ≤ 2 ⌝ }
+{
+    let count = os::arg_count();
+    if count < first + HEAD + WORDS {
+        usage();
+        return;
+    }
+    let words = count - first - HEAD;
+    if words % WORDS != 0 {
+        usage();
+        return;
+    }
+    if CARRIERS < words / WORDS {
+        says::range(b"carriers", 1, CARRIERS as u32, 17);
+        return;
+    }
+    run_counted(first, words / WORDS);
+}

@@ -1,0 +1,61 @@
+// A group of carriers: its sizes, and where each one's super frame stands.
+use packet::FRAME_BYTES;
+use packet::PACKET_BYTES;
+use setting::SLOTS;
+use setting::limits;
+ghost use mathlib.Core.Path.{_≡_};
+ghost use Prim.Native.Nat.{_≤_, _<_};
+ghost use lib.ListN.{length};
+
+pub(crate) const CARRIERS: usize = limits::LAST_CARRIER as usize;
+
+// The most frames of a group, its bytes, and those of a stream in all its slots.
+const FRAMES: usize = CARRIERS * limits::MOST_FRAMES as usize;
+
+pub(crate) const GROUP_BYTES: usize = FRAME_BYTES * FRAMES;
+
+pub(crate) const STREAM_BYTES: usize = PACKET_BYTES * SLOTS * FRAMES;
+
+pub(crate) const SUPER_BYTES: usize = FRAME_BYTES * limits::MOST_FRAMES as usize;
+
+// A number, or the limit where it is larger.
+pub(crate) fn at_most(n: usize, limit: usize) -> usize
+    ensures { λ r. ⌜ r ≤ limit ⌝ }
+{
+    if limit < n {
+        return limit;
+    }
+    n
+}
+
+fn wide(n: u8) -> usize {
+    n as usize
+}
+
+// How many frames the first n carriers have together.
+fn frames_before(frames: &[u8], n: usize) -> usize
+    requires { ⌜ n ≤ length (now frames) ⌝ }
+{
+    let mut sum = 0;
+    let mut c = 0;
+    while c < n {
+        sum = std::num::wrapping_add_usize(sum, wide(frames[c]));
+        c += 1;
+    }
+    sum
+}
+
+// The bytes of the first n carriers: the next one's super frame starts behind them.
+pub(crate) fn bytes_before(frames: &[u8], n: usize) -> usize
+    requires { ⌜ (n ≤ 8) × (length (now frames) ≡ 8) ⌝ }
+    ensures { λ r. ⌜ r ≤ 318848 ⌝ }
+{
+    FRAME_BYTES * at_most(frames_before(frames, n), FRAMES)
+}
+
+// The bytes of a super frame of so many frames, where so many of the group are left.
+pub(crate) fn bytes_of(frames: u8, left: usize) -> usize
+    ensures { λ r. ⌜ r ≤ left ⌝ }
+{
+    at_most(FRAME_BYTES * frames as usize, left)
+}

@@ -1,0 +1,4 @@
+// unbond: later
+pub(crate) fn run(first: usize) {
+    crate::says::text(b"later\n");
+}
