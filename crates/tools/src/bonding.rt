@@ -30,7 +30,9 @@ const HEAD: usize = 5;
 const WORDS: usize = 3;
 
 fn usage() {
-    says::text(b"usage: bond PID GROUP TS_ID NETWORK_ID FILE FRAMES SLOTS CARRIER_FILE [FRAMES SLOTS CARRIER_FILE]..\n");
+    says::text(
+        b"usage: bond PID GROUP TS_ID NETWORK_ID FILE FRAMES SLOTS CARRIER_FILE [FRAMES SLOTS CARRIER_FILE]..\n",
+    );
 }
 
 // A bond and the id of its group.
@@ -65,7 +67,13 @@ fn read_carriers(frames: &mut [u8], slots: &mut [u8], first: usize, n: usize) ->
     while c < n {
         let at = first + WORDS * c;
         let f = small_at(at, c + 1, b"FRAMES", fewest, most);
-        let s = small_at(at + 1, c + 1, b"SLOTS", Slot::FIRST as u32, Slot::LAST as u32);
+        let s = small_at(
+            at + 1,
+            c + 1,
+            b"SLOTS",
+            Slot::FIRST as u32,
+            Slot::LAST as u32,
+        );
         if f == 0 {
             return false;
         }
@@ -156,12 +164,7 @@ fn setting_of(b: Bonded, c: u8, frames: u8, f: u8, number: u64) -> Setting
     requires { ⌜ f < 4 ⌝ }
 {
     let bond = b.bond;
-    let mut s = settings::with_stream(
-        Setting::blank(),
-        1,
-        bond.ts_id,
-        bond.original_network_id,
-    );
+    let mut s = settings::with_stream(Setting::blank(), 1, bond.ts_id, bond.original_network_id);
     s.continuity_counter = counter(number, frames, f);
     s.frame_type = limits::LAST_FRAME_TYPE;
     s.group_id = b.group_id;
@@ -215,7 +218,15 @@ fn write_super(
             return true;
         }
         let from = carriers::at_most(at + FRAME_BYTES * f as usize, GROUP_BYTES - PACKET_BYTES);
-        if !write_header(&mut group[from..from + PACKET_BYTES], b, c, frames, f, number, slots) {
+        if !write_header(
+            &mut group[from..from + PACKET_BYTES],
+            b,
+            c,
+            frames,
+            f,
+            number,
+            slots,
+        ) {
             return false;
         }
         f += 1;
@@ -224,7 +235,14 @@ fn write_super(
 }
 
 // Writes the headers of all carriers.
-fn write_headers(group: &mut [u8], b: Bonded, frames: &[u8], slots: &[u8], number: u64, n: usize) -> bool
+fn write_headers(
+    group: &mut [u8],
+    b: Bonded,
+    frames: &[u8],
+    slots: &[u8],
+    number: u64,
+    n: usize,
+) -> bool
     requires { ⌜ (length (now frames) ≡ 8) × (length (now slots) ≡ 8) ⌝ }
     requires { ⌜ (length (now group) ≡ 318848) × (n ≤ 8) ⌝ }
 {

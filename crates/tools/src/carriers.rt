@@ -20,7 +20,7 @@ pub(crate) const SUPER_BYTES: usize = FRAME_BYTES * limits::MOST_FRAMES as usize
 
 // A number, or the limit where it is larger.
 pub(crate) fn at_most(n: usize, limit: usize) -> usize
-    ensures { λ r. ⌜ r ≤ limit ⌝ }
+    ensures { λ r. ⌜ (r ≤ limit) × (r ≤ n) ⌝ }
 {
     if limit < n {
         return limit;

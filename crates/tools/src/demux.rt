@@ -26,7 +26,9 @@ const BLOCK_PACKETS: usize = 340;
 const BLOCK_BYTES: usize = PACKET_BYTES * BLOCK_PACKETS;
 
 fn usage() {
-    says::text(b"usage: demux PID STREAM [FILE] > STREAM; STREAM is a number from 1 to 15, or TS_ID:NETWORK_ID\n");
+    says::text(
+        b"usage: demux PID STREAM [FILE] > STREAM; STREAM is a number from 1 to 15, or TS_ID:NETWORK_ID\n",
+    );
 }
 
 // Which stream: by its number, or, where that is 0, by its identifiers.

@@ -2,6 +2,7 @@
 // first argument.
 mod arguments;
 mod bonding;
+mod carrier;
 mod carriers;
 mod demux;
 mod input;

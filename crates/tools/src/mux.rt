@@ -26,7 +26,9 @@ ghost use Rattle.io.specs.Counts.{Counts};
 const WORDS: usize = 4;
 
 fn usage() {
-    says::text(b"usage: mux PID SLOTS TS_ID NETWORK_ID FILE [SLOTS TS_ID NETWORK_ID FILE].. > FRAMES\n");
+    says::text(
+        b"usage: mux PID SLOTS TS_ID NETWORK_ID FILE [SLOTS TS_ID NETWORK_ID FILE].. > FRAMES\n",
+    );
 }
 
 // What the arguments say: the setting, and how many slots each number has, 0 those of none. No good one has no slots.
@@ -277,13 +279,7 @@ fn close_frame(filled: Filled, frame: &mut [u8]) -> Made
     Made { more, state }
 }
 
-fn finish_frame(
-    run: Composer,
-    frame: &mut [u8],
-    fds: &[i32],
-    slots: &[u32],
-    streams: usize,
-) -> Made
+fn finish_frame(run: Composer, frame: &mut [u8], fds: &[i32], slots: &[u32], streams: usize) -> Made
     requires { ⌜ (length (now fds) ≡ 15) × (length (now slots) ≡ 16) ⌝ }
     requires { ⌜ (streams ≤ 15) × (length (now frame) ≡ 9964) ⌝ }
 {

@@ -95,12 +95,18 @@ fn say_count(words: &[u8], n: u64) {
 }
 
 // The frames, by what became of them.
-pub(crate) fn say_frames(t: Tally) {
+fn say_frames(t: Tally) {
     say_count(b"frames ready ", t.ready);
     say_count(b"; dropped: short ", t.short);
     say_count(b", jump ", t.jump);
     say_count(b", long ", t.long);
     say_count(b", broken ", t.broken);
+}
+
+// The frames of one input among several, in a line.
+pub(crate) fn say_input(t: Tally) {
+    say_frames(t);
+    says::text(b"\n");
 }
 
 // The summary. An input without a header is said to have none.

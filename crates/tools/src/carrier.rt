@@ -1,0 +1,306 @@
+// One carrier of a group, read packet by packet. A run's first header has counter 0, and never more than fifteen headers in a row are
+// lost: so a header's counter tells its frame's place in the run, and with that the super frame that it belongs to.
+use crate::input;
+use crate::tally;
+use crate::tally::Tally;
+use packet::FRAME_BYTES;
+use packet::PACKET_BYTES;
+use receiver_table::Event;
+use setting::Kind;
+use setting::limits;
+ghost use mathlib.Core.Path.{_≡_};
+ghost use Prim.Native.Nat.{_≤_, _<_};
+ghost use lib.ListN.{length};
+
+// The packets that are read at once.
+const BLOCK_PACKETS: usize = 53;
+
+pub(crate) const BLOCK_BYTES: usize = PACKET_BYTES * BLOCK_PACKETS;
+
+pub(crate) struct Carrier {
+    pub(crate) fd: i32,
+    // The input has ended.
+    pub(crate) ended: bool,
+    // How many frames its super frames have, by the last good header; 0 before the first.
+    pub(crate) frames: u8,
+    // The place in the run, from 0, of the frame that the last good header opened.
+    pub(crate) place: u64,
+    // The frames of the super frame asked for that came whole, a bit for each.
+    pub(crate) have: u8,
+    // The packets of the block, and how many of them were taken.
+    pub(crate) packets: usize,
+    pub(crate) taken: usize,
+    pub(crate) tally: Tally,
+}
+
+pub(crate) fn start(fd: i32) -> Carrier {
+    Carrier {
+        fd,
+        ended: false,
+        frames: 0,
+        place: 0,
+        have: 0,
+        packets: 0,
+        taken: 0,
+        tally: tally::none(),
+    }
+}
+
+// The super frame of a frame's place.
+fn super_of(place: u64, frames: u8) -> u64 {
+    if frames == limits::FEWEST_FRAMES {
+        return place / 3;
+    }
+    place / 4
+}
+
+// A frame's place in its super frame, from 0.
+fn position_of(place: u64, frames: u8) -> u8
+    ensures { λ r. ⌜ r < 4 ⌝ }
+{
+    if frames == limits::FEWEST_FRAMES {
+        return (place % 3) as u8;
+    }
+    (place % 4) as u8
+}
+
+// How many frames the super frame asked for has, 0 where not all of them came whole.
+pub(crate) fn frames_whole(c: Carrier) -> u8 {
+    if c.frames == limits::FEWEST_FRAMES {
+        if c.have == 7 {
+            return c.frames;
+        }
+        return 0;
+    }
+    if c.have == 15 {
+        return c.frames;
+    }
+    0
+}
+
+// Whether the open frame belongs to a later super frame.
+fn is_past(c: Carrier, want: u64) -> bool {
+    if c.frames == 0 {
+        return false;
+    }
+    want < super_of(c.place, c.frames)
+}
+
+// The place of a header with this counter behind that of a place.
+fn place_behind(place: u64, counter: u8) -> u64 {
+    let step = std::num::wrapping_sub_u8(counter, (place % 16) as u8) % 16;
+    if step == 0 {
+        return std::num::wrapping_add_u64(place, 16);
+    }
+    std::num::wrapping_add_u64(place, step as u64)
+}
+
+// What a good header tells.
+fn with_header(c: Carrier, packet: &[u8], pid: u16) -> Carrier {
+    let said = header::read(packet, pid, Kind::Extended).setting;
+    let mut next = c;
+    if c.frames == 0 {
+        next.place = said.continuity_counter as u64;
+    } else {
+        next.place = place_behind(c.place, said.continuity_counter);
+    }
+    next.frames = said.number_of_frames;
+    next
+}
+
+// Puts a frame that became ready, its header and its packets, to its position in the super frame.
+fn put_frame(part: &mut [u8], position: u8, held: &[u8], store: &[u8])
+    requires { ⌜ (length (now part) ≡ 39856) × (length (now held) ≡ 188) ⌝ }
+    requires { ⌜ (length (now store) ≡ 9776) × (position < 4) ⌝ }
+{
+    let at = FRAME_BYTES * position as usize;
+    slices::copy(&mut part[at..at + PACKET_BYTES], held);
+    slices::copy(&mut part[at + PACKET_BYTES..at + FRAME_BYTES], store);
+}
+
+// Keeps a frame that became ready, if it is of the super frame asked for.
+fn keep(c: Carrier, want: u64, part: &mut [u8], held: &[u8], store: &[u8]) -> Carrier
+    requires { ⌜ (length (now part) ≡ 39856) × (length (now held) ≡ 188) ⌝ }
+    requires { ⌜ length (now store) ≡ 9776 ⌝ }
+{
+    if super_of(c.place, c.frames) != want {
+        return c;
+    }
+    let position = position_of(c.place, c.frames);
+    put_frame(part, position, held, store);
+    let mut next = c;
+    next.have = c.have | (1u8 << (position as u32));
+    next
+}
+
+fn keep_ready(
+    c: Carrier,
+    event: Event,
+    want: u64,
+    part: &mut [u8],
+    held: &[u8],
+    store: &[u8],
+) -> Carrier
+    requires { ⌜ (length (now part) ≡ 39856) × (length (now held) ≡ 188) ⌝ }
+    requires { ⌜ length (now store) ≡ 9776 ⌝ }
+{
+    if let Event::Ready = event {
+        return keep(c, want, part, held, store);
+    }
+    c
+}
+
+// An event by its number.
+fn event_of(n: u8) -> Event {
+    match n {
+        1 => Event::Opened,
+        2 => Event::Stored,
+        3 => Event::Ready,
+        4 => Event::Short,
+        5 => Event::Jump,
+        6 => Event::Long,
+        7 => Event::Broken,
+        _ => Event::Nothing,
+    }
+}
+
+fn receive(state: &mut [u8], packet: &[u8], store: &mut [u8]) -> Event {
+    let mut event = 0u8;
+    board_receiver::niranbok_receiver_receive(state, packet, store, &mut event);
+    event_of(event)
+}
+
+// The header of the frame that is open now.
+fn hold(c: Carrier, event: Event, packet: &[u8], held: &mut [u8], pid: u16) -> Carrier {
+    if tally::opens(event) {
+        slices::copy(held, packet);
+        return with_header(c, packet, pid);
+    }
+    c
+}
+
+fn counted(c: Carrier, event: Event) -> Carrier {
+    let before = c.tally;
+    let mut next = c;
+    let after = tally::with_event(before, event);
+    next.tally = after;
+    next.taken = std::num::wrapping_add_usize(c.taken, 1);
+    next
+}
+
+// Takes one packet.
+fn take(
+    c: Carrier,
+    packet: &[u8],
+    want: u64,
+    pid: u16,
+    state: &mut [u8],
+    store: &mut [u8],
+    held: &mut [u8],
+    part: &mut [u8],
+) -> Carrier
+    requires { ⌜ (length (now part) ≡ 39856) × (length (now held) ≡ 188) ⌝ }
+    requires { ⌜ length (now store) ≡ 9776 ⌝ }
+{
+    let event = receive(state, packet, store);
+    let one = keep_ready(counted(c, event), event, want, part, held, store);
+    hold(one, event, packet, held, pid)
+}
+
+// Reads the next block.
+fn refill(c: Carrier, block: &mut [u8]) -> Carrier {
+    let got = input::read_block(c.fd, block);
+    input::say_part(got);
+    let mut next = c;
+    next.packets = got / PACKET_BYTES;
+    next.taken = 0;
+    next.ended = next.packets == 0;
+    next
+}
+
+// Where the next packet of a block stands, if it has one.
+fn next_at(c: Carrier) -> usize
+    ensures { λ r. ⌜ r ≤ 9776 ⌝ }
+{
+    let taken = c.taken;
+    if taken < BLOCK_PACKETS {
+        return PACKET_BYTES * taken;
+    }
+    0
+}
+
+fn take_next(
+    c: Carrier,
+    want: u64,
+    pid: u16,
+    state: &mut [u8],
+    store: &mut [u8],
+    held: &mut [u8],
+    block: &[u8],
+    part: &mut [u8],
+) -> Carrier
+    requires { ⌜ (length (now part) ≡ 39856) × (length (now held) ≡ 188) ⌝ }
+    requires { ⌜ (length (now store) ≡ 9776) × (length (now block) ≡ 9964) ⌝ }
+{
+    let at = next_at(c);
+    take(
+        c,
+        &block[at..at + PACKET_BYTES],
+        want,
+        pid,
+        state,
+        store,
+        held,
+        part,
+    )
+}
+
+// Takes the next packet of the block, or reads another block where it has none.
+fn step(
+    c: Carrier,
+    want: u64,
+    pid: u16,
+    state: &mut [u8],
+    store: &mut [u8],
+    held: &mut [u8],
+    block: &mut [u8],
+    part: &mut [u8],
+) -> Carrier
+    requires { ⌜ (length (now part) ≡ 39856) × (length (now held) ≡ 188) ⌝ }
+    requires { ⌜ (length (now store) ≡ 9776) × (length (now block) ≡ 9964) ⌝ }
+{
+    if c.taken < c.packets {
+        return take_next(c, want, pid, state, store, held, block, part);
+    }
+    refill(c, block)
+}
+
+// Reads on until the super frame with this number is whole, or a later one has begun, or the input has ended.
+pub(crate) fn read_on(
+    c: Carrier,
+    want: u64,
+    pid: u16,
+    state: &mut [u8],
+    store: &mut [u8],
+    held: &mut [u8],
+    block: &mut [u8],
+    part: &mut [u8],
+) -> Carrier
+    requires { ⌜ (length (now part) ≡ 39856) × (length (now held) ≡ 188) ⌝ }
+    requires { ⌜ (length (now store) ≡ 9776) × (length (now block) ≡ 9964) ⌝ }
+{
+    let mut next = c;
+    next.have = 0;
+    let mut steps: u64 = 0;
+    while steps < u64::MAX {
+        if is_past(next, want) {
+            return next;
+        }
+        next = step(next, want, pid, state, store, held, block, part);
+        if next.ended {
+            return next;
+        }
+        steps += 1;
+    }
+    next
+}
