@@ -1,0 +1,106 @@
+-- `write_start` meets its contract: its nine stores are the header's first bytes. Assumes nothing.
+use mathlib.Core.Path.{ap, _∙_}
+use native.Mathlib.Omega.{arith}
+use lib.ListN.{length-set}
+use Rattle.bits.specs.Fields.{run}
+use Rattle.slices.proofs.Front.{stored}
+use Rattle.layout.proofs.Start.{startBytes, start-bits}
+use borrow.Author.Needs.{needs}
+use Rattle.header_writer.proofs.writer.write_start.Statement.{statement}
+use Rattle.header_writer.proofs.writer.write_start.Tie as tie
+
+slice-write-part : tie.Need-slice-write-part
+slice-write-part c = search needs
+
+cast-part : tie.Need-cast-part
+cast-part c = search needs
+
+slice-write-part-2 : tie.Need-slice-write-part-2
+slice-write-part-2 c = search needs
+
+cast-part-2 : tie.Need-cast-part-2
+cast-part-2 c = search needs
+
+slice-write-part-3 : tie.Need-slice-write-part-3
+slice-write-part-3 c = search needs
+
+add-part : tie.Need-add-part
+add-part c = search needs
+
+slice-write-part-4 : tie.Need-slice-write-part-4
+slice-write-part-4 c = simp length-set (omega arith)
+
+slice-write-part-5 : tie.Need-slice-write-part-5
+slice-write-part-5 c = simp length-set (omega arith)
+
+slice-write-part-6 : tie.Need-slice-write-part-6
+slice-write-part-6 c = simp length-set (omega arith)
+
+mul-part : tie.Need-mul-part
+mul-part c = search needs
+
+mul-part-2 : tie.Need-mul-part-2
+mul-part-2 c = search needs
+
+add-part-2 : tie.Need-add-part-2
+add-part-2 c = search needs
+
+add-part-3 : tie.Need-add-part-3
+add-part-3 c = search needs
+
+slice-write-part-7 : tie.Need-slice-write-part-7
+slice-write-part-7 c = simp length-set (omega arith)
+
+cast-part-3 : tie.Need-cast-part-3
+cast-part-3 c = search needs
+
+slice-write-part-8 : tie.Need-slice-write-part-8
+slice-write-part-8 c = simp length-set (omega arith)
+
+mul-part-3 : tie.Need-mul-part-3
+mul-part-3 c = search needs
+
+add-part-4 : tie.Need-add-part-4
+add-part-4 c = search needs
+
+cast-part-4 : tie.Need-cast-part-4
+cast-part-4 c = search needs
+
+slice-write-part-9 : tie.Need-slice-write-part-9
+slice-write-part-9 c = simp length-set (omega arith)
+
+same-length : tie.Need-same-length
+same-length c = simp length-set
+
+returns : tie.Need-returns
+returns c =
+    let start = c .before .before .before .before .before .before in
+    let args = start .args in
+    ap (run 8) (stored (startBytes (args .pid) (args .s)) (args .part .now) (start .pre .0 .0)) ∙ start-bits (args .pid) (args .s) (start .pre .0 .1) (start .pre .1)
+
+pub write-start-spec : {M : Type 1} → statement M
+write-start-spec =
+    tie.close
+    (tie.spec
+    slice-write-part
+    cast-part
+    slice-write-part-2
+    cast-part-2
+    slice-write-part-3
+    add-part
+    slice-write-part-4
+    slice-write-part-5
+    slice-write-part-6
+    mul-part
+    mul-part-2
+    add-part-2
+    add-part-3
+    slice-write-part-7
+    cast-part-3
+    slice-write-part-8
+    mul-part-3
+    add-part-4
+    cast-part-4
+    slice-write-part-9
+    same-length
+    returns)
