@@ -2,9 +2,9 @@
 mod states;
 
 use coding::SETTING_BYTES;
+use counters::RelativeNumber;
 use frame::composer;
 use frame::composer::Composer;
-use counters::RelativeNumber;
 ghost use mathlib.Core.Path.{_≡_};
 ghost use lib.ListN.{length};
 ghost use Rattle.packet.specs.Packets.{placeRefusal, restOf};

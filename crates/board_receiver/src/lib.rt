@@ -1,8 +1,8 @@
 // The receiver for callers in other languages: its state is lent bytes, and each call is the receiver's own under their coding.
 mod states;
 
-use receiver::Receiver;
 use counters::RelativeNumber;
+use receiver::Receiver;
 ghost use mathlib.Core.Path.{_≡_};
 ghost use Rattle.board_receiver.specs.Calls.{startRefused, startState, receiveRefused, receiveEvent, receiveState, receiveMemory, handOutRefused, handOutPackets, handOutMemory};
 

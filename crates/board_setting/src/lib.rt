@@ -1,12 +1,12 @@
 // Settings and their numbers for callers in other languages: each call is the rules' own under the coding of settings and kinds.
 use coding::SETTING_BYTES;
-use setting::Setting;
 use counters::FramePosition;
 use counters::FramePositionAnswer;
 use counters::RelativeNumber;
 use counters::RelativeNumberAnswer;
 use counters::Slot;
 use counters::SlotAnswer;
+use setting::Setting;
 ghost use mathlib.Core.Path.{_≡_};
 ghost use Rattle.counters.specs.Counters.{firstSlot, lastSlot, firstStream, lastStream, firstPosition, lastPosition, checked, available, countAvailable};
 ghost use Rattle.rules.specs.Rules.{pidAllowed};

@@ -1,6 +1,6 @@
 // What each call asks of what it is lent, in the table's order, but for the headers.
-use packet::PACKET_BYTES;
 use group::headers::Plan;
+use packet::PACKET_BYTES;
 ghost use mathlib.Core.Path.{_≡_};
 ghost use mathlib.Core.Bool.{not};
 ghost use mathlib.Core.List.{[], _∷_};

@@ -3,8 +3,8 @@ mod checks;
 mod moving;
 mod walk;
 
-use packet::PACKET_BYTES;
 use group::Bond;
+use packet::PACKET_BYTES;
 ghost use mathlib.Core.Path.{_≡_};
 ghost use lib.ListN.{length};
 ghost use Rattle.bond.specs.Bonding.{spreadOf, spreadGroup, gatherOf, gatherBuffer};

@@ -1,7 +1,7 @@
 // How the calls are asked, and the buffers that they are lent.
 use draws::sums::sum;
-use packet::PACKET_BYTES;
 use group::Bond;
+use packet::PACKET_BYTES;
 ghost use mathlib.Core.Path.{_≡_};
 ghost use Prim.Native.Nat.{_≤_};
 ghost use lib.ListN.{length};

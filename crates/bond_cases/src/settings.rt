@@ -1,6 +1,8 @@
 // Steps 1 to 3 of making a frame: its setting.
 use crate::calls::ORIGINAL_NETWORK_ID;
 use crate::calls::TS_ID;
+use counters::FramePosition;
+use counters::RelativeNumber;
 use draws::below;
 use draws::byte_below;
 use draws::draw_bytes;
@@ -8,8 +10,6 @@ use draws::settings;
 use setting::AUXILIARY_BYTES;
 use setting::SLOTS;
 use setting::Setting;
-use counters::FramePosition;
-use counters::RelativeNumber;
 ghost use Prim.Native.Nat.{_≤_};
 
 // Where a frame stands: its number in the group, from 0, and the rest as a header has it.

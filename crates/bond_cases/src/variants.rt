@@ -4,9 +4,9 @@ use crate::calls::BEHIND;
 use crate::calls::ORIGINAL_NETWORK_ID;
 use crate::calls::PID;
 use crate::calls::at_most;
+use group::Bond;
 use packet::FRAME_BYTES;
 use packet::PACKET_BYTES;
-use group::Bond;
 ghost use Prim.Native.Nat.{_≤_, _+_};
 
 // The carriers of the group that is spoilt.

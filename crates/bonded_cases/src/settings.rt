@@ -1,11 +1,11 @@
 // Step 2 of composing: a frame's setting.
 use crate::ORIGINAL_NETWORK_ID;
 use crate::TS_ID;
+use counters::FramePosition;
 use draws::byte_below;
 use setting::SLOTS;
 use setting::STREAMS;
 use setting::Setting;
-use counters::FramePosition;
 ghost use Prim.Native.Nat.{_≤_};
 ghost use lib.ListN.{length};
 

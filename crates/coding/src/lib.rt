@@ -1,13 +1,13 @@
 // Settings as bytes, in a fixed layout: what a caller in another language keeps and hands over. The fields stand in the setting's own
 // order, numbers of 16 bits with the high byte first.
 use announced::Announced;
+use counters::FramePosition;
 use setting::AUXILIARY_BYTES;
 use setting::Kind;
 use setting::PRIVATE_BYTES;
 use setting::SLOTS;
 use setting::STREAMS;
 use setting::Setting;
-use counters::FramePosition;
 ghost use mathlib.Core.Path.{_≡_};
 ghost use mathlib.Core.Bool.{cond};
 ghost use mathlib.Core.List.{[], _∷_};

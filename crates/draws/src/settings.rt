@@ -2,11 +2,11 @@
 use crate::byte_below;
 use crate::draw_bytes;
 use crate::draw_words;
+use counters::RelativeNumber;
 use setting::PRIVATE_BYTES;
 use setting::SLOTS;
 use setting::STREAMS;
 use setting::Setting;
-use counters::RelativeNumber;
 ghost use mathlib.Core.Path.{_≡_};
 ghost use mathlib.Core.Bool.{cond};
 ghost use lib.ListN.{length};

@@ -1,10 +1,10 @@
 // What each call of the composer asks of its state and of what it is lent, in the table's order.
 use crate::composer::Composer;
+use crate::slots;
+use counters::RelativeNumber;
 use packet::FRAME_BYTES;
 use packet::PACKET_BYTES;
-use crate::slots;
 use setting::Setting;
-use counters::RelativeNumber;
 use setting::limits;
 ghost use mathlib.Core.Path.{_≡_};
 ghost use lib.ListN.{length};

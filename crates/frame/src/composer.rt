@@ -1,12 +1,12 @@
 // A run of frames: begun, filled and closed one after another, over a state that goes in and comes out by value.
-use announced::Announced;
 use crate::checks;
 use crate::slots;
+use announced::Announced;
+use counters::RelativeNumber;
 use packet::PACKET_BYTES;
 use setting::Kind;
 use setting::SLOTS;
 use setting::Setting;
-use counters::RelativeNumber;
 ghost use mathlib.Core.Path.{_≡_};
 ghost use Prim.Native.Nat.{_<_};
 ghost use lib.ListN.{length};

@@ -1,5 +1,6 @@
 // A frame composed: begun, filled with drawn packets stream by stream, and closed.
 use crate::lines;
+use counters::RelativeNumber;
 use draws::below;
 use draws::byte_below;
 use draws::settings;
@@ -8,7 +9,6 @@ use frame::composer;
 use frame::composer::Composer;
 use packet::PACKET_BYTES;
 use setting::Setting;
-use counters::RelativeNumber;
 
 // One more than the largest number of packets that are put for a stream, and the bytes of so many.
 const PACKETS: u16 = 8;

@@ -1,10 +1,10 @@
 // Packets received one after another, and ready frames handed out.
 use crate::lines;
+use counters::RelativeNumber;
 use packet::PACKET_BYTES;
 use receiver::Receiver;
 use receiver::STORE_BYTES;
 use receiver_table::Event;
-use counters::RelativeNumber;
 
 // The receiver, and how many packets it received, a count that would wrap at 2^64.
 pub(crate) struct Link {

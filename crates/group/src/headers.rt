@@ -1,13 +1,13 @@
 // The headers of a group, gone through once: whether they stand where they should, and what they say of the stream.
 use crate::Bond;
+use counters::FramePosition;
+use counters::RelativeNumber;
 use packet::FRAME_BYTES;
 use packet::PACKET_BYTES;
 use setting::Kind;
 use setting::SLOTS;
 use setting::STREAMS;
 use setting::Setting;
-use counters::FramePosition;
-use counters::RelativeNumber;
 ghost use mathlib.Core.Path.{_≡_};
 ghost use mathlib.Core.Bool.{true};
 ghost use Prim.Native.Nat.{_≤_, _<_, _*_, _%_};

@@ -1,8 +1,8 @@
 // The fields that a caller can set, each with its range.
-use libc::STDOUT_FILENO;
 use counters::FramePosition;
 use counters::RelativeNumber;
 use counters::Slot;
+use libc::STDOUT_FILENO;
 use setting::limits;
 
 fn print(name: &[u8], first: u64, last: u64, refusal: u64) {

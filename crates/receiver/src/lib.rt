@@ -3,13 +3,13 @@
 mod checks;
 mod numbered;
 
-use packet::PACKET_BYTES;
-use setting::Kind;
-use setting::SLOTS;
 use counters::RelativeNumber;
+use packet::PACKET_BYTES;
 use receiver_table::Event;
 use receiver_table::Row;
 use receiver_table::Stage;
+use setting::Kind;
+use setting::SLOTS;
 ghost use mathlib.Core.Path.{_≡_};
 ghost use lib.ListN.{length};
 ghost use Rattle.packet.specs.Packets.{packetLength};

@@ -1,8 +1,8 @@
 // What a setting has to obey, each rule with its refusal's number, in the table's order.
-use setting::Kind;
-use setting::Setting;
 use counters::FramePosition;
 use counters::RelativeNumber;
+use setting::Kind;
+use setting::Setting;
 use setting::limits;
 ghost use mathlib.Core.Path.{_≡_};
 ghost use Prim.Native.Nat.{_<_};
