@@ -75,11 +75,11 @@ apart-none ts os part = record { ts-ids = refl; network-ids = refl }
 -- a turn of the loop that reads
 pub apart-next : (ts os part : List ℕ) (k at : ℕ) → Fit 8 part → at ≡ 4 * k → at + 4 ≤ length part → k < length ts → k < length os
     → Apart ts os part k
-    → Apart (set ts k (getD part at 0 * 256 + getD part (at + 1) 0)) (set os k (getD part (at + 2) 0 * 256 + getD part (at + 3) 0)) part (k + 1)
+    → Apart (set ts k (getD part at 0 * 256 + getD part (at + 1) 0)) (set os k (getD part (at + 2) 0 * 256 + getD part (at + 2 + 1) 0)) part (k + 1)
 apart-next ts os part k at f e room h g s =
     let bits = run 8 part in
     let a = getD part at 0 * 256 + getD part (at + 1) 0 in
-    let b = getD part (at + 2) 0 * 256 + getD part (at + 3) 0 in
+    let b = getD part (at + 2) 0 * 256 + getD part (at + 2 + 1) 0 in
     let n : 2 * (k + 1) ≡ suc (suc (2 * k)) = omega arith in
     let here : 2 * k * 16 ≡ at * 8 = omega arith in
     let there : suc (2 * k) * 16 ≡ (at + 2) * 8 = omega arith in

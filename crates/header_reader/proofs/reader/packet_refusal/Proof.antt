@@ -33,7 +33,7 @@ abbrev known₁ : tie.Else1 → tie.After-shared-slice-known
 known₁ c = c .before .before
 
 abbrev known₂ : tie.Else2 → tie.After-shared-slice-known
-known₂ c = known₁ (c .before .before .before .before)
+known₂ c = known₁ (c .before .before)
 
 abbrev known₃ : tie.Else3 → tie.After-shared-slice-known
 known₃ c = known₂ (c .before .before)
@@ -42,7 +42,7 @@ abbrev known₄ : tie.Else4 → tie.After-shared-slice-known
 known₄ c = known₃ (c .before .before)
 
 abbrev known₅ : tie.Else5 → tie.After-shared-slice-known
-known₅ c = known₄ (c .before .before .before .before)
+known₅ c = known₄ (c .before .before)
 
 past₁ : (c : tie.Else1) → Past 1 (checks (known₁ c))
 unfolding packetChecks
@@ -52,8 +52,8 @@ past₂ : (c : tie.Else2) → Past 2 (checks (known₂ c))
 unfolding packetChecks
 past₂ c =
     let k = known₂ c in
-    past₁ (c .before .before .before .before)
-    ∙ passed 4 _ (agrees (k .before .args .pid) (header-pid (packet k) (bytes k) (k .before .pre) ∙ ap (λ (n : ℕ). n % 8192) (sym (c .before .word .ensures))) (c .if2 .left))
+    past₁ (c .before .before)
+    ∙ passed 4 _ (agrees (k .before .args .pid) (header-pid (packet k) (bytes k) (k .before .pre) ∙ ap (λ (n : ℕ). n % 8192) (sym (c .before .word-at .ensures))) (c .if2 .left))
 
 past₃ : (c : tie.Else4) → Past 3 (checks (known₄ c))
 unfolding packetChecks
@@ -66,8 +66,8 @@ past₄ : (c : tie.Else5) → Past 4 (checks (known₅ c))
 unfolding packetChecks
 past₄ c =
     let k = known₅ c in
-    past₃ (c .before .before .before .before)
-    ∙ passed 6 _ (agrees tsmfSync (tsmf-sync (packet k) (bytes k) (k .before .pre) ∙ ap (λ (n : ℕ). n % 8192) (sym (c .before .word2 .ensures))) (c .if5 .left))
+    past₃ (c .before .before)
+    ∙ passed 6 _ (agrees tsmfSync (tsmf-sync (packet k) (bytes k) (k .before .pre) ∙ ap (λ (n : ℕ). n % 8192) (sym (c .before .word-at2 .ensures))) (c .if5 .left))
 
 -- the register over all bytes from byte 4 on
 remainder : (c : tie.After-register) → registerOf (drop 4 (packet (known₅ (c .before .before)))) ≡ c .register .result
@@ -85,22 +85,16 @@ returns c =
     let k = c .before .before in
     sym (answers 3 _ (differs syncByte (sync-byte (packet k) (bytes k) (k .before .pre)) (c .if1 .taken)))
 
-shared-slice-read-word : tie.Need-shared-slice-read-word
-shared-slice-read-word c = search needs
-
-shared-slice-read-word-2 : tie.Need-shared-slice-read-word-2
-shared-slice-read-word-2 c = search needs
-
-word-requires : tie.Need-word-requires
-word-requires c κs = search needs
+word-at-requires : tie.Need-word-at-requires
+word-at-requires c κs = search needs
 
 returns-2 : tie.Need-returns-2
 unfolding packetChecks
 returns-2 c =
-    let k = known₁ (c .before .before .before .before) in
+    let k = known₁ (c .before .before) in
     sym
-    (past₁ (c .before .before .before .before)
-    ∙ answers 4 _ (differs (k .before .args .pid) (header-pid (packet k) (bytes k) (k .before .pre) ∙ ap (λ (n : ℕ). n % 8192) (sym (c .before .word .ensures))) (c .if2 .taken)))
+    (past₁ (c .before .before)
+    ∙ answers 4 _ (differs (k .before .args .pid) (header-pid (packet k) (bytes k) (k .before .pre) ∙ ap (λ (n : ℕ). n % 8192) (sym (c .before .word-at .ensures))) (c .if2 .taken)))
 
 shared-slice-read-if3 : tie.Need-shared-slice-read-if3
 shared-slice-read-if3 c = search needs
@@ -120,20 +114,14 @@ returns-4 c =
     let k = known₃ (c .before .before) in
     sym (past₂ (c .before .before .before .before) ∙ answers 5 _ (second-differs 1 (eqb (startValue (packet k) 1) 0) (one (packet k) (bytes k) (k .before .pre)) (c .if4 .taken)))
 
-shared-slice-read-word-3 : tie.Need-shared-slice-read-word-3
-shared-slice-read-word-3 c = search needs
-
-shared-slice-read-word-4 : tie.Need-shared-slice-read-word-4
-shared-slice-read-word-4 c = search needs
-
-word-requires-2 : tie.Need-word-requires-2
-word-requires-2 c κs = search needs
+word-at-requires-2 : tie.Need-word-at-requires-2
+word-at-requires-2 c κs = search needs
 
 returns-5 : tie.Need-returns-5
 unfolding packetChecks
 returns-5 c =
-    let k = known₄ (c .before .before .before .before) in
-    sym (past₃ (c .before .before .before .before) ∙ answers 6 _ (differs tsmfSync (tsmf-sync (packet k) (bytes k) (k .before .pre) ∙ ap (λ (n : ℕ). n % 8192) (sym (c .before .word2 .ensures))) (c .if5 .taken)))
+    let k = known₄ (c .before .before) in
+    sym (past₃ (c .before .before) ∙ answers 6 _ (differs tsmfSync (tsmf-sync (packet k) (bytes k) (k .before .pre) ∙ ap (λ (n : ℕ). n % 8192) (sym (c .before .word-at2 .ensures))) (c .if5 .taken)))
 
 sub-register : tie.Need-sub-register
 sub-register c = search needs
@@ -161,17 +149,13 @@ packet-refusal-spec =
     (tie.spec
     shared-slice-read-if1
     returns
-    shared-slice-read-word
-    shared-slice-read-word-2
-    word-requires
+    word-at-requires
     returns-2
     shared-slice-read-if3
     returns-3
     shared-slice-read-if4
     returns-4
-    shared-slice-read-word-3
-    shared-slice-read-word-4
-    word-requires-2
+    word-at-requires-2
     returns-5
     sub-register
     part-register-start

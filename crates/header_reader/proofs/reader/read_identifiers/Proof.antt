@@ -24,17 +24,8 @@ loop-holds c =
     let args = c .before .before .before .args in
     (omega arith, omega arith, refl, refl, apart-none (args .ts .now) (args .os .now) (args .part .now))
 
-shared-slice-read-word : tie.Need-shared-slice-read-word Inv-loop μ-loop
-shared-slice-read-word c = search needs
-
-add-word : tie.Need-add-word Inv-loop μ-loop
-add-word c = search needs
-
-shared-slice-read-word-2 : tie.Need-shared-slice-read-word-2 Inv-loop μ-loop
-shared-slice-read-word-2 c = search needs
-
-word-requires : tie.Need-word-requires Inv-loop μ-loop
-word-requires c κs = search needs
+word-at-requires : tie.Need-word-at-requires Inv-loop μ-loop
+word-at-requires c κs = search needs
 
 mul-ts : tie.Need-mul-ts Inv-loop μ-loop
 mul-ts c = search needs
@@ -42,20 +33,11 @@ mul-ts c = search needs
 slice-write-ts : tie.Need-slice-write-ts Inv-loop μ-loop
 slice-write-ts c = search needs
 
-add-word-2 : tie.Need-add-word-2 Inv-loop μ-loop
-add-word-2 c = search needs
+add-word-at : tie.Need-add-word-at Inv-loop μ-loop
+add-word-at c = search needs
 
-shared-slice-read-word-3 : tie.Need-shared-slice-read-word-3 Inv-loop μ-loop
-shared-slice-read-word-3 c = search needs
-
-add-word-3 : tie.Need-add-word-3 Inv-loop μ-loop
-add-word-3 c = search needs
-
-shared-slice-read-word-4 : tie.Need-shared-slice-read-word-4 Inv-loop μ-loop
-shared-slice-read-word-4 c = search needs
-
-word-requires-2 : tie.Need-word-requires-2 Inv-loop μ-loop
-word-requires-2 c κs = search needs
+word-at-requires-2 : tie.Need-word-at-requires-2 Inv-loop μ-loop
+word-at-requires-2 c κs = search needs
 
 mul-os : tie.Need-mul-os Inv-loop μ-loop
 mul-os c = search needs
@@ -74,17 +56,17 @@ loop-less c = search needs
 
 loop-again : tie.Need-loop-again Inv-loop μ-loop
 loop-again c =
-    let at = c .before .before .before .before .before .before .before .loop in
-    let start = c .before .before .before .before .before .before .before .before .before .before .before in
+    let at = c .before .before .before .loop in
+    let start = c .before .before .before .before .before .before .before in
     let args = start .args in
     let next =
-    apart-next (at .ts) (at .os) (args .part .now) (at .k) (at .at) (fit-of 8 (args .part .now) (λ i. c .before .before .before .before .before .before .before .before .shared-slice-known .given i .fits))
+    apart-next (at .ts) (at .os) (args .part .now) (at .k) (at .at) (fit-of 8 (args .part .now) (λ i. c .before .before .before .before .shared-slice-known .given i .fits))
     (at .inv .1) (omega (arith, start .pre)) (omega arith) (omega (arith, start .pre)) (at .inv .4) in (
       omega arith,
       omega arith,
       simp length-set (at .inv .2),
       simp length-set (at .inv .3),
-      rw (c .before .before .before .word .ensures, c .word2 .ensures) next,
+      rw (c .before .word-at .ensures, c .word-at2 .ensures) next,
     )
 
 same-length : tie.Need-same-length Inv-loop μ-loop
@@ -111,17 +93,11 @@ read-identifiers-spec =
     Inv-loop
     μ-loop
     loop-holds
-    shared-slice-read-word
-    add-word
-    shared-slice-read-word-2
-    word-requires
+    word-at-requires
     mul-ts
     slice-write-ts
-    add-word-2
-    shared-slice-read-word-3
-    add-word-3
-    shared-slice-read-word-4
-    word-requires-2
+    add-word-at
+    word-at-requires-2
     mul-os
     slice-write-os
     add-at

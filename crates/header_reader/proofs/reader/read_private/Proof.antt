@@ -46,21 +46,6 @@ part-copy-end-2 c = search needs
 copy-requires-2 : tie.Need-copy-requires-2
 copy-requires-2 c κs = search needs
 
-add-copy : tie.Need-add-copy
-add-copy c = search needs
-
-sub-copy-3 : tie.Need-sub-copy-3
-sub-copy-3 c = search needs
-
-part-copy-start-3 : tie.Need-part-copy-start-3
-part-copy-start-3 c = search needs
-
-part-copy-end-3 : tie.Need-part-copy-end-3
-part-copy-end-3 c = search needs
-
-copy-requires-3 : tie.Need-copy-requires-3
-copy-requires-3 c κs = search needs
-
 same-length : tie.Need-same-length
 same-length c = search needs
 
@@ -68,37 +53,28 @@ returns : tie.Need-returns
 returns c =
     let copy = c .before .before in
     let told = copy .before .before .before in
-    let start = told .before .before .before .before .before .before in
+    let start = told .before .before .before .before .before in
     let p = start .args .packet .now in
     let k = told .enum-told .given .1 in (
       copy .copy .ensures ∙ copied-all (start .args .«data» .now) (take 85 (drop 99 p)) (start .pre .1 .0 ∙ sym (length-part p 99 85 (omega (arith, start .pre .0))))
           ∙ by-kind (take 85 (drop 99 p)) (start .args .«data» .now) k,
-      (by-kind (start .args .auxiliary .now) (take 28 (drop 99 p)) k, by-kind (start .args .bonding .now) (take 4 (drop 127 p)) k),
+      by-kind (start .args .auxiliary .now) (take 28 (drop 99 p)) k,
     )
 
 same-length-2 : tie.Need-same-length-2
 same-length-2 c = search needs
 
-same-length-3 : tie.Need-same-length-3
-same-length-3 c = search needs
-
 returns-2 : tie.Need-returns-2
 returns-2 c =
-    let bonding = c .before .before in
-    let auxiliary = bonding .before .before .before .before .before in
-    let told = auxiliary .before .before .before in
-    let start = told .before .before .before .before .before .before in
+    let copy = c .before .before in
+    let told = copy .before .before .before in
+    let start = told .before .before .before .before .before in
     let p = start .args .packet .now in
     let k = told .enum-told2 .given .1 in (
       by-kind (take 85 (drop 99 p)) (start .args .«data» .now) k,
-      (
-        auxiliary .copy2 .ensures
-            ∙ copied-all (start .args .auxiliary .now) (take 28 (drop 99 p)) (start .pre .1 .1 ∙ sym (length-part p 99 28 (omega (arith, start .pre .0))))
-            ∙ by-kind (start .args .auxiliary .now) (take 28 (drop 99 p)) k,
-        bonding .copy3 .ensures
-            ∙ copied-all (start .args .bonding .now) (take 4 (drop 127 p)) (start .pre .1 .2 ∙ sym (length-part p 127 4 (omega (arith, start .pre .0))))
-            ∙ by-kind (start .args .bonding .now) (take 4 (drop 127 p)) k,
-      ),
+      copy .copy2 .ensures
+          ∙ copied-all (start .args .auxiliary .now) (take 28 (drop 99 p)) (start .pre .1 .1 ∙ sym (length-part p 99 28 (omega (arith, start .pre .0))))
+          ∙ by-kind (start .args .auxiliary .now) (take 28 (drop 99 p)) k,
     )
 
 pub read-private-spec : {M : Type 1} → statement M
@@ -115,13 +91,7 @@ read-private-spec =
     part-copy-start-2
     part-copy-end-2
     copy-requires-2
-    add-copy
-    sub-copy-3
-    part-copy-start-3
-    part-copy-end-3
-    copy-requires-3
     same-length
     returns
     same-length-2
-    same-length-3
     returns-2)

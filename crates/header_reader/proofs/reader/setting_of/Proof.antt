@@ -1,7 +1,7 @@
 -- `setting_of` meets its contract. Assumes nothing.
 use mathlib.Core.Path.{_∙_}
 use Rattle.bits.proofs.Laws.{fit-of}
-use Rattle.layout.proofs.Said.{said, same-lists}
+use Rattle.layout.proofs.Said.{privates-are, auxiliaries-are, numbers-are, said}
 use borrow.Author.Needs.{needs}
 use Rattle.header_reader.proofs.reader.setting_of.Statement.{statement}
 use Rattle.header_reader.proofs.reader.setting_of.Tie as tie
@@ -39,85 +39,45 @@ slice-aggregate-read-private c = search needs
 slice-aggregate-read-private-2 : tie.Need-slice-aggregate-read-private-2
 slice-aggregate-read-private-2 c = search needs
 
-slice-aggregate-read-private-3 : tie.Need-slice-aggregate-read-private-3
-slice-aggregate-read-private-3 c = search needs
-
 read-private-requires : tie.Need-read-private-requires
 read-private-requires c κs = search needs
 
-shared-slice-read-t30 : tie.Need-shared-slice-read-t30
-shared-slice-read-t30 c = search needs
+fields-of-requires : tie.Need-fields-of-requires
+fields-of-requires c κs = search needs
 
-shared-slice-read-t33 : tie.Need-shared-slice-read-t33
-shared-slice-read-t33 c = search needs
-
-shared-slice-read-t36 : tie.Need-shared-slice-read-t36
-shared-slice-read-t36 c = search needs
-
-shared-slice-read-t40 : tie.Need-shared-slice-read-t40
-shared-slice-read-t40 c = search needs
-
-shared-slice-read-word : tie.Need-shared-slice-read-word
-shared-slice-read-word c = search needs
-
-shared-slice-read-word-2 : tie.Need-shared-slice-read-word-2
-shared-slice-read-word-2 c = search needs
-
-word-requires : tie.Need-word-requires
-word-requires c κs = search needs
-
-add-t20 : tie.Need-add-t20
-add-t20 c = search needs
-
-shared-slice-read-t52 : tie.Need-shared-slice-read-t52
-shared-slice-read-t52 c = search needs
-
-array-read-t60 : tie.Need-array-read-t60
-array-read-t60 c = search needs
-
-array-read-t63 : tie.Need-array-read-t63
-array-read-t63 c = search needs
-
-array-read-t66 : tie.Need-array-read-t66
-array-read-t66 c = search needs
-
-array-read-t69 : tie.Need-array-read-t69
-array-read-t69 c = search needs
-
-array-read-t73 : tie.Need-array-read-t73
-array-read-t73 c = search needs
+bonding-of-requires : tie.Need-bonding-of-requires
+bonding-of-requires c κs = search needs
 
 returns : tie.Need-returns
 returns c =
-    let word = c .before in
-    let private = word .before .before .before .before .before .before .before .before .before .before in
-    let run = private .before .before .before .before .before in
-    let streams = run .before .before .before .before .before .before in
+    let fields = c .before in
+    let private = fields .before .before .before in
+    let halves = private .before .before .before .before in
+    let streams = halves .before .before .before .before .before .before in
     let known = streams .before .before .before .before in
     let start = known .before in
     let p = start .args .packet .now in
     let kind = start .args .kind in
-    let same = same-lists kind p in
-    said p (fit-of 8 p (λ i. known .shared-slice-known .given i .fits)) (start .pre) kind
+    let bytes = fit-of 8 p (λ i. known .shared-slice-known .given i .fits) in
+    said kind p _
     (record {
-      word = word .word .result;
-      ts-id = streams .read-streams .last .0;
-      network-id = streams .read-streams .last .1 .0;
-      statuses = streams .read-streams .last .1 .1 .0;
-      numbers = run .read-halves .last .0;
-      privates = private .read-private .last .0;
-      auxiliaries = private .read-private .last .1 .0;
-      bonding = private .read-private .last .1 .1 .0;
-    })
-    (record {
-      word = word .word .ensures;
-      ts-id = streams .read-streams .ensures .0 ∙ same .0;
-      network-id = streams .read-streams .ensures .1 .0 ∙ same .1;
-      statuses = streams .read-streams .ensures .1 .1 ∙ same .2;
-      numbers = run .read-halves .ensures;
-      privates = private .read-private .ensures .0;
-      auxiliaries = private .read-private .ensures .1 .0;
-      bonding = private .read-private .ensures .1 .1;
+      counter = fields .fields-of .ensures .0;
+      version = fields .fields-of .ensures .1;
+      slot-type = fields .fields-of .ensures .2;
+      frame-type = fields .fields-of .ensures .3;
+      streams = fields .fields-of .ensures .4;
+      emergency = fields .fields-of .ensures .5;
+      ts-id = streams .read-streams .ensures .0;
+      network-id = streams .read-streams .ensures .1 .0;
+      statuses = streams .read-streams .ensures .1 .1;
+      numbers = halves .read-halves .ensures ∙ numbers-are p bytes (start .pre);
+      privates = private .read-private .ensures .0 ∙ privates-are p bytes (start .pre) kind;
+      auxiliaries = private .read-private .ensures .1 ∙ auxiliaries-are p bytes (start .pre) kind;
+      group = c .bonding-of .ensures .0;
+      carriers = c .bonding-of .ensures .1;
+      sequence = c .bonding-of .ensures .2;
+      frames = c .bonding-of .ensures .3;
+      position = c .bonding-of .ensures .4;
     })
 
 pub setting-of-spec : {M : Type 1} → statement M
@@ -135,20 +95,7 @@ setting-of-spec =
     read-halves-requires
     slice-aggregate-read-private
     slice-aggregate-read-private-2
-    slice-aggregate-read-private-3
     read-private-requires
-    shared-slice-read-t30
-    shared-slice-read-t33
-    shared-slice-read-t36
-    shared-slice-read-t40
-    shared-slice-read-word
-    shared-slice-read-word-2
-    word-requires
-    add-t20
-    shared-slice-read-t52
-    array-read-t60
-    array-read-t63
-    array-read-t66
-    array-read-t69
-    array-read-t73
+    fields-of-requires
+    bonding-of-requires
     returns)
