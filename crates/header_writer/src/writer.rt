@@ -41,10 +41,12 @@ fn write_identifiers(part: &mut [u8], ts: &[u16], os: &[u16])
     let mut k = 0;
     let mut at = 0;
     while k < ts.len() {
-        part[at] = (ts[k] / 256) as u8;
-        part[at + 1] = (ts[k] % 256) as u8;
-        part[at + 2] = (os[k] / 256) as u8;
-        part[at + 3] = (os[k] % 256) as u8;
+        let ts_id = ts[k];
+        let network_id = os[k];
+        part[at] = (ts_id / 256) as u8;
+        part[at + 1] = (ts_id % 256) as u8;
+        part[at + 2] = (network_id / 256) as u8;
+        part[at + 3] = (network_id % 256) as u8;
         at += 4;
         k += 1;
     }

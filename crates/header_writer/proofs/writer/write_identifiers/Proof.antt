@@ -23,23 +23,23 @@ loop-holds : tie.Need-loop-holds Inv-loop μ-loop
 unfolding paired run
 loop-holds c = (omega arith, omega arith, refl, refl)
 
-mul-part : tie.Need-mul-part Inv-loop μ-loop
-mul-part c = search needs
+mul-ts-id : tie.Need-mul-ts-id Inv-loop μ-loop
+mul-ts-id c = search needs
 
-shared-slice-read-part : tie.Need-shared-slice-read-part Inv-loop μ-loop
-shared-slice-read-part c = search needs
+shared-slice-read-ts-id : tie.Need-shared-slice-read-ts-id Inv-loop μ-loop
+shared-slice-read-ts-id c = search needs
+
+mul-network-id : tie.Need-mul-network-id Inv-loop μ-loop
+mul-network-id c = search needs
+
+shared-slice-read-network-id : tie.Need-shared-slice-read-network-id Inv-loop μ-loop
+shared-slice-read-network-id c = search needs
 
 cast-part : tie.Need-cast-part Inv-loop μ-loop
-cast-part c = omega (arith, c .shared-slice-known .given (c .before .before .loop .k))
+cast-part c = omega (arith, c .before .shared-slice-known .given (c .before .before .before .loop .k))
 
 slice-write-part : tie.Need-slice-write-part Inv-loop μ-loop
 slice-write-part c = omega arith
-
-mul-part-2 : tie.Need-mul-part-2 Inv-loop μ-loop
-mul-part-2 c = search needs
-
-shared-slice-read-part-2 : tie.Need-shared-slice-read-part-2 Inv-loop μ-loop
-shared-slice-read-part-2 c = search needs
 
 cast-part-2 : tie.Need-cast-part-2 Inv-loop μ-loop
 cast-part-2 c = search needs
@@ -50,26 +50,14 @@ add-part c = search needs
 slice-write-part-2 : tie.Need-slice-write-part-2 Inv-loop μ-loop
 slice-write-part-2 c = simp length-set (omega arith)
 
-mul-part-3 : tie.Need-mul-part-3 Inv-loop μ-loop
-mul-part-3 c = search needs
-
-shared-slice-read-part-3 : tie.Need-shared-slice-read-part-3 Inv-loop μ-loop
-shared-slice-read-part-3 c = search needs
-
 cast-part-3 : tie.Need-cast-part-3 Inv-loop μ-loop
-cast-part-3 c = omega (arith, c .shared-slice-known3 .given (c .before .before .before .before .loop .k))
+cast-part-3 c = omega (arith, c .shared-slice-known2 .given (c .before .before .before .loop .k))
 
 add-part-2 : tie.Need-add-part-2 Inv-loop μ-loop
 add-part-2 c = search needs
 
 slice-write-part-3 : tie.Need-slice-write-part-3 Inv-loop μ-loop
 slice-write-part-3 c = simp length-set (omega arith)
-
-mul-part-4 : tie.Need-mul-part-4 Inv-loop μ-loop
-mul-part-4 c = search needs
-
-shared-slice-read-part-4 : tie.Need-shared-slice-read-part-4 Inv-loop μ-loop
-shared-slice-read-part-4 c = search needs
 
 cast-part-4 : tie.Need-cast-part-4 Inv-loop μ-loop
 cast-part-4 c = search needs
@@ -91,9 +79,9 @@ loop-less c = search needs
 
 loop-again : tie.Need-loop-again Inv-loop μ-loop
 loop-again c =
-    let at = c .before .before .before .before .before .loop in
-    let args = c .before .before .before .before .before .before .args in
-    let pre = c .before .before .before .before .before .before .pre in (
+    let at = c .before .before .before .loop in
+    let args = c .before .before .before .before .args in
+    let pre = c .before .before .before .before .pre in (
       omega arith,
       omega arith,
       simp length-set (at .inv .2),
@@ -120,22 +108,18 @@ write-identifiers-spec =
     Inv-loop
     μ-loop
     loop-holds
-    mul-part
-    shared-slice-read-part
+    mul-ts-id
+    shared-slice-read-ts-id
+    mul-network-id
+    shared-slice-read-network-id
     cast-part
     slice-write-part
-    mul-part-2
-    shared-slice-read-part-2
     cast-part-2
     add-part
     slice-write-part-2
-    mul-part-3
-    shared-slice-read-part-3
     cast-part-3
     add-part-2
     slice-write-part-3
-    mul-part-4
-    shared-slice-read-part-4
     cast-part-4
     add-part-3
     slice-write-part-4
