@@ -22,15 +22,18 @@ fn write_start(part: &mut [u8], pid: u16, s: Setting)
     requires { ⌜ Narrow s ⌝ }
     ensures { λ _. ⌜ run 8 (now (part .exit)) ≡ pack startRows (startContent pid s) ⌝ }
 {
-    part[0] = 0x47;
-    part[1] = (pid / 256) as u8;
-    part[2] = (pid % 256) as u8;
-    part[3] = 16 + s.continuity_counter;
-    part[4] = 0xFA;
-    part[5] = 0x86;
-    part[6] = s.version_number * 32 + s.slot_allocation_type * 16 + s.frame_type;
-    part[7] = (s.availability / 128) as u8;
-    part[8] = (s.availability % 128 * 2 + 1) as u8;
+    let bytes = [
+        0x47,
+        (pid / 256) as u8,
+        (pid % 256) as u8,
+        16 + s.continuity_counter,
+        0xFA,
+        0x86,
+        s.version_number * 32 + s.slot_allocation_type * 16 + s.frame_type,
+        (s.availability / 128) as u8,
+        (s.availability % 128 * 2 + 1) as u8,
+    ];
+    slices::copy(part, &bytes);
 }
 
 // The identifiers of each stream: TS_id and then original_network_id, high byte first.

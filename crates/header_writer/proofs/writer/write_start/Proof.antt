@@ -1,106 +1,78 @@
--- `write_start` meets its contract: its nine stores are the header's first bytes. Assumes nothing.
+-- `write_start` meets its contract: its nine bytes are the header's first. Assumes nothing.
 use mathlib.Core.Path.{ap, _∙_}
-use native.Mathlib.Omega.{arith}
-use lib.ListN.{length-set}
 use Rattle.bits.specs.Fields.{run}
-use Rattle.slices.proofs.Front.{stored}
+use Rattle.layout.proofs.Private.{copied-all}
 use Rattle.layout.proofs.Start.{startBytes, start-bits}
 use borrow.Author.Needs.{needs}
 use Rattle.header_writer.proofs.writer.write_start.Statement.{statement}
 use Rattle.header_writer.proofs.writer.write_start.Tie as tie
 
-slice-write-part : tie.Need-slice-write-part
-slice-write-part c = search needs
+cast-t6 : tie.Need-cast-t6
+cast-t6 c = search needs
 
-cast-part : tie.Need-cast-part
-cast-part c = search needs
+cast-t8 : tie.Need-cast-t8
+cast-t8 c = search needs
 
-slice-write-part-2 : tie.Need-slice-write-part-2
-slice-write-part-2 c = search needs
+add-t9 : tie.Need-add-t9
+add-t9 c = search needs
 
-cast-part-2 : tie.Need-cast-part-2
-cast-part-2 c = search needs
+mul-t10 : tie.Need-mul-t10
+mul-t10 c = search needs
 
-slice-write-part-3 : tie.Need-slice-write-part-3
-slice-write-part-3 c = search needs
+mul-t11 : tie.Need-mul-t11
+mul-t11 c = search needs
 
-add-part : tie.Need-add-part
-add-part c = search needs
+add-t12 : tie.Need-add-t12
+add-t12 c = search needs
 
-slice-write-part-4 : tie.Need-slice-write-part-4
-slice-write-part-4 c = simp length-set (omega arith)
+add-t13 : tie.Need-add-t13
+add-t13 c = search needs
 
-slice-write-part-5 : tie.Need-slice-write-part-5
-slice-write-part-5 c = simp length-set (omega arith)
+cast-t15 : tie.Need-cast-t15
+cast-t15 c = search needs
 
-slice-write-part-6 : tie.Need-slice-write-part-6
-slice-write-part-6 c = simp length-set (omega arith)
+mul-t17 : tie.Need-mul-t17
+mul-t17 c = search needs
 
-mul-part : tie.Need-mul-part
-mul-part c = search needs
+add-t18 : tie.Need-add-t18
+add-t18 c = search needs
 
-mul-part-2 : tie.Need-mul-part-2
-mul-part-2 c = search needs
+cast-t19 : tie.Need-cast-t19
+cast-t19 c = search needs
 
-add-part-2 : tie.Need-add-part-2
-add-part-2 c = search needs
+slice-aggregate-copy : tie.Need-slice-aggregate-copy
+slice-aggregate-copy c = search needs
 
-add-part-3 : tie.Need-add-part-3
-add-part-3 c = search needs
-
-slice-write-part-7 : tie.Need-slice-write-part-7
-slice-write-part-7 c = simp length-set (omega arith)
-
-cast-part-3 : tie.Need-cast-part-3
-cast-part-3 c = search needs
-
-slice-write-part-8 : tie.Need-slice-write-part-8
-slice-write-part-8 c = simp length-set (omega arith)
-
-mul-part-3 : tie.Need-mul-part-3
-mul-part-3 c = search needs
-
-add-part-4 : tie.Need-add-part-4
-add-part-4 c = search needs
-
-cast-part-4 : tie.Need-cast-part-4
-cast-part-4 c = search needs
-
-slice-write-part-9 : tie.Need-slice-write-part-9
-slice-write-part-9 c = simp length-set (omega arith)
+copy-requires : tie.Need-copy-requires
+copy-requires c κs = search needs
 
 same-length : tie.Need-same-length
-same-length c = simp length-set
+same-length c = search needs
 
 returns : tie.Need-returns
 returns c =
-    let start = c .before .before .before .before .before .before in
+    let copy = c .before .before in
+    let start = copy .before .before .before .before .before .before .before .before .before .before in
     let args = start .args in
-    ap (run 8) (stored (startBytes (args .pid) (args .s)) (args .part .now) (start .pre .0 .0)) ∙ start-bits (args .pid) (args .s) (start .pre .0 .1) (start .pre .1)
+    ap (run 8) (copy .copy .ensures ∙ copied-all (args .part .now) (startBytes (args .pid) (args .s)) (start .pre .0 .0))
+    ∙ start-bits (args .pid) (args .s) (start .pre .0 .1) (start .pre .1)
 
 pub write-start-spec : {M : Type 1} → statement M
 write-start-spec =
     tie.close
     (tie.spec
-    slice-write-part
-    cast-part
-    slice-write-part-2
-    cast-part-2
-    slice-write-part-3
-    add-part
-    slice-write-part-4
-    slice-write-part-5
-    slice-write-part-6
-    mul-part
-    mul-part-2
-    add-part-2
-    add-part-3
-    slice-write-part-7
-    cast-part-3
-    slice-write-part-8
-    mul-part-3
-    add-part-4
-    cast-part-4
-    slice-write-part-9
+    cast-t6
+    cast-t8
+    add-t9
+    mul-t10
+    mul-t11
+    add-t12
+    add-t13
+    cast-t15
+    mul-t17
+    add-t18
+    cast-t19
+    slice-aggregate-copy
+    copy-requires
     same-length
     returns)
