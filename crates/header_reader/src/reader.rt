@@ -116,7 +116,12 @@ struct Fields {
 
 fn fields_of(packet: &[u8]) -> Fields
     requires { ⌜ length (now packet) ≡ headerLength ⌝ }
-    ensures { λ r. ⌜ (r .«continuity_counter» ≡ reading Kind.Plain (now (packet .entry)) .«continuity_counter») × (r .«version_number» ≡ reading Kind.Plain (now (packet .entry)) .«version_number») × (r .«slot_allocation_type» ≡ reading Kind.Plain (now (packet .entry)) .«slot_allocation_type») × (r .«frame_type» ≡ reading Kind.Plain (now (packet .entry)) .«frame_type») × (r .availability ≡ reading Kind.Plain (now (packet .entry)) .availability) × (r .«emergency_indicator» ≡ reading Kind.Plain (now (packet .entry)) .«emergency_indicator») ⌝ }
+    ensures { λ r. ⌜ r .«continuity_counter» ≡ reading Kind.Plain (now (packet .entry)) .«continuity_counter» ⌝ }
+    ensures { λ r. ⌜ r .«version_number» ≡ reading Kind.Plain (now (packet .entry)) .«version_number» ⌝ }
+    ensures { λ r. ⌜ r .«slot_allocation_type» ≡ reading Kind.Plain (now (packet .entry)) .«slot_allocation_type» ⌝ }
+    ensures { λ r. ⌜ r .«frame_type» ≡ reading Kind.Plain (now (packet .entry)) .«frame_type» ⌝ }
+    ensures { λ r. ⌜ r .availability ≡ reading Kind.Plain (now (packet .entry)) .availability ⌝ }
+    ensures { λ r. ⌜ r .«emergency_indicator» ≡ reading Kind.Plain (now (packet .entry)) .«emergency_indicator» ⌝ }
 {
     let types = packet[6];
     Fields {
@@ -140,7 +145,11 @@ struct Bonding {
 
 fn bonding_of(packet: &[u8], kind: Kind) -> Bonding
     requires { ⌜ length (now packet) ≡ headerLength ⌝ }
-    ensures { λ r. ⌜ (r .«group_id» ≡ reading kind (now (packet .entry)) .«group_id») × (r .«number_of_carriers» ≡ reading kind (now (packet .entry)) .«number_of_carriers») × (r .«carrier_sequence» ≡ reading kind (now (packet .entry)) .«carrier_sequence») × (r .«number_of_frames» ≡ reading kind (now (packet .entry)) .«number_of_frames») × (r .«frame_position» ≡ reading kind (now (packet .entry)) .«frame_position» .0) ⌝ }
+    ensures { λ r. ⌜ r .«group_id» ≡ reading kind (now (packet .entry)) .«group_id» ⌝ }
+    ensures { λ r. ⌜ r .«number_of_carriers» ≡ reading kind (now (packet .entry)) .«number_of_carriers» ⌝ }
+    ensures { λ r. ⌜ r .«carrier_sequence» ≡ reading kind (now (packet .entry)) .«carrier_sequence» ⌝ }
+    ensures { λ r. ⌜ r .«number_of_frames» ≡ reading kind (now (packet .entry)) .«number_of_frames» ⌝ }
+    ensures { λ r. ⌜ r .«frame_position» ≡ reading kind (now (packet .entry)) .«frame_position» .0 ⌝ }
 {
     match kind {
         Kind::Plain => Bonding {

@@ -18,14 +18,14 @@ use Rattle.layout.proofs.LaidOut.{laid-out}
 -- the bonding fields, as numbers
 abbrev pub Bonding : Kind → List ℕ → ℕ → ℕ → ℕ → ℕ → ℕ → Type 0
 Bonding kind p group carriers sequence frames position =
-    (group ≡ reading kind p .«group_id») × (carriers ≡ reading kind p .«number_of_carriers»)
-    × (sequence ≡ reading kind p .«carrier_sequence») × (frames ≡ reading kind p .«number_of_frames»)
-    × (position ≡ reading kind p .«frame_position» .0)
+    (group ≡ reading kind p .«group_id») × ((carriers ≡ reading kind p .«number_of_carriers»)
+    × ((sequence ≡ reading kind p .«carrier_sequence») × ((frames ≡ reading kind p .«number_of_frames»)
+    × (position ≡ reading kind p .«frame_position» .0))))
 
 -- a plain header has none
 pub no-bonding : (p : List ℕ) {kind : Kind} → kind ≡ Kind.Plain → Bonding kind p 0 0 0 0 0
 unfolding reading
-no-bonding p e = subst (λ (k : Kind). Bonding k p 0 0 0 0 0) (sym e) (refl, refl, refl, refl, refl)
+no-bonding p e = subst (λ (k : Kind). Bonding k p 0 0 0 0 0) (sym e) (refl, (refl, (refl, (refl, refl))))
 
 module _ (p : List ℕ) (f : Fit 8 p) (h : length p ≡ headerLength) where
   -- the private data by kind: `at`, `len` and the row that they are
@@ -44,10 +44,13 @@ module _ (p : List ℕ) (f : Fit 8 p) (h : length p ≡ headerLength) where
   unfolding reading laid-out rowAt place cut
   extended = (
     sym (byte-field p 127 0 8 0 (omega arith) refl ∙ omega (arith, fit-getD f 127)),
-    sym (byte-field p 128 0 8 0 (omega arith) refl ∙ omega (arith, fit-getD f 128)),
-    sym (byte-field p 129 0 8 0 (omega arith) refl ∙ omega (arith, fit-getD f 129)),
-    sym (byte-field p 130 0 4 4 (omega arith) refl ∙ omega (arith, fit-getD f 130)),
-    sym (byte-field p 130 4 4 0 (omega arith) refl ∙ omega arith),
+    (
+      sym (byte-field p 128 0 8 0 (omega arith) refl ∙ omega (arith, fit-getD f 128)),
+      (
+        sym (byte-field p 129 0 8 0 (omega arith) refl ∙ omega (arith, fit-getD f 129)),
+        (sym (byte-field p 130 0 4 4 (omega arith) refl ∙ omega (arith, fit-getD f 130)), sym (byte-field p 130 4 4 0 (omega arith) refl ∙ omega arith)),
+      ),
+    ),
   )
 
   pub bonding-are : {kind : Kind} → kind ≡ Kind.Extended

@@ -27,7 +27,7 @@ returns c =
     let start = c .before .before .before .before .before in
     let p = start .args .packet .now in
     let f = fields-are p (fit-of 8 p (λ i. c .shared-slice-known4 .given i .fits)) (start .pre) in
-    (f .0, f .1, f .2, f .3, ap (λ (n : ℕ). n / 2) (c .before .word-at .ensures) ∙ f .4, f .5)
+    (f .0, (f .1, (f .2, (f .3, (ap (λ (n : ℕ). n / 2) (c .before .word-at .ensures) ∙ f .4, f .5)))))
 
 pub fields-of-spec : {M : Type 1} → statement M
 fields-of-spec =

@@ -62,11 +62,11 @@ returns c =
     said kind p _
     (record {
       counter = fields .fields-of .ensures .0;
-      version = fields .fields-of .ensures .1;
-      slot-type = fields .fields-of .ensures .2;
-      frame-type = fields .fields-of .ensures .3;
-      streams = fields .fields-of .ensures .4;
-      emergency = fields .fields-of .ensures .5;
+      version = fields .fields-of .ensures .1 .0;
+      slot-type = fields .fields-of .ensures .1 .1 .0;
+      frame-type = fields .fields-of .ensures .1 .1 .1 .0;
+      streams = fields .fields-of .ensures .1 .1 .1 .1 .0;
+      emergency = fields .fields-of .ensures .1 .1 .1 .1 .1;
       ts-id = streams .read-streams .ensures .0;
       network-id = streams .read-streams .ensures .1 .0;
       statuses = streams .read-streams .ensures .1 .1;
@@ -74,10 +74,10 @@ returns c =
       privates = private .read-private .ensures .0 ∙ privates-are p bytes (start .pre) kind;
       auxiliaries = private .read-private .ensures .1 ∙ auxiliaries-are p bytes (start .pre) kind;
       group = c .bonding-of .ensures .0;
-      carriers = c .bonding-of .ensures .1;
-      sequence = c .bonding-of .ensures .2;
-      frames = c .bonding-of .ensures .3;
-      position = c .bonding-of .ensures .4;
+      carriers = c .bonding-of .ensures .1 .0;
+      sequence = c .bonding-of .ensures .1 .1 .0;
+      frames = c .bonding-of .ensures .1 .1 .1 .0;
+      position = c .bonding-of .ensures .1 .1 .1 .1;
     })
 
 pub setting-of-spec : {M : Type 1} → statement M
