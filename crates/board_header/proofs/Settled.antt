@@ -8,7 +8,7 @@ use borrow.Author.Tests.{eqb-true, not-false}
 use Rattle.rules.specs.Refusal.{Check, NoneHolds, more}
 use Rattle.rules.specs.Rules.{pidAllowed}
 use Rattle.rules.proofs.Refusals.{none-first}
-use Rattle.header.specs.Header.{headerLength}
+use Rattle.layout.specs.Header.{headerLength}
 use Rattle.words.specs.Kinds.{isKind}
 use Rattle.coding.specs.Settings.{settingLength}
 use Rattle.board_header.specs.Calls.{callRefused}

@@ -16,7 +16,7 @@ use Rattle.counters.specs.Counters.{firstPosition}
 use Rattle.rules.specs.Refusal.{Check, NoneHolds, none, more, firstOf}
 use Rattle.rules.specs.Rules.{ruleChecks}
 use Rattle.rules.proofs.Refusals.{first-none, none-at, none-append, none-before, none-behind}
-use Rattle.header.specs.Header.{reading, packetChecks}
+use Rattle.layout.specs.Header.{reading, packetChecks}
 use Rattle.header.specs.Demands.{Among}
 use Rattle.packet.specs.Packets.{packetLength, frameLength, slot, unfit}
 use Rattle.group.specs.declared.Bond.{Bond}

@@ -8,7 +8,7 @@ use lib.ListN.{length, take, drop, length-append, length-drop, take-append-drop}
 use lib.Seq.{length-take-le, drop-at, drop-drop}
 use Rattle.setting.specs.declared.Kind.{Kind}
 use Rattle.counters.specs.Counters.{lastSlot}
-use Rattle.header.specs.Header.{readOf}
+use Rattle.header_reader.specs.Reader.{readOf}
 use Rattle.packet.specs.Packets.{packetLength, frameLength, slot, unfit}
 use Rattle.runs.proofs.Vouched.{GoodFrame}
 use Rattle.runs.proofs.Lost.{slot-behind, Counted, and-then}

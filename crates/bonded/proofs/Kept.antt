@@ -9,7 +9,7 @@ use lib.ListN.{length, take, drop, replicate, length-drop, drop-of-length-le, ta
 use Rattle.setting.specs.declared.Kind.{Kind}
 use Rattle.counters.specs.Counters.{lastSlot}
 use Rattle.rules.specs.Rules.{pidAllowed}
-use Rattle.header.specs.Header.{reading}
+use Rattle.layout.specs.Header.{reading}
 use Rattle.packet.specs.Packets.{packetLength, slot, unfit}
 use Rattle.receiver_table.specs.declared.Stage.{Stage}
 use Rattle.receiver_table.specs.declared.Event.{Event}

@@ -9,9 +9,9 @@ use borrow.Author.Tests.{eqb-true}
 use Rattle.slices.proofs.Any.{both}
 use Rattle.bits.specs.Fields.{bitsOf, number, run, cut}
 use Rattle.crc.specs.Crc.{registerFrom}
-use Rattle.header.specs.Rows.{pack}
-use Rattle.header.specs.Layout.{startRows, identifierRows, controlRows, numberRows, privateRows, layout}
-use Rattle.header.specs.Header.{paired, startContent, identifierContent, controlContent, numberContent, privateContent, content, body, header}
+use Rattle.layout.specs.Rows.{pack}
+use Rattle.layout.specs.Layout.{startRows, identifierRows, controlRows, numberRows, privateRows, layout}
+use Rattle.layout.specs.Header.{paired, startContent, identifierContent, controlContent, numberContent, privateContent, content, body, header}
 use Rattle.setting.specs.Setting.{blank}
 use Rattle.announced.specs.Announcing.{someDiffer, announced, differ}
 use Rattle.frame.specs.Composing.{nextCounter, nextVersion}

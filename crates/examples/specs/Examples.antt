@@ -9,7 +9,7 @@ use Rattle.setting.specs.declared.Kind.{Kind}
 use Rattle.setting.specs.declared.Setting.{Setting}
 use Rattle.counters.specs.Counters.{lastSlot, lastStream}
 use Rattle.setting.specs.Setting.{blank}
-use Rattle.header.specs.Header.{header}
+use Rattle.layout.specs.Header.{header}
 use Rattle.frame.specs.declared.composer.Composer.{Composer}
 use Rattle.announced.specs.Announcing.{announced}
 use Rattle.frame.specs.Composing.{nextCounter, nextVersion}

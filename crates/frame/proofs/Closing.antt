@@ -5,9 +5,10 @@ use mathlib.Core.List.{List}
 use native.Mathlib.Omega.{arith}
 use lib.ListN.{length}
 use Rattle.setting.specs.declared.Setting.{Setting}
-use Rattle.header.specs.Header.{headerLength, header, writeRefusal, written}
-use Rattle.header.specs.Demands.{MeetsRules}
-use Rattle.header.proofs.Calls.{made, not-refused}
+use Rattle.layout.specs.Header.{headerLength, header}
+use Rattle.header_writer.specs.Writing.{writeRefusal, written}
+use Rattle.layout.specs.Meets.{MeetsRules}
+use Rattle.header_writer.proofs.Calls.{made, not-refused}
 use Rattle.frame.specs.declared.composer.Composer.{Composer}
 use Rattle.announced.specs.Announcing.{differ, announced}
 use Rattle.frame.specs.Composing.{nextCounter, nextVersion, closing}

@@ -18,7 +18,7 @@ use Rattle.rules.specs.Refusal.{NoneHolds, more}
 use Rattle.rules.specs.Rules.{pidAllowed, unavailable, someUnavailable, absentChecks, widthChecks, bondingChecks, ruleChecks}
 use Rattle.rules.proofs.Refusals.{none-at, none-append}
 use Rattle.rules.proofs.Fields.{some-fit, fit-some}
-use Rattle.header.specs.Demands.{MeetsRules}
+use Rattle.layout.specs.Meets.{MeetsRules}
 use Rattle.frame.specs.Slots.{numbersOf}
 use Rattle.frame.specs.Composing.{saying}
 

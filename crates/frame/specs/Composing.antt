@@ -10,7 +10,7 @@ use Rattle.counters.specs.Counters.{firstStream, lastStream, lastSlot, within, 
 use Rattle.rules.specs.Refusal.{Check, firstOf}
 use Rattle.rules.specs.Rules.{pidAllowed, widthChecks, ruleChecks}
 use Rattle.setting.specs.Setting.{blank}
-use Rattle.header.specs.Header.{header}
+use Rattle.layout.specs.Header.{header}
 use Rattle.announced.specs.Announcing.{announced, differ, announcedChecks}
 use Rattle.frame.specs.declared.composer.Composer.{Composer}
 use Rattle.frame.specs.declared.composer.Answer.{Answer}

@@ -12,7 +12,7 @@ use Rattle.rules.specs.Refusal.{Check, NoneHolds, firstOf}
 use Rattle.rules.specs.Rules.{pidAllowed, ruleChecks, bondingChecks}
 use Rattle.rules.proofs.Refusals.{numbered, none-first, none-at, onward, at-once}
 use Rattle.rules.proofs.Fields.{at-most}
-use Rattle.header.specs.Header.{packetChecks}
+use Rattle.layout.specs.Header.{packetChecks}
 use Rattle.packet.specs.Packets.{frameLength}
 use Rattle.places.specs.Walk.{lastCarrier}
 use Rattle.group.specs.declared.Bond.{Bond}

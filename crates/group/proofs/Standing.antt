@@ -16,7 +16,7 @@ use Rattle.rules.specs.Refusal.{NoneHolds}
 use Rattle.rules.specs.Rules.{ruleChecks, bondingChecks}
 use Rattle.rules.proofs.Refusals.{none-at, none-before, none-behind}
 use Rattle.rules.proofs.Fields.{at-most, bonding-none}
-use Rattle.header.specs.Header.{packetChecks}
+use Rattle.layout.specs.Header.{packetChecks}
 use Rattle.packet.specs.Packets.{slot}
 use Rattle.group.specs.declared.Bond.{Bond}
 use Rattle.group.specs.declared.headers.Shown.{Shown}

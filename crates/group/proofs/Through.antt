@@ -16,9 +16,10 @@ use Rattle.setting.specs.Setting.{blank}
 use Rattle.rules.specs.Refusal.{Check, NoneHolds, firstOf}
 use Rattle.rules.specs.Rules.{pidAllowed, ruleChecks, bondingChecks}
 use Rattle.rules.proofs.Refusals.{answers, first-none, onward, at-once, none-append, none-before, none-behind, none-first}
-use Rattle.header.specs.declared.Reading.{Reading}
-use Rattle.header.specs.Header.{headerLength, packetChecks, reading, readRefusal, readOf}
-use Rattle.header.proofs.Calls.{right-call}
+use Rattle.header_reader.specs.declared.Reading.{Reading}
+use Rattle.layout.specs.Header.{headerLength, packetChecks, reading}
+use Rattle.header_reader.specs.Reader.{readRefusal, readOf}
+use Rattle.layout.proofs.Calls.{right-call}
 use Rattle.packet.specs.Packets.{packetLength, frameLength, slot}
 use Rattle.group.specs.declared.Bond.{Bond}
 use Rattle.group.specs.declared.headers.Shown.{Shown}

@@ -7,7 +7,7 @@ use lib.ListN.{length, getD}
 use Rattle.setting.specs.declared.Kind.{Kind}
 use Rattle.setting.specs.declared.Setting.{Setting}
 use Rattle.counters.specs.Counters.{lastStream, available}
-use Rattle.header.specs.Header.{reading}
+use Rattle.layout.specs.Header.{reading}
 use Rattle.packet.specs.Packets.{frameLength, slot}
 use Rattle.group.specs.declared.Bond.{Bond}
 use Rattle.places.specs.Order.{framePackets, placeOf, Place, comesBefore, picked, sorted}

@@ -11,7 +11,7 @@ use Rattle.counters.specs.Counters.{firstPosition, within}
 use Rattle.setting.specs.Setting.{blank}
 use Rattle.rules.specs.Refusal.{Check}
 use Rattle.rules.specs.Rules.{pidAllowed, ruleChecks}
-use Rattle.header.specs.Header.{packetChecks}
+use Rattle.layout.specs.Header.{packetChecks}
 use Rattle.packet.specs.Packets.{frameLength, slot}
 use Rattle.group.specs.declared.Bond.{Bond}
 use Rattle.group.specs.declared.headers.Shown.{Shown}

@@ -18,13 +18,14 @@ use Rattle.rules.specs.Refusal.{NoneHolds, none, more}
 use Rattle.rules.specs.Rules.{pidAllowed, absentChecks, widthChecks, bondingChecks, ruleChecks}
 use Rattle.rules.proofs.Fields.{some-fit}
 use Rattle.rules.proofs.Refusals.{numbered, none-first, none-at, none-append, none-behind}
-use Rattle.header.specs.Rows.{place, rowAt}
-use Rattle.header.specs.Layout.{syncByte, tsmfSync, layout}
-use Rattle.header.specs.Header.{headerLength, row, value, reading, callChecks, packetChecks, readRefusal}
-use Rattle.header.specs.Demands.{MeetsRules}
-use Rattle.header.proofs.Rows.{size, rowOf, Fills, row-fills}
-use Rattle.header.proofs.LaidOut.{laid-out, size-layout}
-use Rattle.header.proofs.Content.{fills-replicate}
+use Rattle.layout.specs.Rows.{place, rowAt}
+use Rattle.layout.specs.Layout.{syncByte, tsmfSync, layout}
+use Rattle.layout.specs.Header.{headerLength, row, value, reading, callChecks, packetChecks}
+use Rattle.header_reader.specs.Reader.{readRefusal}
+use Rattle.layout.specs.Meets.{MeetsRules}
+use Rattle.layout.proofs.Rows.{size, rowOf, Fills, row-fills}
+use Rattle.layout.proofs.LaidOut.{laid-out, size-layout}
+use Rattle.layout.proofs.Content.{fills-replicate}
 
 numbered-bonding : (kind : Kind) (s : Setting) → numbered (bondingChecks kind s) ≡ true
 unfolding bondingChecks

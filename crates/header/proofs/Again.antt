@@ -11,14 +11,14 @@ use Rattle.bits.proofs.Laws.{fit-run, fit-drop, length-run, bitsOf-number, numb
 use Rattle.crc.proofs.Laws.{own-bits-only}
 use Rattle.setting.specs.declared.Kind.{Kind}
 use Rattle.counters.specs.Counters.{lastStream}
-use Rattle.header.specs.Layout.{layout, reservedRows}
-use Rattle.header.specs.Header.{headerLength, one, paired, firsts, seconds, content, body, header, row, value, reading}
+use Rattle.layout.specs.Layout.{layout, reservedRows}
+use Rattle.layout.specs.Header.{headerLength, one, paired, firsts, seconds, content, body, header, row, value, reading}
 use Rattle.header.specs.Demands.{Among, here, there, allOnes, SameButReserved, ReservedOnes, WrittenAgain}
-use Rattle.header.proofs.Rows.{rowOf, Fills, Suits, Each, next, done, each-at, pack-rows}
-use Rattle.header.proofs.LaidOut.{laid-out, bodyBits, size-layout, length-content}
-use Rattle.header.proofs.Calls.{not-refused}
-use Rattle.header.proofs.Content.{fills-replicate}
-use Rattle.header.proofs.Whole.{crcOf, crc-lt, header-only, register-behind, row-header}
+use Rattle.layout.proofs.Rows.{rowOf, Fills, Suits, Each, next, done, each-at, pack-rows}
+use Rattle.layout.proofs.LaidOut.{laid-out, bodyBits, size-layout, length-content}
+use Rattle.header_writer.proofs.Calls.{not-refused}
+use Rattle.layout.proofs.Content.{fills-replicate}
+use Rattle.layout.proofs.Whole.{crcOf, crc-lt, header-only, register-behind, row-header}
 use Rattle.header.proofs.Accepted.{Shown, shown, long, row-filled, meets}
 
 -- ---- row by row

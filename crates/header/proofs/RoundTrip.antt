@@ -19,15 +19,18 @@ use Rattle.rules.specs.Refusal.{NoneHolds, none, more}
 use Rattle.rules.specs.Rules.{widthChecks, absentChecks, ruleChecks}
 use Rattle.rules.proofs.Fields.{fit-some}
 use Rattle.rules.proofs.Refusals.{first-none, none-at, none-append, none-behind}
-use Rattle.header.specs.declared.Reading.{Reading}
-use Rattle.header.specs.Rows.{place, rowAt}
-use Rattle.header.specs.Layout.{layout}
-use Rattle.header.specs.Header.{paired, firsts, seconds, content, headerLength, header, row, value, reading, packetChecks, written, readRefusal, readOf}
-use Rattle.header.specs.Demands.{MeetsRules, WrittenAndReadBack}
-use Rattle.header.proofs.LaidOut.{laid-out}
-use Rattle.header.proofs.Calls.{not-refused}
-use Rattle.header.proofs.Content.{suits}
-use Rattle.header.proofs.Whole.{length-header, row-header, register-header}
+use Rattle.header_reader.specs.declared.Reading.{Reading}
+use Rattle.layout.specs.Rows.{place, rowAt}
+use Rattle.layout.specs.Layout.{layout}
+use Rattle.layout.specs.Header.{paired, firsts, seconds, content, headerLength, header, row, value, reading, packetChecks}
+use Rattle.header_writer.specs.Writing.{written}
+use Rattle.header_reader.specs.Reader.{readRefusal, readOf}
+use Rattle.layout.specs.Meets.{MeetsRules}
+use Rattle.header.specs.Demands.{WrittenAndReadBack}
+use Rattle.layout.proofs.LaidOut.{laid-out}
+use Rattle.header_writer.proofs.Calls.{not-refused}
+use Rattle.layout.proofs.Content.{suits}
+use Rattle.layout.proofs.Whole.{length-header, row-header, register-header}
 
 -- ---- what was put into a row, taken out again
 

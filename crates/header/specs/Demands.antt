@@ -1,23 +1,18 @@
 -- What demand 2 says of headers, as statements over what the calls answer and leave. The proofs stand apart.
 use Prim.Native.Nat.{ℕ, _-_, _<_, _^_}
 use mathlib.Core.Path.{_≡_}
-use mathlib.Core.Bool.{true}
-use mathlib.Core.List.{List, _∷_, _++_}
+use mathlib.Core.List.{List, _∷_}
 use lib.ListN.{length, getD, replicate}
 use Rattle.bits.specs.Fields.{Fit}
 use Rattle.setting.specs.declared.Kind.{Kind}
 use Rattle.setting.specs.declared.Setting.{Setting}
 use Rattle.setting.specs.Setting.{OfItsTypes}
-use Rattle.rules.specs.Refusal.{NoneHolds}
-use Rattle.rules.specs.Rules.{pidAllowed, widthChecks, ruleChecks}
-use Rattle.header.specs.Rows.{Row}
-use Rattle.header.specs.Layout.{layout, reservedRows}
-use Rattle.header.specs.Header.{headerLength, header, row, reading, writeRefusal, written, readRefusal, readOf}
-
--- the rules that a setting meets which is to be written with this PID as this kind
-pub record MeetsRules (kind : Kind) (pid : ℕ) (s : Setting) : Type 0 where
-  pub pid-allowed : pidAllowed pid ≡ true
-  pub fields : NoneHolds (widthChecks kind s ++ ruleChecks kind s)
+use Rattle.layout.specs.Rows.{Row}
+use Rattle.layout.specs.Layout.{layout, reservedRows}
+use Rattle.layout.specs.Header.{headerLength, header, row, reading}
+use Rattle.layout.specs.Meets.{MeetsRules}
+use Rattle.header_writer.specs.Writing.{writeRefusal, written}
+use Rattle.header_reader.specs.Reader.{readRefusal, readOf}
 
 -- 'Every setting that meets the rules is written, and read back equal.'
 abbrev pub WrittenAndReadBack : Type 0

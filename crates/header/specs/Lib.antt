@@ -1,6 +1,2 @@
--- The TSMF header of J.183: what it is, and what reading and writing it answer.
-pub mod Rows
-pub mod Layout
-pub mod Header
-pub mod Bytes
+-- The TSMF header of J.183: what is promised of writing and reading it.
 pub mod Demands

@@ -8,8 +8,8 @@ use lib.ListN.{length, take, drop}
 use Rattle.setting.specs.declared.Kind.{Kind}
 use Rattle.rules.specs.Refusal.{Check, firstOf}
 use Rattle.counters.specs.Counters.{countAvailable}
-use Rattle.header.specs.declared.Reading.{Reading}
-use Rattle.header.specs.Header.{readOf}
+use Rattle.header_reader.specs.declared.Reading.{Reading}
+use Rattle.header_reader.specs.Reader.{readOf}
 use Rattle.listing.specs.declared.Listed.{Listed}
 use Rattle.listing.specs.Text.{space, lineFeed, decimal, field}
 

@@ -5,8 +5,8 @@ use mathlib.Core.List.{List, [], _∷_}
 use lib.Dec.{eqb}
 use lib.ListN.{length, take, drop, replicate}
 use Rattle.rules.specs.Refusal.{firstOf}
-use Rattle.header.specs.Layout.{syncByte}
-use Rattle.header.specs.Header.{startValue}
+use Rattle.layout.specs.Layout.{syncByte}
+use Rattle.layout.specs.Header.{startValue}
 
 abbrev pub packetLength : ℕ
 packetLength = 188

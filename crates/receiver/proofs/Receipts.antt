@@ -5,7 +5,7 @@ use mathlib.Core.List.{List}
 use borrow.Author.Tests.{eq-eqb, ne-eqb}
 use lib.ListN.{length}
 use Rattle.setting.specs.declared.Setting.{Setting}
-use Rattle.header.specs.Header.{reading}
+use Rattle.layout.specs.Header.{reading}
 use Rattle.frame.proofs.Answers.{kept, written}
 use Rattle.receiver_table.specs.declared.Event.{Event}
 use Rattle.receiver.specs.declared.Received.{Received}

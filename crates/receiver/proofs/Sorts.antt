@@ -10,9 +10,10 @@ use Rattle.slices.proofs.Any.{neither}
 use Rattle.setting.specs.declared.Kind.{Kind}
 use Rattle.rules.specs.Refusal.{none, more}
 use Rattle.rules.proofs.Refusals.{first-none, none-first, none-at}
-use Rattle.header.specs.Rows.{place, rowAt}
-use Rattle.header.specs.Layout.{syncByte, startRows, identifierRows, controlRows, numberRows, privateRows, layout}
-use Rattle.header.specs.Header.{startValue, reading, readRefusal, readOf}
+use Rattle.layout.specs.Rows.{place, rowAt}
+use Rattle.layout.specs.Layout.{syncByte, startRows, identifierRows, controlRows, numberRows, privateRows, layout}
+use Rattle.layout.specs.Header.{startValue, reading}
+use Rattle.header_reader.specs.Reader.{readRefusal, readOf}
 use Rattle.header.proofs.Accepted.{shown}
 use Rattle.packet.specs.Packets.{packetLength, unfit, placeRefusal}
 use Rattle.receiver_table.specs.Table.{good, broken, other}

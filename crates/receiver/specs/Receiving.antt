@@ -9,7 +9,7 @@ use Rattle.setting.specs.declared.Kind.{Kind}
 use Rattle.counters.specs.Counters.{firstStream, lastStream, lastSlot, within}
 use Rattle.rules.specs.Refusal.{Check, firstOf}
 use Rattle.rules.specs.Rules.{pidAllowed}
-use Rattle.header.specs.Header.{reading}
+use Rattle.layout.specs.Header.{reading}
 use Rattle.packet.specs.Packets.{packetLength}
 use Rattle.frame.specs.Composing.{leaves}
 use Rattle.receiver_table.specs.declared.Stage.{Stage}

@@ -17,8 +17,8 @@ use Rattle.rules.specs.Refusal.{Check, firstOf, NoneHolds, none, more}
 use Rattle.rules.specs.Rules.{pidAllowed, someUnavailable, pairTwice, absentChecks, widthChecks, bondingChecks, ruleChecks}
 use Rattle.rules.proofs.Refusals.{first-none, none-append, width-none, rule-none}
 use Rattle.rules.proofs.Fields.{fit-some}
-use Rattle.header.specs.Rows.{place, rowAt}
-use Rattle.header.specs.Layout.{startRows}
+use Rattle.layout.specs.Rows.{place, rowAt}
+use Rattle.layout.specs.Layout.{startRows}
 use Rattle.frame.specs.declared.composer.Composer.{Composer}
 use Rattle.packet.specs.Packets.{packetLength, frameLength, unfit}
 use Rattle.frame.specs.Slots.{marksAfter, someUnfit, someUnplanned}

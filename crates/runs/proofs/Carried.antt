@@ -11,8 +11,8 @@ use lib.ListN.{length, take, drop, replicate, length-append}
 use lib.Seq.{take-at, drop-at, drop-drop, take-add, take-nil}
 use Rattle.slices.proofs.Any.{neither}
 use Rattle.bits.specs.Fields.{bitsOf, number, run, cut}
-use Rattle.header.specs.Rows.{place, rowAt}
-use Rattle.header.specs.Layout.{startRows}
+use Rattle.layout.specs.Rows.{place, rowAt}
+use Rattle.layout.specs.Layout.{startRows}
 use Rattle.packet.specs.Packets.{packetLength, nullPacket, slot, unfit}
 use Rattle.frame.specs.Slots.{nulls, numbersOf}
 use Rattle.receiver.specs.Store.{numbered, slotsFor}

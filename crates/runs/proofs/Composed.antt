@@ -16,11 +16,12 @@ use Rattle.rules.specs.Refusal.{firstOf}
 use Rattle.rules.specs.Rules.{pidAllowed, ruleChecks}
 use Rattle.rules.proofs.Refusals.{none-at}
 use Rattle.rules.proofs.Fields.{at-most}
-use Rattle.header.specs.Header.{header, readOf}
-use Rattle.header.specs.Demands.{MeetsRules}
+use Rattle.layout.specs.Header.{header}
+use Rattle.header_reader.specs.Reader.{readOf}
+use Rattle.layout.specs.Meets.{MeetsRules}
 use Rattle.header.proofs.RoundTrip.{written-and-read-back}
-use Rattle.header.proofs.Calls.{made}
-use Rattle.header.proofs.Whole.{length-header}
+use Rattle.header_writer.proofs.Calls.{made}
+use Rattle.layout.proofs.Whole.{length-header}
 use Rattle.announced.specs.declared.Announced.{Announced}
 use Rattle.packet.specs.Packets.{packetLength, frameLength, nullPacket, slot, unfit}
 use Rattle.announced.specs.Announcing.{announced, differ}

@@ -15,9 +15,9 @@ use Rattle.counters.specs.Counters.{lastSlot}
 use Rattle.rules.specs.Rules.{pidAllowed, widthChecks}
 use Rattle.rules.proofs.Refusals.{none-at}
 use Rattle.rules.proofs.Fields.{fit-some}
-use Rattle.header.specs.declared.Reading.{Reading}
-use Rattle.header.specs.Header.{header}
-use Rattle.header.proofs.Whole.{length-header}
+use Rattle.header_reader.specs.declared.Reading.{Reading}
+use Rattle.layout.specs.Header.{header}
+use Rattle.layout.proofs.Whole.{length-header}
 use Rattle.announced.specs.declared.Announced.{Announced}
 use Rattle.packet.specs.Packets.{packetLength, unfit}
 use Rattle.announced.specs.Announcing.{announced}

@@ -14,7 +14,7 @@ use Rattle.counters.specs.Counters.{lastSlot}
 use Rattle.setting.specs.Setting.{OfItsTypes}
 use Rattle.rules.specs.Refusal.{NoneHolds}
 use Rattle.rules.specs.Rules.{widthChecks, ruleChecks}
-use Rattle.header.specs.Header.{header}
+use Rattle.layout.specs.Header.{header}
 use Rattle.announced.specs.declared.Announced.{Announced}
 use Rattle.frame.specs.declared.composer.Composer.{Composer}
 use Rattle.packet.specs.Packets.{packetLength, frameLength}

@@ -10,7 +10,7 @@ use lib.ListN.{length, take, drop, length-drop, drop-of-length-le, take-append-d
 use lib.Seq.{length-take-le, drop-drop}
 use Rattle.setting.specs.declared.Kind.{Kind}
 use Rattle.counters.specs.Counters.{lastSlot}
-use Rattle.header.specs.declared.Reading.{Reading}
+use Rattle.header_reader.specs.declared.Reading.{Reading}
 use Rattle.packet.specs.Packets.{packetLength, slot, unfit}
 use Rattle.receiver_table.specs.declared.Stage.{Stage}
 use Rattle.receiver.specs.Store.{storeLength, numbered}

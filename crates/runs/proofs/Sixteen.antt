@@ -12,7 +12,7 @@ use lib.Seq.{length-take-le}
 use Rattle.setting.specs.declared.Kind.{Kind}
 use Rattle.setting.specs.declared.Setting.{Setting}
 use Rattle.counters.specs.Counters.{lastSlot}
-use Rattle.header.specs.declared.Reading.{Reading}
+use Rattle.header_reader.specs.declared.Reading.{Reading}
 use Rattle.announced.specs.declared.Announced.{Announced}
 use Rattle.packet.specs.Packets.{packetLength, slot, unfit}
 use Rattle.announced.specs.Announcing.{announced}

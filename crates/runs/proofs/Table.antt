@@ -16,7 +16,8 @@ use Rattle.rules.specs.Refusal.{NoneHolds, none, more}
 use Rattle.rules.specs.Rules.{pidAllowed}
 use Rattle.rules.proofs.Refusals.{first-none, none-append}
 use Rattle.rules.proofs.Fields.{some-fit}
-use Rattle.header.specs.Header.{readRefusal, reading}
+use Rattle.layout.specs.Header.{reading}
+use Rattle.header_reader.specs.Reader.{readRefusal}
 use Rattle.packet.specs.Packets.{packetLength, unfit}
 use Rattle.frame.specs.Composing.{leaves}
 use Rattle.receiver_table.specs.declared.Stage.{Stage}

@@ -15,8 +15,9 @@ use Rattle.setting.specs.declared.Setting.{Setting}
 use Rattle.counters.specs.Counters.{firstStream, lastStream, lastSlot}
 use Rattle.rules.specs.Refusal.{none, more}
 use Rattle.rules.proofs.Refusals.{first-none, none-append}
-use Rattle.header.specs.declared.Reading.{Reading}
-use Rattle.header.specs.Header.{readRefusal, reading, readOf}
+use Rattle.header_reader.specs.declared.Reading.{Reading}
+use Rattle.layout.specs.Header.{reading}
+use Rattle.header_reader.specs.Reader.{readRefusal, readOf}
 use Rattle.packet.specs.Packets.{packetLength, frameLength, slot, unfit}
 use Rattle.frame.specs.Composing.{leaves}
 use Rattle.receiver_table.specs.declared.Stage.{Stage}

@@ -8,7 +8,7 @@ use Rattle.setting.specs.declared.Kind.{Kind}
 use Rattle.setting.specs.declared.Setting.{Setting}
 use Rattle.counters.specs.Counters.{firstStream, firstSlot, lastSlot}
 use Rattle.rules.specs.Rules.{pidAllowed}
-use Rattle.header.specs.Header.{readOf}
+use Rattle.header_reader.specs.Reader.{readOf}
 use Rattle.packet.specs.Packets.{packetLength, frameLength, slot, unfit}
 use Rattle.receiver.specs.Store.{numbered, slotsFor}
 use Rattle.runs.specs.Runs.{Call, Each, OfTypes, started, framesOf}

@@ -6,7 +6,7 @@ use mathlib.Core.List.{List, [], _∷_, _++_}
 use lib.ListN.{length, take, drop}
 use Rattle.setting.specs.declared.Kind.{Kind}
 use Rattle.counters.specs.Counters.{lastSlot}
-use Rattle.header.specs.Header.{readRefusal, readOf}
+use Rattle.header_reader.specs.Reader.{readRefusal, readOf}
 use Rattle.packet.specs.Packets.{packetLength, slot}
 use Rattle.receiver.specs.declared.Receiver.{Receiver}
 use Rattle.receiver.specs.Store.{numbered}

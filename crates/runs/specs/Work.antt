@@ -7,7 +7,7 @@ use lib.ListN.{length, take, drop}
 use Rattle.setting.specs.declared.Kind.{Kind}
 use Rattle.setting.specs.declared.Setting.{Setting}
 use Rattle.setting.specs.Setting.{blank}
-use Rattle.header.specs.Header.{header}
+use Rattle.layout.specs.Header.{header}
 use Rattle.announced.specs.declared.Announced.{Announced}
 use Rattle.packet.specs.Packets.{packetLength, nullPacket}
 use Rattle.announced.specs.Announcing.{announced, differ}

@@ -4,7 +4,7 @@ use mathlib.Core.Bool.{true, false, not}
 use native.Mathlib.Omega.{arith}
 use borrow.Author.Tests.{eq-eqb, ne-eqb, lt-ltb, le-ltb, not-true, not-false}
 use Rattle.rules.specs.Refusal.{firstOf}
-use Rattle.header.specs.Header.{headerLength}
+use Rattle.layout.specs.Header.{headerLength}
 use Rattle.coding.specs.Settings.{settingLength}
 use Rattle.board_header.specs.Calls.{callRefused}
 use borrow.Author.Needs.{needs}

@@ -9,9 +9,9 @@ use lib.Dec.{eqb}
 use lib.ListN.{getD}
 use Rattle.bits.specs.Fields.{Fit}
 use Rattle.bits.proofs.Laws.{fit-of}
-use Rattle.header.specs.Layout.{syncByte}
-use Rattle.header.specs.Header.{startValue}
-use Rattle.header.proofs.Packet.{differs, agrees, sync-byte, header-pid}
+use Rattle.layout.specs.Layout.{syncByte}
+use Rattle.layout.specs.Header.{startValue}
+use Rattle.layout.proofs.Packet.{differs, agrees, sync-byte, header-pid}
 use Rattle.packet.specs.Packets.{unfit}
 use Rattle.packet.proofs.is_unfit.Statement.{statement}
 use Rattle.packet.proofs.is_unfit.Tie as tie

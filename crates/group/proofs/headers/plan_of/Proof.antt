@@ -23,7 +23,7 @@ use Rattle.group.proofs.headers.refused.Reads as refused-reads
 use Rattle.group.proofs.headers.seen.Reads as seen-reads
 use Rattle.group.proofs.headers.shown_by.Reads as shown-by-reads
 use Rattle.group.proofs.headers.standing_refusal.Reads as standing-refusal-reads
-use Rattle.header.proofs.read.Reads as read-reads
+use Rattle.header_reader.proofs.read.Reads as read-reads
 use Rattle.setting.proofs.Setting.blank.Reads as blank-reads
 
 abbrev Inv-loop : tie.InvT-loop

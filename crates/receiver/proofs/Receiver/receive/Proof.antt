@@ -3,8 +3,8 @@ use mathlib.Core.Path.{_≡_, sym, ap, _∙_}
 use mathlib.Core.Bool.{true}
 use borrow.Author.Needs.{needs}
 use lib.ListN.{length}
-use Rattle.header.specs.declared.Reading.{Reading}
-use Rattle.header.specs.Header.{readRefusal}
+use Rattle.header_reader.specs.declared.Reading.{Reading}
+use Rattle.header_reader.specs.Reader.{readRefusal}
 use Rattle.packet.specs.Packets.{unfit}
 use Rattle.receiver.specs.Receiving.{receiveRefusal}
 use Rattle.receiver.proofs.ReceiverChecks.{whole-packet, whole-store}

@@ -1,0 +1,2 @@
+-- The header's reader: what it answers.
+pub mod Reader

@@ -1,0 +1,73 @@
+-- `write_private` meets its contract, by the kind. Assumes nothing.
+use mathlib.Core.Path.{_≡_, sym, ap, subst, _∙_}
+use mathlib.Core.List.{append-nil}
+use lib.ListN.{length}
+use Rattle.bits.specs.Fields.{run}
+use Rattle.setting.specs.declared.Kind.{Kind}
+use Rattle.setting.specs.Setting.{privateBytes}
+use Rattle.rules.specs.Refusal.{firstOf}
+use Rattle.rules.specs.Rules.{bondingChecks}
+use Rattle.layout.specs.Rows.{pack}
+use Rattle.layout.specs.Layout.{privateRows}
+use Rattle.layout.specs.Header.{privateContent}
+use Rattle.layout.proofs.Private.{copied-all}
+use borrow.Author.Needs.{needs}
+use Rattle.header_writer.proofs.writer.write_private.Statement.{statement}
+use Rattle.header_writer.proofs.writer.write_private.Tie as tie
+
+privates : (c : tie.Start) → length (c .args .s .«private_data») ≡ privateBytes
+privates c = search needs
+
+enum-told : tie.Need-enum-told
+enum-told c = search needs
+
+slice-aggregate-copy : tie.Need-slice-aggregate-copy
+slice-aggregate-copy c = search needs
+
+copy-requires : tie.Need-copy-requires
+copy-requires c κs = search needs
+
+enum-told-2 : tie.Need-enum-told-2
+enum-told-2 c = search needs
+
+write-extended-requires : tie.Need-write-extended-requires
+write-extended-requires c κs =
+    let start = c .before .before .before .before in
+    (start .pre .0, subst (λ (k : Kind). firstOf (bondingChecks k (start .args .s)) ≡ 0) (c .before .enum-told2 .given .1) (start .pre .1))
+
+same-length : tie.Need-same-length
+same-length c = search needs
+
+returns : tie.Need-returns
+unfolding pack privateRows privateContent
+returns c =
+    let copied = c .before .before in
+    let told = copied .before .before .before .before in
+    let start = told .before .before .before in
+    let s = start .args .s in
+    ap (run 8) (copied .copy .ensures ∙ copied-all (start .args .part .now) (s .«private_data») (start .pre .0 ∙ sym (privates start)))
+    ∙ sym (ap (λ (k : Kind). pack (privateRows k) (privateContent k s)) (told .enum-told .given .1) ∙ append-nil (run 8 (s .«private_data»)))
+
+same-length-2 : tie.Need-same-length-2
+same-length-2 c = search needs
+
+returns-2 : tie.Need-returns-2
+returns-2 c =
+    let call = c .before .before in
+    let told = call .before .before in
+    let s = told .before .before .before .args .s in
+    call .write-extended .ensures ∙ sym (ap (λ (k : Kind). pack (privateRows k) (privateContent k s)) (told .enum-told2 .given .1))
+
+pub write-private-spec : {M : Type 1} → statement M
+write-private-spec =
+    tie.close
+    (tie.spec
+    enum-told
+    slice-aggregate-copy
+    copy-requires
+    enum-told-2
+    write-extended-requires
+    same-length
+    returns
+    same-length-2
+    returns-2)

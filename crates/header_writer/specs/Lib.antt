@@ -1,0 +1,2 @@
+-- The header's writer: what it answers, and what it leaves.
+pub mod Writing

@@ -1,0 +1,44 @@
+// Runs of values of a few bits each, packed highest bit first.
+ghost use mathlib.Core.Path.{_≡_};
+ghost use mathlib.Core.List.{_++_};
+ghost use Prim.Native.Nat.{_*_, _/_, _%_, _≤_};
+ghost use lib.ListN.{length};
+ghost use Rattle.bits.specs.Fields.{Fit, bitsOf, run};
+
+// Packs values of `width` bits into `part`, which has room for their whole bytes. Answers what is left: bits that do
+// not fill a byte, in the answer's low end.
+pub(crate) fn write_run(part: &mut [u8], values: &[u8], width: u32) -> u32
+    requires { ⌜ width ≤ 8 ⌝ }
+    requires { ⌜ Fit width (now values) ⌝ }
+    requires { ⌜ length (now part) ≡ length (now values) * width / 8 ⌝ }
+    ensures { λ r. ⌜ run 8 (now (part .exit)) ++ bitsOf (length (now (values .entry)) * width % 8) r ≡ run width (now (values .entry)) ⌝ }
+{
+    let mut held: u32 = 0;
+    let mut bits: u32 = 0;
+    let mut at = 0;
+    let mut i = 0;
+    while i < values.len() {
+        held = ((held % 256) << width) + values[i] as u32;
+        bits += width;
+        if 8 <= bits {
+            bits -= 8;
+            part[at] = ((held >> bits) % 256) as u8;
+            at += 1;
+        }
+        i += 1;
+    }
+    held
+}
+
+// Packs values of 4 bits, two a byte: what `write_run` does for this width, many bytes at a time.
+pub(crate) fn write_halves(part: &mut [u8], values: &[u8])
+    requires { ⌜ Fit 4 (now values) ⌝ }
+    requires { ⌜ length (now values) ≡ 2 * length (now part) ⌝ }
+    ensures { λ _. ⌜ run 8 (now (part .exit)) ≡ run 4 (now (values .entry)) ⌝ }
+{
+    let mut k = 0;
+    while k < part.len() {
+        part[k] = values[2 * k] * 16 + values[2 * k + 1];
+        k += 1;
+    }
+}

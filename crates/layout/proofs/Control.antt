@@ -1,0 +1,42 @@
+-- The control information, as byte-wise code writes it. Assumes nothing.
+use Prim.Native.Nat.{ℕ, _+_, _*_, _%_, _^_, _≤_, _<_}
+use mathlib.Core.Path.{_≡_, sym, ap, ap₂, _∙_}
+use mathlib.Core.List.{List, [], _∷_, _++_, append-assoc, append-nil}
+use native.Mathlib.Omega.{arith}
+use lib.Dec.{lit<}
+use lib.ListN.{length, drop, set, getD}
+use lib.Seq.{drop-cons, set-at}
+use lib.ListN.{drop-of-length-le}
+use Rattle.bits.specs.Fields.{bitsOf, run}
+use Rattle.bits.proofs.Laws.{run-append, run-one, bitsOf-join, bitsOf-mod}
+use Rattle.setting.specs.declared.Setting.{Setting}
+use Rattle.layout.specs.Rows.{pack}
+use Rattle.layout.specs.Layout.{controlRows}
+use Rattle.layout.specs.Header.{controlContent}
+
+-- the last byte: six bits of statuses, the emergency bit and a reserved one
+last-byte : (left e : ℕ) → e < 2 → bitsOf 8 (left % 64 * 4 + e * 2 + 1) ≡ bitsOf 6 left ++ (bitsOf 1 e ++ bitsOf 1 1)
+last-byte left e h =
+    ap (bitsOf 8) (omega arith)
+    ∙ sym (bitsOf-join 7 1 (left % 64 * 2 ^ 1 + e) (lit< tt)) ∙ ap (λ (l : List ℕ). l ++ bitsOf 1 1) (sym (bitsOf-join 6 1 (left % 64) h))
+    ∙ append-assoc (bitsOf 6 (left % 64)) (bitsOf 1 e) (bitsOf 1 1) ∙ ap (λ (l : List ℕ). l ++ (bitsOf 1 e ++ bitsOf 1 1)) (bitsOf-mod 6 0 left)
+
+-- one store behind three bytes, of four
+behind : (ys l : List ℕ) (b : ℕ) → length ys ≡ 3 → length l ≡ 4 → set (ys ++ drop 3 l) 3 b ≡ ys ++ (b ∷ [])
+behind ys l b e f =
+    let room : 3 < length l = omega arith in
+    let whole : length l ≤ 4 = omega arith in
+    ap (λ (r : List ℕ). set (ys ++ r) 3 b) (drop-cons l 3 0 room) ∙ set-at ys (getD l 3 0) (drop 4 l) b 3 e
+    ∙ ap (λ (r : List ℕ). ys ++ (b ∷ r)) (drop-of-length-le l whole)
+
+pub control-bits : (s : Setting) (ys l : List ℕ) (left : ℕ) → length ys ≡ 3 → length l ≡ 4 → s .«emergency_indicator» < 2
+    → run 8 ys ++ bitsOf 6 left ≡ run 2 (s .«receive_status»)
+    → run 8 (set (ys ++ drop 3 l) 3 (left % 64 * 4 + s .«emergency_indicator» * 2 + 1)) ≡ pack controlRows (controlContent s)
+unfolding pack controlRows controlContent
+control-bits s ys l left e f h same =
+    let em = s .«emergency_indicator» in
+    let b = left % 64 * 4 + em * 2 + 1 in
+    ap (run 8) (behind ys l b e f) ∙ run-append 8 ys (b ∷ []) ∙ ap (λ (r : List ℕ). run 8 ys ++ r) (run-one 8 b ∙ last-byte left em h)
+    ∙ sym (append-assoc (run 8 ys) (bitsOf 6 left) (bitsOf 1 em ++ bitsOf 1 1))
+    ∙ ap₂ (λ (x y : List ℕ). x ++ y) same
+    (ap₂ (λ (x y : List ℕ). x ++ y) (sym (run-one 1 em)) (sym (append-nil (run 1 (1 ∷ [])) ∙ run-one 1 1)))

@@ -1,0 +1,16 @@
+pub mod Body
+pub mod Bytes
+pub mod Calls
+pub mod Content
+pub mod Control
+pub mod Cut
+pub mod Halves
+pub mod Identifiers
+pub mod LaidOut
+pub mod Packet
+pub mod Private
+pub mod Rows
+pub mod Runs
+pub mod Said
+pub mod Start
+pub mod Whole

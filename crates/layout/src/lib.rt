@@ -1,0 +1,26 @@
+// J.183's header layout: where the header's parts start, in bytes, by the formulas over the counts.
+// What stands in them is said in specs/, and what the writer's and the reader's proofs need of it is proved in proofs/.
+use setting::AUXILIARY_BYTES;
+use setting::PRIVATE_BYTES;
+use setting::SLOTS;
+use setting::STREAMS;
+
+pub const HEADER_LENGTH: usize = 188;
+// The CRC runs from here on.
+pub const TSMF_SYNC: usize = 4;
+
+pub const IDENTIFIERS: usize = 9;
+
+pub const CONTROL: usize = IDENTIFIERS + 4 * STREAMS;
+// The last byte of the control information, which holds the rest of the statuses, the emergency bit and a reserved one.
+pub const CONTROL_LAST: usize = STREAMS * 2 / 8;
+
+pub const NUMBERS: usize = CONTROL + CONTROL_LAST + 1;
+
+pub const PRIVATE: usize = NUMBERS + SLOTS * 4 / 8;
+// Of an extended header: group_id, number_of_carriers, carrier_sequence, then number_of_frames and frame_position.
+pub const BONDING: usize = PRIVATE + AUXILIARY_BYTES;
+
+pub const BONDING_BYTES: usize = 4;
+
+pub const CRC: usize = PRIVATE + PRIVATE_BYTES;
