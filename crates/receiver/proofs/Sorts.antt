@@ -1,7 +1,7 @@
 -- What sort of packet comes, by whether it may stand in a slot and what the reader says of it. Assumes nothing.
 use Prim.Native.Nat.{ℕ}
 use mathlib.Core.Path.{_≡_, refl, sym, ap, _∙_}
-use mathlib.Core.Bool.{Bool, true, false, not, true≢false}
+use mathlib.Core.Bool.{Bool, true, false, cond, not, true≢false}
 use mathlib.Core.List.{List, [], _∷_}
 use borrow.Author.Tests.{eq-eqb, ne-eqb}
 use lib.Dec.{eqb}
@@ -16,7 +16,8 @@ use Rattle.header.specs.Header.{startValue, reading, readRefusal, readOf}
 use Rattle.header.proofs.Accepted.{shown}
 use Rattle.packet.specs.Packets.{packetLength, unfit, placeRefusal}
 use Rattle.receiver_table.specs.Table.{good, broken, other}
-use Rattle.receiver.specs.Arriving.{sortOf}
+use Rattle.receiver_table.specs.declared.Stage.{Stage}
+use Rattle.receiver.specs.Arriving.{sortOf, storeAfter}
 
 -- ---- by what the reader says
 
@@ -30,6 +31,11 @@ pub not-good : (kind : Kind) (pid : ℕ) (p : List ℕ) → unfit pid p ≡ fals
 unfolding unfit
 not-good kind pid p e r =
     true≢false (sym (eq-eqb (startValue p 2) pid (bears-pid kind pid p r)) ∙ neither (not (eqb (startValue p 0) syncByte)) (eqb (startValue p 2) pid) e .1)
+
+no-other : (b : Bool) (stage : Stage) (p store : List ℕ) → storeAfter stage (cond b good broken) p store ≡ store
+unfolding storeAfter
+no-other true stage p store = refl
+no-other false stage p store = refl
 
 module _ (kind : Kind) (pid : ℕ) (p : List ℕ) where
   pub other-sort : unfit pid p ≡ false → sortOf kind pid p ≡ other
@@ -52,3 +58,8 @@ module _ (kind : Kind) (pid : ℕ) (p : List ℕ) where
   pub read-setting : readRefusal kind pid p ≡ 0 → readOf kind pid p .setting ≡ reading kind p
   unfolding readOf
   read-setting r = rw (eq-eqb (readRefusal kind pid p) 0 r)
+
+  -- a packet that may stand in no slot is not stored
+  pub not-stored : unfit pid p ≡ true → (stage : Stage) (store : List ℕ) → storeAfter stage (sortOf kind pid p) p store ≡ store
+  unfolding sortOf
+  not-stored u stage store = rw u (no-other (eqb (readRefusal kind pid p) 0) stage p store)

@@ -1,0 +1,106 @@
+-- `hand_out_in_place` meets its contract: it is refused, or the packets stand at the front of the buffer. Assumes nothing.
+use Prim.Native.Nat.{ℕ}
+use mathlib.Core.Path.{_≡_, sym, ap, _∙_}
+use mathlib.Core.List.{List}
+use borrow.Author.Needs.{needs}
+use lib.ListN.{length, take, drop}
+use Rattle.slices.specs.Slices.{over}
+use Rattle.setting.specs.declared.Kind.{Kind}
+use Rattle.counters.specs.Counters.{lastSlot}
+use Rattle.receiver.specs.declared.Receiver.{Receiver}
+use Rattle.receiver.specs.Store.{numbered, slotsFor}
+use Rattle.receiver.specs.Receiving.{handOutRefusal}
+use Rattle.receiver.specs.InPlace.{receiverWith}
+use Rattle.receiver.proofs.Parted.{behind-first}
+use Rattle.receiver.proofs.ReceiverChecks.{handed-store, handed-room}
+use Rattle.receiver.proofs.Receipts.{refused-frame, refused-buffer, handed-frame, handed-buffer}
+use Rattle.receiver.proofs.Steps.{no-frame, hands}
+use Rattle.receiver.proofs.hand_out_in_place.Statement.{statement}
+use Rattle.receiver.proofs.hand_out_in_place.Tie as tie
+
+abbrev start : tie.Else1 → tie.Start
+start c = c .before .before .before .before
+
+-- the receiver
+abbrev of : tie.Start → Receiver
+of c = receiverWith (c .args .pid) Kind.Plain (c .args .stage) (c .args .numbers .now)
+
+accepted : (c : tie.Else2)
+    → handOutRefusal (of (start (c .before .before))) (start (c .before .before) .args .r .0) (length (start (c .before .before) .args .store .now)) (length (start (c .before .before) .args .out .now)) ≡ 0
+accepted c = sym (c .before .hand-out-refusal .ensures) ∙ c .if2 .left
+
+-- the numbers of the frame before
+part : (c : tie.Else2) → take lastSlot (drop lastSlot (start (c .before .before) .args .numbers .now)) ≡ drop lastSlot (start (c .before .before) .args .numbers .now)
+part c = behind-first (start (c .before .before) .args .numbers .now) (c .before .before .if1 .left)
+
+returns : tie.Need-returns
+returns c =
+    let a = c .before .before .before .before .args in
+    no-frame (a .pid) (a .stage) (a .numbers .now) (a .r .0) (a .store .now) (a .out .now) (c .if1 .taken)
+
+hand-out-refusal-requires : tie.Need-hand-out-refusal-requires
+hand-out-refusal-requires c κs = search needs
+
+returns-2 : tie.Need-returns-2
+returns-2 c =
+    let call = c .before in
+    let k = call .before in
+    let s = start k in
+    let a = s .args in
+    let n = call .hand-out-refusal .ensures in
+    hands (a .pid) (a .stage) (a .numbers .now) (a .r .0) (a .store .now) (a .out .now) (k .if1 .left)
+    (refused-frame (of s) (a .r .0) (a .store .now) (a .out .now) n (c .if2 .taken))
+    (refused-buffer (of s) (a .r .0) (a .store .now) (a .out .now) n (c .if2 .taken))
+
+sub-before : tie.Need-sub-before
+sub-before c = search needs
+
+part-before-start : tie.Need-part-before-start
+part-before-start c = search needs
+
+part-before-end : tie.Need-part-before-end
+part-before-end c = search needs
+
+copy-numbered-requires : tie.Need-copy-numbered-requires
+unfolding receiverWith
+copy-numbered-requires c κs =
+    let k = c .before .before in
+    let s = start (k .before .before) in
+    let r = s .args .r .0 in (
+      (search needs, handed-store (of s) r _ _ (accepted k)),
+      rw (part k) (handed-room (of s) r _ _ (accepted k)),
+    )
+
+count-requires : tie.Need-count-requires
+count-requires c κs = search needs
+
+same-length : tie.Need-same-length
+same-length c = search needs
+
+returns-3 : tie.Need-returns-3
+unfolding receiverWith
+returns-3 c =
+    let call = c .before .before .before in
+    let k = call .before .before .before in
+    let s = start (k .before .before) in
+    let a = s .args in
+    hands (a .pid) (a .stage) (a .numbers .now) (a .r .0) (a .store .now) (a .out .now) (k .before .before .if1 .left)
+    (handed-frame (of s) (a .r .0) (a .store .now) (a .out .now) (accepted k) (c .count .ensures ∙ ap (slotsFor (a .r .0)) (part k)))
+    (call .copy-numbered .ensures
+    ∙ ap (λ (l : List ℕ). over 0 (numbered (a .r .0) l (a .store .now)) (a .out .now)) (part k)
+    ∙ handed-buffer (of s) (a .r .0) (a .store .now) (a .out .now) (accepted k))
+
+pub hand-out-in-place-spec : {M : Type 1} → statement M
+hand-out-in-place-spec =
+    tie.close
+    (tie.spec
+    returns
+    hand-out-refusal-requires
+    returns-2
+    sub-before
+    part-before-start
+    part-before-end
+    copy-numbered-requires
+    count-requires
+    same-length
+    returns-3)
