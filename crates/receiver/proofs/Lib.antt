@@ -1,5 +1,6 @@
 mod Arrived
 pub mod Handing
+pub mod Lent
 mod Own
 mod Parted
 mod Receipts

@@ -2,10 +2,10 @@
 use crate::NUMBERS_BYTES;
 use crate::STORE_BYTES;
 use crate::numbered;
-use receiver_table::Stage;
-use packet::PACKET_BYTES;
-use setting::SLOTS;
 use counters::RelativeNumber;
+use packet::PACKET_BYTES;
+use receiver_table::Stage;
+use setting::SLOTS;
 use setting::limits;
 ghost use mathlib.Core.Path.{_≡_};
 ghost use Rattle.rules.specs.Refusal.{firstOf};

@@ -4,13 +4,13 @@ mod checks;
 mod halves;
 mod numbered;
 
-use packet::PACKET_BYTES;
-use setting::Kind;
-use setting::SLOTS;
 use counters::RelativeNumber;
+use packet::PACKET_BYTES;
 use receiver_table::Event;
 use receiver_table::Row;
 use receiver_table::Stage;
+use setting::Kind;
+use setting::SLOTS;
 ghost use mathlib.Core.Path.{_≡_};
 ghost use mathlib.Core.Bool.{true};
 ghost use lib.ListN.{length};
@@ -112,13 +112,7 @@ fn accepted(row: Row) -> Step
 }
 
 // Takes a packet that may stand in no slot: a header, whose numbers are the open frame's now, or a broken one.
-fn take_header(
-    pid: u16,
-    kind: Kind,
-    stage: Stage,
-    numbers: &mut [u8],
-    packet: &[u8],
-) -> Step
+fn take_header(pid: u16, kind: Kind, stage: Stage, numbers: &mut [u8], packet: &[u8]) -> Step
     requires { ⌜ (length (now numbers) ≡ numbersLength) × (unfit pid (now packet) ≡ true) ⌝ }
     requires { ⌜ receiveRefusal (receiverWith pid kind stage (now numbers)) (length (now packet)) storeLength ≡ 0 ⌝ }
     ensures { λ r. ⌜ r ≡ stepOf (receiveOf (receiverWith pid kind stage (now (numbers .entry))) (now (packet .entry)) storeLength) ⌝ }

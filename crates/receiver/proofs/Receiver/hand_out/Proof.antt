@@ -5,8 +5,9 @@ use mathlib.Core.List.{List}
 use borrow.Author.Needs.{needs}
 use lib.ListN.{length}
 use Rattle.counters.specs.Counters.{lastSlot}
-use Rattle.receiver.specs.InPlace.{handOutWith, handOutInto}
-use Rattle.receiver.proofs.Own.{own-frame, own-buffer}
+use Rattle.receiver.specs.InPlace.{numbersOf, handOutWith, handOutInto}
+use Rattle.receiver.proofs.Lent.{lent-frame, lent-buffer}
+use Rattle.receiver.proofs.Own.{long, own}
 use Rattle.receiver.proofs.Receiver.hand_out.Statement.{statement}
 use Rattle.receiver.proofs.Receiver.hand_out.Tie as tie
 
@@ -31,13 +32,15 @@ returns c =
     let lent = call .before .before .before in
     let s = lent .before .before .before in
     let a = s .args in
-    let self = a .self in (
+    let self = a .self in
+    let l = long self (slots s .0) (slots s .1) in
+    let w = own self (slots s .0) (slots s .1) in (
       call .hand-out-in-place .ensures .0
           ∙ ap (λ (l : List ℕ). handOutWith (self .pid) (self .stage) l (a .r .0) (length (a .store .now)) (length (a .out .now))) (lent .numbers-of .ensures)
-          ∙ own-frame self (slots s .0) (slots s .1) (a .r .0) (length (a .store .now)) (length (a .out .now)),
+          ∙ lent-frame self (numbersOf self) l w (a .r .0) (length (a .store .now)) (length (a .out .now)),
       call .hand-out-in-place .ensures .1
           ∙ ap (λ (l : List ℕ). handOutInto (self .pid) (self .stage) l (a .r .0) (a .store .now) (a .out .now)) (lent .numbers-of .ensures)
-          ∙ own-buffer self (slots s .0) (slots s .1) (a .r .0) (a .store .now) (a .out .now),
+          ∙ lent-buffer self (numbersOf self) l w (a .r .0) (a .store .now) (a .out .now),
     )
 
 pub hand-out-spec : {M : Type 1} → statement M

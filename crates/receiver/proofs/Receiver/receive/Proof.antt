@@ -5,8 +5,9 @@ use mathlib.Core.List.{List}
 use borrow.Author.Needs.{needs}
 use lib.ListN.{length}
 use Rattle.counters.specs.Counters.{lastSlot}
-use Rattle.receiver.specs.InPlace.{numbersLength, receiveStep, receiveNumbers, receiveInto}
-use Rattle.receiver.proofs.Own.{own-receipt, own-store}
+use Rattle.receiver.specs.InPlace.{numbersLength, numbersOf, receiveStep, receiveNumbers, receiveInto}
+use Rattle.receiver.proofs.Lent.{lent-store}
+use Rattle.receiver.proofs.Own.{long, own, own-receipt}
 use Rattle.receiver.proofs.Receiver.receive.Statement.{statement}
 use Rattle.receiver.proofs.Receiver.receive.Tie as tie
 
@@ -59,7 +60,7 @@ returns c =
           (c .half2 .ensures),
       call .receive-in-place .ensures .1 .1
           ∙ ap (λ (l : List ℕ). receiveInto (self .pid) (self .kind) (self .stage) l p (a .store .now)) e
-          ∙ own-store self (slots s .0) (slots s .1) p (a .store .now),
+          ∙ lent-store self (numbersOf self) (long self (slots s .0) (slots s .1)) (own self (slots s .0) (slots s .1)) p (a .store .now),
     )
 
 pub receive-spec : {M : Type 1} → statement M
