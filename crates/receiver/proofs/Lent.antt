@@ -1,6 +1,6 @@
 -- A receiver whose numbers are lent: each call over them is the receiver's own, of which the PID and the kind stay. Assumes nothing.
 use Prim.Native.Nat.{ℕ}
-use mathlib.Core.Path.{_≡_, refl, ap}
+use mathlib.Core.Path.{_≡_, refl, ap, _∙_}
 use mathlib.Core.Bool.{Bool, true, false, cond}
 use mathlib.Core.List.{List}
 use borrow.Author.Tests.{eq-eqb}
@@ -12,6 +12,8 @@ use Rattle.receiver_table.specs.declared.Stage.{Stage}
 use Rattle.receiver_table.specs.Table.{Sort, good, broken, other}
 use Rattle.receiver.specs.declared.Receiver.{Receiver}
 use Rattle.receiver.specs.declared.Received.{Received}
+use Rattle.receiver.specs.declared.HandedOut.{HandedOut}
+use Rattle.receiver.specs.declared.Step.{Step}
 use Rattle.receiver.specs.Receiving.{moved, renumbered, receiverAfter, receiverChecks, receiveRefusal, receiveOf, receiveStore, handOutRefusal, handOutOf, handOutBuffer}
 use Rattle.receiver.specs.InPlace.{numbersLength, receiverWith, numbersOf, stepOf, receiveStep, receiveNumbers, receiveInto, handOutWith, handOutInto}
 
@@ -23,27 +25,34 @@ numbers-with pid kind stage numbers = take-append-drop lastSlot numbers
 -- ---- the calls
 
 module _ (c : Receiver) (numbers : List ℕ) (l : length numbers ≡ numbersLength) (own : receiverWith (c .pid) (c .kind) (c .stage) numbers ≡ c) where
-  pub lent-step : (p : List ℕ) (store : ℕ) → receiveStep (c .pid) (c .kind) (c .stage) numbers p store ≡ stepOf (receiveOf c p store)
+  pub lent-step : (p : List ℕ) (store : ℕ) {step : Step} → step ≡ receiveStep (c .pid) (c .kind) (c .stage) numbers p store → step ≡ stepOf (receiveOf c p store)
   unfolding receiveStep
-  lent-step p store = rw (eq-eqb (length numbers) numbersLength l, own) refl
+  lent-step p store e = rw (eq-eqb (length numbers) numbersLength l, own) at e
 
-  pub lent-numbers : (p : List ℕ) (store : ℕ) → receiveNumbers (c .pid) (c .kind) (c .stage) numbers p store ≡ numbersOf (receiveOf c p store .state)
+  pub lent-numbers : (p : List ℕ) (store : ℕ) {after : List ℕ} → after ≡ receiveNumbers (c .pid) (c .kind) (c .stage) numbers p store
+      → after ≡ numbersOf (receiveOf c p store .state)
   unfolding receiveNumbers
-  lent-numbers p store = rw (eq-eqb (length numbers) numbersLength l, own) refl
+  lent-numbers p store e = rw (eq-eqb (length numbers) numbersLength l, own) at e
 
-  pub lent-store : (p store : List ℕ) → receiveInto (c .pid) (c .kind) (c .stage) numbers p store ≡ receiveStore c p store
+  pub lent-store : (p store : List ℕ) {memory : List ℕ} → memory ≡ receiveInto (c .pid) (c .kind) (c .stage) numbers p store → memory ≡ receiveStore c p store
   unfolding receiveInto
-  lent-store p store = rw (eq-eqb (length numbers) numbersLength l, own) refl
+  lent-store p store e = rw (eq-eqb (length numbers) numbersLength l, own) at e
 
   module _ (r : ℕ) where
     -- the kind does not matter where a frame is handed out
-    pub lent-frame : (store out : ℕ) → handOutWith (c .pid) (c .stage) numbers r store out ≡ handOutOf c r store out
+    frame : (store out : ℕ) → handOutWith (c .pid) (c .stage) numbers r store out ≡ handOutOf c r store out
     unfolding handOutWith handOutOf handOutRefusal receiverChecks receiverWith
-    lent-frame store out = rw (eq-eqb (length numbers) numbersLength l) (ap (λ (d : Receiver). handOutOf d r store out) own)
+    frame store out = rw (eq-eqb (length numbers) numbersLength l) (ap (λ (d : Receiver). handOutOf d r store out) own)
 
-    pub lent-buffer : (store out : List ℕ) → handOutInto (c .pid) (c .stage) numbers r store out ≡ handOutBuffer c r store out
+    buffer : (store out : List ℕ) → handOutInto (c .pid) (c .stage) numbers r store out ≡ handOutBuffer c r store out
     unfolding handOutInto handOutBuffer handOutRefusal receiverChecks receiverWith
-    lent-buffer store out = rw (eq-eqb (length numbers) numbersLength l) (ap (λ (d : Receiver). handOutBuffer d r store out) own)
+    buffer store out = rw (eq-eqb (length numbers) numbersLength l) (ap (λ (d : Receiver). handOutBuffer d r store out) own)
+
+    pub lent-frame : (store out : ℕ) {handed : HandedOut} → handed ≡ handOutWith (c .pid) (c .stage) numbers r store out → handed ≡ handOutOf c r store out
+    lent-frame store out e = e ∙ frame store out
+
+    pub lent-buffer : (store out : List ℕ) {after : List ℕ} → after ≡ handOutInto (c .pid) (c .stage) numbers r store out → after ≡ handOutBuffer c r store out
+    lent-buffer store out e = e ∙ buffer store out
 
 -- ---- what no receipt changes, and how many numbers there are then by the header before
 

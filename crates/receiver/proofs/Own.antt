@@ -20,18 +20,18 @@ rebuilt : (s : Receiver) {pid : ℕ} {kind : Kind} {stage : Stage} {numbers befo
     → record { pid = pid; kind = kind; stage = stage; numbers = numbers; before = before } ≡ s
 rebuilt s p k g n b = rw (sym p, sym k, sym g, sym n, sym b) refl
 
-module _ (c : Receiver) (m : length (c .numbers) ≡ lastSlot) (n : length (c .before) ≡ lastSlot) where
-  pub long : length (numbersOf c) ≡ numbersLength
+module _ (c : Receiver) (m : length (c .numbers) ≡ lastSlot) (n : length (c .before) ≡ lastSlot) {numbers : List ℕ} (e : numbers ≡ numbersOf c) where
+  pub long : length numbers ≡ numbersLength
   unfolding numbersOf
-  long = length-append (c .numbers) (c .before) ∙ ap₂ _+_ m n
+  long = ap length e ∙ length-append (c .numbers) (c .before) ∙ ap₂ _+_ m n
 
-  pub own : receiverWith (c .pid) (c .kind) (c .stage) (numbersOf c) ≡ c
+  pub own : receiverWith (c .pid) (c .kind) (c .stage) numbers ≡ c
   unfolding receiverWith numbersOf
-  own = rw (take-at (c .numbers) (c .before) lastSlot m, drop-at (c .numbers) (c .before) lastSlot m) refl
+  own = rw (e, take-at (c .numbers) (c .before) lastSlot m, drop-at (c .numbers) (c .before) lastSlot m) refl
 
   pub own-receipt : (p : List ℕ) (store : ℕ) {step : Step} {after opened before : List ℕ}
-      → step ≡ receiveStep (c .pid) (c .kind) (c .stage) (numbersOf c) p store
-      → after ≡ receiveNumbers (c .pid) (c .kind) (c .stage) (numbersOf c) p store
+      → step ≡ receiveStep (c .pid) (c .kind) (c .stage) numbers p store
+      → after ≡ receiveNumbers (c .pid) (c .kind) (c .stage) numbers p store
       → length after ≡ numbersLength
       → opened ≡ take lastSlot (drop 0 after)
       → before ≡ take lastSlot (drop lastSlot after)
@@ -45,8 +45,8 @@ module _ (c : Receiver) (m : length (c .numbers) ≡ lastSlot) (n : length (c .b
   own-receipt p store {step} {after} s a l f g =
       let r = receiveOf c p store in
       let kept = keeps c p store in
-      let answered : step ≡ stepOf r = s ∙ lent-step c (numbersOf c) long own p store in
-      let left : after ≡ r .state .numbers ++ r .state .before = a ∙ lent-numbers c (numbersOf c) long own p store in
+      let answered : step ≡ stepOf r = lent-step c numbers long own p store s in
+      let left : after ≡ r .state .numbers ++ r .state .before = lent-numbers c numbers long own p store a in
       let second : length (r .state .before) ≡ lastSlot = kept .before m n in
       let both : length (r .state .numbers) + length (r .state .before) ≡ numbersLength = sym (length-append (r .state .numbers) (r .state .before)) ∙ sym (ap length left) ∙ l in
       let first : length (r .state .numbers) ≡ lastSlot = omega (arith, both, second) in

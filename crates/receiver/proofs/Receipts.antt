@@ -71,9 +71,9 @@ module _ (c : Receiver) (p store : List ℕ) where
   refused-store e h = kept e _ store h
 
   module _ (e : receiveRefusal c (length p) (length store) ≡ 0) where
-    pub other-store : sortOf (c .kind) (c .pid) p ≡ other → storeAfter (c .stage) other p store ≡ receiveStore c p store
+    pub other-store : sortOf (c .kind) (c .pid) p ≡ other → {after : List ℕ} → after ≡ storeAfter (c .stage) other p store → after ≡ receiveStore c p store
     unfolding receiveStore
-    other-store s = sym (ap (λ (t : Sort). storeAfter (c .stage) t p store) s) ∙ written refl _ store e
+    other-store s a = a ∙ sym (ap (λ (t : Sort). storeAfter (c .stage) t p store) s) ∙ written refl _ store e
 
     -- a packet that may stand in no slot
     pub unfit-store : unfit (c .pid) p ≡ true → store ≡ receiveStore c p store
@@ -96,10 +96,11 @@ module _ (c : Receiver) (r : ℕ) (store out : List ℕ) where
     refused-buffer = kept e _ out h
 
   module _ (e : handing ≡ 0) where
-    pub handed-frame : {k : ℕ} → k ≡ slotsFor r (c .before) → record { refusal = 0; packets = k } ≡ handOutOf c r (length store) (length out)
-    unfolding handOutOf
-    handed-frame k = rw (e, k) refl
+    module _ {before : List ℕ} (b : before ≡ c .before) where
+      pub handed-frame : {k : ℕ} → k ≡ slotsFor r before → record { refusal = 0; packets = k } ≡ handOutOf c r (length store) (length out)
+      unfolding handOutOf
+      handed-frame k = rw (e, k, b) refl
 
-    pub handed-buffer : over 0 (numbered r (c .before) store) out ≡ handOutBuffer c r store out
-    unfolding handOutBuffer
-    handed-buffer = written refl _ out e
+      pub handed-buffer : {after : List ℕ} → after ≡ over 0 (numbered r before store) out → after ≡ handOutBuffer c r store out
+      unfolding handOutBuffer
+      handed-buffer a = a ∙ ap (λ (l : List ℕ). over 0 (numbered r l store) out) b ∙ written refl _ out e

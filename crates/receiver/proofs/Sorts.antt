@@ -10,6 +10,7 @@ use Rattle.slices.proofs.Any.{neither}
 use Rattle.setting.specs.declared.Kind.{Kind}
 use Rattle.rules.specs.Refusal.{none, more}
 use Rattle.rules.proofs.Refusals.{first-none, none-first, none-at}
+use Rattle.header.specs.declared.Reading.{Reading}
 use Rattle.header.specs.Rows.{place, rowAt}
 use Rattle.header.specs.Layout.{syncByte, startRows, identifierRows, controlRows, numberRows, privateRows, layout}
 use Rattle.header.specs.Header.{startValue, reading, readRefusal, readOf}
@@ -51,13 +52,14 @@ module _ (kind : Kind) (pid : ℕ) (p : List ℕ) where
   good-sort r = rw (eq-eqb (readRefusal kind pid p) 0 r)
 
   -- what the reader says
-  pub read-refusal : readOf kind pid p .refusal ≡ readRefusal kind pid p
-  unfolding readOf
-  read-refusal = refl
+  module _ {r : Reading} (e : r ≡ readOf kind pid p) where
+    pub read-refusal : r .refusal ≡ readRefusal kind pid p
+    unfolding readOf
+    read-refusal = ap (λ (t : Reading). t .refusal) e
 
-  pub read-setting : readRefusal kind pid p ≡ 0 → readOf kind pid p .setting ≡ reading kind p
-  unfolding readOf
-  read-setting r = rw (eq-eqb (readRefusal kind pid p) 0 r)
+    pub read-setting : readRefusal kind pid p ≡ 0 → r .setting ≡ reading kind p
+    unfolding readOf
+    read-setting z = ap (λ (t : Reading). t .setting) e ∙ rw (eq-eqb (readRefusal kind pid p) 0 z) refl
 
   -- a packet that may stand in no slot is not stored
   pub not-stored : unfit pid p ≡ true → (stage : Stage) (store : List ℕ) → storeAfter stage (sortOf kind pid p) p store ≡ store

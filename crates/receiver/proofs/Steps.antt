@@ -41,10 +41,11 @@ module _ (pid : ℕ) (kind : Kind) (stage : Stage) (numbers p : List ℕ) where
       kept-step r = (s ∙ ap stepOf r, sym (take-append-drop lastSlot numbers) ∙ ap (λ (t : Received). numbersOf (t .state)) r)
 
       -- and one that takes what a header says
-      pub header-step : (said : Setting) → renumbering c p store row said ≡ receiveOf c p store → {after : List ℕ}
-          → after ≡ said .«relative_ts_number» ++ take lastSlot numbers → Steps step after
+      pub header-step : (said : Setting) → renumbering c p store row said ≡ receiveOf c p store → {before after : List ℕ}
+          → before ≡ take lastSlot numbers → after ≡ said .«relative_ts_number» ++ before → Steps step after
       unfolding stepOf numbersOf renumbered receiverWith
-      header-step said r a = (s ∙ ap stepOf r, a ∙ ap (λ (t : Received). numbersOf (t .state)) r)
+      header-step said r b a =
+          (s ∙ ap stepOf r, a ∙ ap (λ (l : List ℕ). said .«relative_ts_number» ++ l) b ∙ ap (λ (t : Received). numbersOf (t .state)) r)
 
   -- ---- the call
 

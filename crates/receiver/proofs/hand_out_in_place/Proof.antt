@@ -1,14 +1,10 @@
 -- `hand_out_in_place` meets its contract: it is refused, or the packets stand at the front of the buffer. Assumes nothing.
-use Prim.Native.Nat.{ℕ}
-use mathlib.Core.Path.{_≡_, sym, ap, _∙_}
-use mathlib.Core.List.{List}
+use mathlib.Core.Path.{_≡_, sym, _∙_}
 use borrow.Author.Needs.{needs}
 use lib.ListN.{length, take, drop}
-use Rattle.slices.specs.Slices.{over}
 use Rattle.setting.specs.declared.Kind.{Kind}
 use Rattle.counters.specs.Counters.{lastSlot}
 use Rattle.receiver.specs.declared.Receiver.{Receiver}
-use Rattle.receiver.specs.Store.{numbered, slotsFor}
 use Rattle.receiver.specs.Receiving.{handOutRefusal}
 use Rattle.receiver.specs.InPlace.{receiverWith}
 use Rattle.receiver.proofs.Parted.{behind-first}
@@ -85,10 +81,8 @@ returns-3 c =
     let s = start (k .before .before) in
     let a = s .args in
     hands (a .pid) (a .stage) (a .numbers .now) (a .r .0) (a .store .now) (a .out .now) (k .before .before .if1 .left)
-    (handed-frame (of s) (a .r .0) (a .store .now) (a .out .now) (accepted k) (c .count .ensures ∙ ap (slotsFor (a .r .0)) (part k)))
-    (call .copy-numbered .ensures
-    ∙ ap (λ (l : List ℕ). over 0 (numbered (a .r .0) l (a .store .now)) (a .out .now)) (part k)
-    ∙ handed-buffer (of s) (a .r .0) (a .store .now) (a .out .now) (accepted k))
+    (handed-frame (of s) (a .r .0) (a .store .now) (a .out .now) (accepted k) (part k) (c .count .ensures))
+    (handed-buffer (of s) (a .r .0) (a .store .now) (a .out .now) (accepted k) (part k) (call .copy-numbered .ensures))
 
 pub hand-out-in-place-spec : {M : Type 1} → statement M
 hand-out-in-place-spec =

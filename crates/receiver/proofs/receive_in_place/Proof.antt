@@ -98,7 +98,7 @@ returns-3 c =
     receives (a .pid) (a .kind) (a .stage) (a .numbers .now) (a .packet .now) (a .store .now) (k .before .before .before .if1 .left)
     (kept-step (a .pid) (a .kind) (a .stage) (a .numbers .now) (a .packet .now) _ (c .accepted .ensures)
     (other-receipt (of s) (a .packet .now) _ (accepted k) sort (row .other-row .ensures)))
-    (call .store-packet .ensures ∙ other-store (of s) (a .packet .now) (a .store .now) (accepted k) sort)
+    (other-store (of s) (a .packet .now) (a .store .now) (accepted k) sort (call .store-packet .ensures))
 
 take-header-requires : tie.Need-take-header-requires
 take-header-requires c κs =

@@ -1,11 +1,8 @@
 -- `take_header` meets its contract: the packet is broken, or a header. Assumes nothing.
-use Prim.Native.Nat.{ℕ}
-use mathlib.Core.Path.{_≡_, sym, ap, _∙_}
-use mathlib.Core.List.{List, _++_}
+use mathlib.Core.Path.{_≡_, sym, _∙_}
 use borrow.Author.Needs.{needs}
 use lib.ListN.{length}
 use Rattle.counters.specs.Counters.{lastSlot}
-use Rattle.header.specs.declared.Reading.{Reading}
 use Rattle.header.specs.Header.{readRefusal}
 use Rattle.receiver.specs.Store.{storeLength}
 use Rattle.receiver.specs.InPlace.{receiverWith}
@@ -19,9 +16,7 @@ abbrev start : tie.After-read → tie.Start
 start c = c .before .before .before
 
 said-refusal : (c : tie.After-read) → c .read .result .refusal ≡ readRefusal (start c .args .kind) (start c .args .pid) (start c .args .packet .now)
-said-refusal c =
-    let a = start c .args in
-    ap (λ (r : Reading). r .refusal) (c .read .ensures) ∙ read-refusal (a .kind) (a .pid) (a .packet .now)
+said-refusal c = read-refusal _ _ _ (c .read .ensures)
 
 slots : (c : tie.After-struct-known) → length (c .before .read .result .setting .«relative_ts_number») ≡ lastSlot
 slots c = search needs
@@ -86,9 +81,9 @@ returns-2 c =
     let said = read .read .result .setting in
     header-step (a .pid) (a .kind) (a .stage) (a .numbers .now) (a .packet .now) storeLength (c .accepted2 .ensures) said
     (good-receipt w (a .packet .now) storeLength (s .pre .1) (good-sort (a .kind) (a .pid) (a .packet .now) accepts) said
-    (ap (λ (r : Reading). r .setting) (read .read .ensures) ∙ read-setting (a .kind) (a .pid) (a .packet .now) accepts)
+    (read-setting (a .kind) (a .pid) (a .packet .now) (read .read .ensures) accepts)
     (row .header-row .ensures))
-    (join .join .ensures ∙ ap (λ (b : List ℕ). said .«relative_ts_number» ++ b) (half .half .ensures))
+    (half .half .ensures) (join .join .ensures)
 
 pub take-header-spec : {M : Type 1} → statement M
 take-header-spec =

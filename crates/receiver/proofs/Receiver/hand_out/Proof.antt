@@ -1,11 +1,8 @@
 -- `hand_out` meets its contract: its numbers are lent. Assumes nothing.
-use Prim.Native.Nat.{ℕ}
-use mathlib.Core.Path.{_≡_, ap, _∙_}
-use mathlib.Core.List.{List}
+use mathlib.Core.Path.{_≡_}
 use borrow.Author.Needs.{needs}
 use lib.ListN.{length}
 use Rattle.counters.specs.Counters.{lastSlot}
-use Rattle.receiver.specs.InPlace.{numbersOf, handOutWith, handOutInto}
 use Rattle.receiver.proofs.Lent.{lent-frame, lent-buffer}
 use Rattle.receiver.proofs.Own.{long, own}
 use Rattle.receiver.proofs.Receiver.hand_out.Statement.{statement}
@@ -31,16 +28,12 @@ returns c =
     let call = c .before .before in
     let lent = call .before .before .before in
     let s = lent .before .before .before in
-    let a = s .args in
-    let self = a .self in
-    let l = long self (slots s .0) (slots s .1) in
-    let w = own self (slots s .0) (slots s .1) in (
-      call .hand-out-in-place .ensures .0
-          ∙ ap (λ (l : List ℕ). handOutWith (self .pid) (self .stage) l (a .r .0) (length (a .store .now)) (length (a .out .now))) (lent .numbers-of .ensures)
-          ∙ lent-frame self (numbersOf self) l w (a .r .0) (length (a .store .now)) (length (a .out .now)),
-      call .hand-out-in-place .ensures .1
-          ∙ ap (λ (l : List ℕ). handOutInto (self .pid) (self .stage) l (a .r .0) (a .store .now) (a .out .now)) (lent .numbers-of .ensures)
-          ∙ lent-buffer self (numbersOf self) l w (a .r .0) (a .store .now) (a .out .now),
+    let self = s .args .self in
+    let numbers = lent .numbers-of .result in
+    let l = long self (slots s .0) (slots s .1) (lent .numbers-of .ensures) in
+    let w = own self (slots s .0) (slots s .1) (lent .numbers-of .ensures) in (
+      lent-frame self numbers l w (s .args .r .0) _ _ (call .hand-out-in-place .ensures .0),
+      lent-buffer self numbers l w (s .args .r .0) _ _ (call .hand-out-in-place .ensures .1),
     )
 
 pub hand-out-spec : {M : Type 1} → statement M

@@ -1,11 +1,9 @@
 -- `receive` meets its contract: its numbers are lent, and taken back. Assumes nothing.
-use Prim.Native.Nat.{ℕ}
-use mathlib.Core.Path.{_≡_, ap, _∙_}
-use mathlib.Core.List.{List}
+use mathlib.Core.Path.{_≡_}
 use borrow.Author.Needs.{needs}
 use lib.ListN.{length}
 use Rattle.counters.specs.Counters.{lastSlot}
-use Rattle.receiver.specs.InPlace.{numbersLength, numbersOf, receiveStep, receiveNumbers, receiveInto}
+use Rattle.receiver.specs.InPlace.{numbersLength}
 use Rattle.receiver.proofs.Lent.{lent-store}
 use Rattle.receiver.proofs.Own.{long, own, own-receipt}
 use Rattle.receiver.proofs.Receiver.receive.Statement.{statement}
@@ -47,20 +45,13 @@ returns c =
     let call = first .before .before .before .before .before in
     let lent = call .before .before .before in
     let s = lent .before .before .before in
-    let a = s .args in
-    let self = a .self in
-    let p = a .packet .now in
-    let n = length (a .store .now) in
-    let e = lent .numbers-of .ensures in (
-      own-receipt self (slots s .0) (slots s .1) p n
-          (call .receive-in-place .ensures .0 ∙ ap (λ (l : List ℕ). receiveStep (self .pid) (self .kind) (self .stage) l p n) e)
-          (call .receive-in-place .ensures .1 .0 ∙ ap (λ (l : List ℕ). receiveNumbers (self .pid) (self .kind) (self .stage) l p n) e)
-          (as-many call)
-          (first .half .ensures)
-          (c .half2 .ensures),
-      call .receive-in-place .ensures .1 .1
-          ∙ ap (λ (l : List ℕ). receiveInto (self .pid) (self .kind) (self .stage) l p (a .store .now)) e
-          ∙ lent-store self (numbersOf self) (long self (slots s .0) (slots s .1)) (own self (slots s .0) (slots s .1)) p (a .store .now),
+    let self = s .args .self in
+    let e = lent .numbers-of .ensures in
+    let l = long self (slots s .0) (slots s .1) e in
+    let w = own self (slots s .0) (slots s .1) e in (
+      own-receipt self (slots s .0) (slots s .1) e (s .args .packet .now) _
+          (call .receive-in-place .ensures .0) (call .receive-in-place .ensures .1 .0) (as-many call) (first .half .ensures) (c .half2 .ensures),
+      lent-store self (lent .numbers-of .result) l w (s .args .packet .now) _ (call .receive-in-place .ensures .1 .1),
     )
 
 pub receive-spec : {M : Type 1} → statement M
