@@ -87,14 +87,14 @@ module _ (state p store : List ℕ) where
     r = receiveOf (receiverOf state) p (length store)
 
     answered : step ≡ stepOf r
-    answered = rw (i, k, g) at s ∙ lent-step (receiverOf state) (lent state l) (lent-length state l) (said-whole state l) p (length store)
+    answered = lent-step (receiverOf state) (lent state l) (lent-length state l) (said-whole state l) p (length store) (rw (i, k, g) at s)
 
     left : after ≡ numbersOf (r .state)
-    left = rw (i, k, g) at a ∙ lent-numbers (receiverOf state) (lent state l) (lent-length state l) (said-whole state l) p (length store)
+    left = lent-numbers (receiverOf state) (lent state l) (lent-length state l) (said-whole state l) p (length store) (rw (i, k, g) at a)
 
     stored : memory ≡ receiveMemory state p store
     unfolding receiveMemory
-    stored = rw (eq-eqb _ _ l) (rw (i, k, g) at m ∙ lent-store (receiverOf state) (lent state l) (lent-length state l) (said-whole state l) p store)
+    stored = rw (eq-eqb _ _ l) (lent-store (receiverOf state) (lent state l) (lent-length state l) (said-whole state l) p store (rw (i, k, g) at m))
 
     refusal : step .refusal ≡ receiveRefused state p store
     unfolding receiveRefused stepOf
@@ -148,10 +148,10 @@ module _ (state : List ℕ) (r : ℕ) (store out : List ℕ) where
   unfolding handOutRefused handOutPackets handOutMemory
   hands l i g t q buffer b =
       let said : t ≡ handOutOf (receiverOf state) r (length store) (length out) =
-      rw (i, g) at q ∙ lent-frame (receiverOf state) (lent state l) (lent-length state l) (said-whole state l) r (length store) (length out) in (
+      lent-frame (receiverOf state) (lent state l) (lent-length state l) (said-whole state l) r (length store) (length out) (rw (i, g) at q) in (
         rw (eq-eqb _ _ l) (ap (λ (u : HandedOut). u .refusal) said),
         (
           rw (eq-eqb _ _ l) (ap (λ (u : HandedOut). u .packets) said),
-          rw (eq-eqb _ _ l) (rw (i, g) at b ∙ lent-buffer (receiverOf state) (lent state l) (lent-length state l) (said-whole state l) r store out),
+          rw (eq-eqb _ _ l) (lent-buffer (receiverOf state) (lent state l) (lent-length state l) (said-whole state l) r store out (rw (i, g) at b)),
         ),
       )

@@ -31,6 +31,10 @@ numbersOf c = c .numbers ++ c .before
 unfoldable pub stepOf : Received → Step
 stepOf r = record { refusal = r .refusal; event = r .event; stage = r .state .stage }
 
+-- 1 for numbers of another length, else the receiver's own refusal
+unfoldable pub lentRefusal : List ℕ → ℕ → ℕ
+lentRefusal numbers refusal = cond (eqb (length numbers) numbersLength) refusal 1
+
 -- receive: 1 for numbers of another length, else what `receive` answers and leaves
 unfoldable pub receiveStep : ℕ → Kind → Stage → List ℕ → List ℕ → ℕ → Step
 receiveStep pid kind stage numbers p store =

@@ -11,32 +11,8 @@ ghost use mathlib.Core.Path.{_≡_};
 ghost use Rattle.rules.specs.Refusal.{firstOf};
 ghost use lib.ListN.{length};
 ghost use Rattle.setting.specs.declared.Kind.{Kind};
-ghost use Rattle.receiver.specs.Receiving.{stageChecks, receiverChecks, receiveRefusal, handOutRefusal};
-ghost use Rattle.receiver.specs.InPlace.{numbersLength, receiverWith};
-
-// 17: the counter and the number of stored packets.
-fn stage_refusal(stage: Stage) -> u8
-    ensures { λ r. ⌜ r ≡ firstOf (stageChecks stage) ⌝ }
-{
-    match stage {
-        Stage::Waiting => 0,
-        Stage::Open(from, k) => {
-            if limits::COUNTERS <= from {
-                return 17;
-            }
-            if (SLOTS as u8) < k {
-                return 17;
-            }
-            0
-        }
-        Stage::Ready(from) => {
-            if limits::COUNTERS <= from {
-                return 17;
-            }
-            0
-        }
-    }
-}
+ghost use Rattle.receiver.specs.Receiving.{receiverChecks, receiveRefusal, handOutRefusal};
+ghost use Rattle.receiver.specs.InPlace.{numbersLength, receiverWith, lentRefusal};
 
 // 2 and 17: the state's PID and numbers, of either kind.
 fn receiver_refusal(pid: u16, stage: Stage, numbers: &[u8]) -> u8
@@ -46,7 +22,7 @@ fn receiver_refusal(pid: u16, stage: Stage, numbers: &[u8]) -> u8
     if !rules::pid_allowed(pid) {
         return 2;
     }
-    let shown = stage_refusal(stage);
+    let shown = receiver_table::stage_refusal(stage);
     if shown != 0 {
         return shown;
     }
@@ -63,9 +39,11 @@ pub(crate) fn receive_refusal(
     packet: usize,
     store: usize,
 ) -> u8
-    requires { ⌜ length (now numbers) ≡ numbersLength ⌝ }
-    ensures { λ r. ⌜ ((kind : Kind) → r ≡ receiveRefusal (receiverWith pid kind stage (now (numbers .entry))) packet store) ⌝ }
+    ensures { λ r. ⌜ ((kind : Kind) → r ≡ lentRefusal (now (numbers .entry)) (receiveRefusal (receiverWith pid kind stage (now (numbers .entry))) packet store)) ⌝ }
 {
+    if numbers.len() != NUMBERS_BYTES {
+        return 1;
+    }
     if packet != PACKET_BYTES {
         return 1;
     }
@@ -83,9 +61,11 @@ pub(crate) fn hand_out_refusal(
     store: usize,
     out: usize,
 ) -> u8
-    requires { ⌜ length (now numbers) ≡ numbersLength ⌝ }
-    ensures { λ t. ⌜ t ≡ handOutRefusal (receiverWith pid Kind.Plain stage (now (numbers .entry))) (r .0) store out ⌝ }
+    ensures { λ t. ⌜ t ≡ lentRefusal (now (numbers .entry)) (handOutRefusal (receiverWith pid Kind.Plain stage (now (numbers .entry))) (r .0) store out) ⌝ }
 {
+    if numbers.len() != NUMBERS_BYTES {
+        return 1;
+    }
     if store != STORE_BYTES {
         return 1;
     }

@@ -88,16 +88,6 @@ fn store_packet(stage: Stage, packet: &[u8], store: &mut [u8])
     }
 }
 
-fn refused(refusal: u8, stage: Stage) -> Step
-    ensures { λ r. ⌜ r ≡ record { refusal = refusal; event = Event.Nothing; stage = stage } ⌝ }
-{
-    Step {
-        refusal,
-        event: Event::Nothing,
-        stage,
-    }
-}
-
 // What a packet answers that takes this row.
 fn accepted(row: Row) -> Step
     ensures { λ r. ⌜ r ≡ record { refusal = 0; event = row .event; stage = row .stage } ⌝ }
@@ -142,12 +132,13 @@ pub fn receive_in_place(
     ensures { λ _. ⌜ now (numbers .exit) ≡ receiveNumbers pid kind stage (now (numbers .entry)) (now (packet .entry)) (length (now (store .entry))) ⌝ }
     ensures { λ _. ⌜ now (store .exit) ≡ receiveInto pid kind stage (now (numbers .entry)) (now (packet .entry)) (now (store .entry)) ⌝ }
 {
-    if numbers.len() != NUMBERS_BYTES {
-        return refused(1, stage);
-    }
     let refusal = checks::receive_refusal(pid, stage, numbers, packet.len(), store.len());
     if refusal != 0 {
-        return refused(refusal, stage);
+        return Step {
+            refusal,
+            event: Event::Nothing,
+            stage,
+        };
     }
     if packet::place_refusal(packet, pid) == 0 {
         store_packet(stage, packet, store);
@@ -168,12 +159,6 @@ pub fn hand_out_in_place(
     ensures { λ t. ⌜ t ≡ handOutWith pid stage (now (numbers .entry)) (r .0) (length (now (store .entry))) (length (now (out .entry))) ⌝ }
     ensures { λ _. ⌜ now (out .exit) ≡ handOutInto pid stage (now (numbers .entry)) (r .0) (now (store .entry)) (now (out .entry)) ⌝ }
 {
-    if numbers.len() != NUMBERS_BYTES {
-        return HandedOut {
-            refusal: 1,
-            packets: 0,
-        };
-    }
     let refusal = checks::hand_out_refusal(pid, stage, numbers, r, store.len(), out.len());
     if refusal != 0 {
         return HandedOut {

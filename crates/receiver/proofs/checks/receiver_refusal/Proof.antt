@@ -12,7 +12,8 @@ use Rattle.counters.specs.Counters.{lastSlot}
 use Rattle.rules.specs.Refusal.{Check, firstOf}
 use Rattle.rules.proofs.Refusals.{answers, passed, onward, at-once}
 use Rattle.receiver.specs.declared.Receiver.{Receiver}
-use Rattle.receiver.specs.Receiving.{stageChecks, receiverChecks}
+use Rattle.receiver_table.specs.Table.{stageChecks}
+use Rattle.receiver.specs.Receiving.{receiverChecks}
 use Rattle.receiver.specs.InPlace.{receiverWith}
 use Rattle.receiver.proofs.Parted.{both-tested}
 use Rattle.receiver.proofs.ReceiverChecks.{stage-none}
