@@ -2,21 +2,29 @@
 use Prim.Native.Nat.{ℕ, _<_, _≤_}
 use mathlib.Core.Path.{_≡_, refl, sym, ap, _∙_}
 use mathlib.Core.Bool.{true, false, not}
-use mathlib.Core.List.{List, [], _∷_}
+use mathlib.Core.List.{List, [], _∷_, _++_}
 use native.Mathlib.Omega.{arith}
 use borrow.Author.Tests.{eq-eqb, ne-eqb, lt-ltb, le-ltb}
-use lib.ListN.{length}
+use lib.ListN.{length, drop}
+use Rattle.slices.specs.Slices.{over}
+use Rattle.slices.proofs.Front.{put}
+use Rattle.setting.specs.declared.Kind.{Kind}
 use Rattle.rules.specs.Refusal.{firstOf, none}
 use Rattle.rules.specs.Rules.{pidAllowed}
 use Rattle.rules.proofs.Refusals.{answers, passed, first-none}
 use Rattle.frame.proofs.Answers.{kept, written}
-use Rattle.words.specs.Kinds.{isKind, kindOf}
-use Rattle.receiver.specs.declared.Receiver.{Receiver}
+use Rattle.words.specs.Words.{wordBytes}
+use Rattle.words.specs.Kinds.{isKind, kindOf, kindNumber}
+use Rattle.receiver_table.specs.declared.Stage.{Stage}
 use Rattle.receiver.specs.declared.Started.{Started}
 use Rattle.receiver.specs.declared.Received.{Received}
 use Rattle.receiver.specs.declared.HandedOut.{HandedOut}
-use Rattle.receiver.specs.Receiving.{startReceiverOf, receiveOf, receiveStore, handOutOf, handOutBuffer}
-use Rattle.board_receiver.specs.States.{receiverLength, receiverBytes, receiverOf, eventNumber}
+use Rattle.receiver.specs.declared.Step.{Step}
+use Rattle.receiver.specs.Receiving.{startReceiverOf, receiveOf, handOutOf}
+use Rattle.receiver.specs.InPlace.{numbersLength, numbersOf, stepOf, receiveStep, receiveNumbers, receiveInto, handOutWith, handOutInto}
+use Rattle.receiver.proofs.Lent.{lent-step, lent-numbers, lent-store, lent-frame, lent-buffer, keeps, refused-keeps}
+use Rattle.board_receiver.specs.States.{receiverLength, stageBytes, receiverBytes, receiverOf, eventNumber}
+use Rattle.board_receiver.proofs.Parts.{renewed-bytes, put-back, lent, lent-length, said-whole, said-numbers}
 use Rattle.board_receiver.specs.Calls.{startRefused, startState, receiveRefused, receiveEvent, receiveState, receiveMemory, handOutRefused, handOutPackets, handOutMemory}
 
 -- ---- start
@@ -69,42 +77,55 @@ module _ (state p store : List ℕ) where
       let refusal : 1 ≡ receiveRefused state p store = rw other refl in
       (refusal, (rw other refl, (kept refusal _ state (λ z. omega (arith, z)), rw other refl)))
 
-  -- the receiver's own call
-  module _ (l : length state ≡ receiverLength) (c : Receiver) (e : c ≡ receiverOf state)
-      (r : Received) (q : r ≡ receiveOf c p (length store)) (memory : List ℕ) (m : memory ≡ receiveStore c p store) where
-    said : r ≡ receiveOf (receiverOf state) p (length store)
-    said = rw e at q
+  -- the receiver's own call, over the numbers where they stand
+  module _ (l : length state ≡ receiverLength) {pid : ℕ} {kind : Kind} {stage : Stage}
+      (i : pid ≡ receiverOf state .pid) (k : kind ≡ receiverOf state .kind) (g : stage ≡ receiverOf state .stage)
+      {step : Step} (s : step ≡ receiveStep pid kind stage (lent state l) p (length store))
+      {after : List ℕ} (a : after ≡ receiveNumbers pid kind stage (lent state l) p (length store))
+      {memory : List ℕ} (m : memory ≡ receiveInto pid kind stage (lent state l) p store) where
+    abbrev r : Received
+    r = receiveOf (receiverOf state) p (length store)
 
-    refusal : r .refusal ≡ receiveRefused state p store
-    unfolding receiveRefused
-    refusal = rw (eq-eqb _ _ l) (ap (λ (t : Received). t .refusal) said)
+    answered : step ≡ stepOf r
+    answered = lent-step (receiverOf state) (lent state l) (lent-length state l) (said-whole state l) p (length store) (rw (i, k, g) at s)
 
-    pub receive-refused : (event : ℕ) → event ≡ eventNumber (r .event) → (r .refusal ≡ 0 → ⊥) → Receives (r .refusal) event state memory
-    unfolding receiveEvent receiveState receiveMemory
-    receive-refused event v h = (
-      refusal,
-      (
-        rw (eq-eqb _ _ l) (v ∙ ap (λ (t : Received). eventNumber (t .event)) said),
-        (
-          kept refusal _ state h,
-          rw (eq-eqb _ _ l) (rw e at m),
-        ),
-      ),
-    )
+    left : after ≡ numbersOf (r .state)
+    left = lent-numbers (receiverOf state) (lent state l) (lent-length state l) (said-whole state l) p (length store) (rw (i, k, g) at a)
 
-    pub receives : (event : ℕ) → event ≡ eventNumber (r .event) → r .refusal ≡ 0 → (after : List ℕ) → after ≡ receiverBytes (r .state)
-        → Receives 0 event after memory
-    unfolding receiveEvent receiveState receiveMemory
-    receives event v z after b = (
-      sym z ∙ refusal,
-      (
-        rw (eq-eqb _ _ l) (v ∙ ap (λ (t : Received). eventNumber (t .event)) said),
-        (
-          b ∙ ap (λ (t : Received). receiverBytes (t .state)) said ∙ written refusal _ state z,
-          rw (eq-eqb _ _ l) (rw e at m),
-        ),
-      ),
-    )
+    stored : memory ≡ receiveMemory state p store
+    unfolding receiveMemory
+    stored = rw (eq-eqb _ _ l) (lent-store (receiverOf state) (lent state l) (lent-length state l) (said-whole state l) p store (rw (i, k, g) at m))
+
+    refusal : step .refusal ≡ receiveRefused state p store
+    unfolding receiveRefused stepOf
+    refusal = rw (eq-eqb _ _ l) (ap (λ (t : Step). t .refusal) answered)
+
+    said-event : (event : ℕ) → event ≡ eventNumber (step .event) → event ≡ receiveEvent state p store
+    unfolding receiveEvent stepOf
+    said-event event v = rw (eq-eqb _ _ l) (v ∙ ap (λ (t : Step). eventNumber (t .event)) answered)
+
+    pub receive-refused : (event : ℕ) → event ≡ eventNumber (step .event) → (step .refusal ≡ 0 → ⊥) → Receives (step .refusal) event (put 6 numbersLength state after) memory
+    unfolding receiveState stepOf
+    receive-refused event v h =
+        let same : after ≡ drop 6 state = left ∙ ap numbersOf (refused-keeps (receiverOf state) p (length store) (λ z. h (ap (λ (t : Step). t .refusal) answered ∙ z))) ∙ said-numbers state l in
+        let back : put 6 numbersLength state after ≡ state = ap (put 6 numbersLength state) same ∙ put-back state l in
+        (refusal, (said-event event v, (back ∙ kept refusal _ state h, stored)))
+
+    pub receives : (event : ℕ) → event ≡ eventNumber (step .event) → step .refusal ≡ 0 → (bytes : List ℕ)
+        → bytes ≡ over 0 ((wordBytes (pid ∷ []) ++ (kindNumber kind ∷ [])) ++ stageBytes (step .stage)) (put 6 numbersLength state after)
+        → Receives 0 event bytes memory
+    unfolding receiveState stepOf
+    receives event v z bytes b =
+        let same = keeps (receiverOf state) p (length store) in (
+          sym z ∙ refusal,
+          (
+            said-event event v,
+            (
+              b ∙ renewed-bytes (r .state) state l (same .pid ∙ sym i) (same .kind ∙ sym k) (ap (λ (t : Step). t .stage) answered) left ∙ written refusal _ state z,
+              stored,
+            ),
+          ),
+        )
 
 -- ---- hand out
 
@@ -121,15 +142,16 @@ module _ (state : List ℕ) (r : ℕ) (store out : List ℕ) where
       let other = ne-eqb (length state) receiverLength h in
       (rw other refl, (rw other refl, rw other refl))
 
-  pub hands : length state ≡ receiverLength → (c : Receiver) → c ≡ receiverOf state
-      → (t : HandedOut) → t ≡ handOutOf c r (length store) (length out)
-      → (buffer : List ℕ) → buffer ≡ handOutBuffer c r store out → Hands (t .refusal) (t .packets) buffer
+  pub hands : (l : length state ≡ receiverLength) {pid : ℕ} {stage : Stage} → pid ≡ receiverOf state .pid → stage ≡ receiverOf state .stage
+      → (t : HandedOut) → t ≡ handOutWith pid stage (lent state l) r (length store) (length out)
+      → (buffer : List ℕ) → buffer ≡ handOutInto pid stage (lent state l) r store out → Hands (t .refusal) (t .packets) buffer
   unfolding handOutRefused handOutPackets handOutMemory
-  hands l c e t q buffer b =
-      let said : t ≡ handOutOf (receiverOf state) r (length store) (length out) = rw e at q in (
+  hands l i g t q buffer b =
+      let said : t ≡ handOutOf (receiverOf state) r (length store) (length out) =
+      lent-frame (receiverOf state) (lent state l) (lent-length state l) (said-whole state l) r (length store) (length out) (rw (i, g) at q) in (
         rw (eq-eqb _ _ l) (ap (λ (u : HandedOut). u .refusal) said),
         (
           rw (eq-eqb _ _ l) (ap (λ (u : HandedOut). u .packets) said),
-          rw (eq-eqb _ _ l) (rw e at b),
+          rw (eq-eqb _ _ l) (lent-buffer (receiverOf state) (lent state l) (lent-length state l) (said-whole state l) r store out (rw (i, g) at b)),
         ),
       )

@@ -1,19 +1,21 @@
 -- A receiver's bytes, as they are written and read part by part. Assumes nothing.
 use Prim.Native.Nat.{ℕ, _+_, _*_, _≤_, _<_}
 use mathlib.Core.Path.{_≡_, refl, sym, ap, _∙_}
-use mathlib.Core.List.{List, [], _∷_, _++_, append-assoc}
+use mathlib.Core.List.{List, [], _∷_, _++_, append-assoc, append-nil}
 use native.Mathlib.Omega.{arith}
 use borrow.Author.Tests.{lt-ltb, le-ltb}
-use lib.ListN.{length, getD, take, drop, replicate, length-drop, length-replicate}
-use lib.Seq.{length-take-le}
-use Rattle.slices.specs.Slices.{copied, over}
-use Rattle.slices.proofs.Front.{Front, front-none, front-part, front-all, copied-over, put-over}
+use lib.ListN.{length, getD, take, drop, length-drop, drop-of-length-le, take-append-drop}
+use lib.Seq.{length-take-le, take-all, drop-at, drop-drop}
+use Rattle.slices.specs.Slices.{over}
+use Rattle.slices.proofs.Front.{Front, put, front-none, front-part, front-all, put-over}
 use Rattle.counters.specs.Counters.{lastSlot}
 use Rattle.setting.specs.declared.Kind.{Kind}
 use Rattle.words.specs.Words.{wordBytes}
 use Rattle.words.specs.Kinds.{kindOf, kindNumber}
 use Rattle.receiver_table.specs.declared.Stage.{Stage}
 use Rattle.receiver.specs.declared.Receiver.{Receiver}
+use Rattle.receiver.specs.InPlace.{numbersLength, receiverWith, numbersOf}
+use Rattle.receiver.proofs.Lent.{numbers-with}
 use Rattle.board_receiver.specs.States.{receiverLength, stageBytes, noStage, stageOf, receiverBytes, receiverOf}
 
 -- ---- written
@@ -31,27 +33,48 @@ front-put d₀ done d p i k f l e =
     record { is = e ∙ sym (put-over i k d refl l) ∙ next .is; long = next .long }
 
 -- the parts one behind the other
-pub whole : (c : Receiver) (bytes front fronted numbered all : List ℕ) → length bytes ≡ receiverLength
-    → front ≡ (wordBytes (c .pid ∷ []) ++ (kindNumber (c .kind) ∷ [])) ++ stageBytes (c .stage)
+pub whole : (c : Receiver) (bytes fronted numbered all : List ℕ) → length bytes ≡ receiverLength
     → length (c .numbers) ≡ lastSlot → length (c .before) ≡ lastSlot
-    → fronted ≡ over 0 front bytes → numbered ≡ over 6 (c .numbers) fronted → all ≡ over 58 (c .before) numbered
+    → fronted ≡ over 0 ((wordBytes (c .pid ∷ []) ++ (kindNumber (c .kind) ∷ [])) ++ stageBytes (c .stage)) bytes
+    → numbered ≡ over 6 (c .numbers) fronted → all ≡ over 58 (c .before) numbered
     → all ≡ receiverBytes c
 unfolding receiverBytes
-whole c bytes front fronted numbered all l e n m p q r =
-    let f₁ = front-put bytes [] bytes front 0 6 (front-none bytes) (ap length e ∙ front-length (c .pid) (c .kind) (c .stage)) p in
+whole c bytes fronted numbered all l n m p q r =
+    let front = (wordBytes (c .pid ∷ []) ++ (kindNumber (c .kind) ∷ [])) ++ stageBytes (c .stage) in
+    let f₁ = front-put bytes [] bytes front 0 6 (front-none bytes) (front-length (c .pid) (c .kind) (c .stage)) p in
     let f₂ = front-put bytes front fronted (c .numbers) 6 lastSlot f₁ n q in
     let f₃ = front-put bytes (front ++ c .numbers) numbered (c .before) 58 lastSlot f₂ m r in
     front-all bytes ((front ++ c .numbers) ++ c .before) all 110 f₃ (omega arith)
     ∙ append-assoc front (c .numbers) (c .before)
-    ∙ ap (λ (f : List ℕ). f ++ (c .numbers ++ c .before)) e
     ∙ append-assoc (wordBytes (c .pid ∷ []) ++ (kindNumber (c .kind) ∷ [])) (stageBytes (c .stage)) (c .numbers ++ c .before)
 
--- ---- read
+-- PID, kind and stage written before the numbers that were lent and came back
+pub renewed : (state after front : List ℕ) → length state ≡ receiverLength → length front ≡ 6 → over 0 front (put 6 numbersLength state after) ≡ front ++ after
+unfolding over
+renewed state after front l f =
+    let rest = drop numbersLength (drop 6 state) in
+    let none : rest ≡ [] = drop-of-length-le (drop 6 state) {i = numbersLength} (rw length-drop (omega (arith, l))) in
+    let whole : 0 + length front ≡ 6 = omega (arith, f) in
+    ap (λ (k : ℕ). front ++ drop k (put 6 numbersLength state after)) whole
+    ∙ ap (λ (t : List ℕ). front ++ t) (drop-at (take 6 state) (after ++ rest) 6 (length-take-le 6 state (omega (arith, l))))
+    ∙ ap (λ (t : List ℕ). front ++ (after ++ t)) none ∙ ap (λ (t : List ℕ). front ++ t) (append-nil after)
 
--- a part of the bytes copied over as many zeros
-pub copied-part : (b : List ℕ) (i k : ℕ) → i + lastSlot ≤ length b → k ≡ lastSlot → copied (replicate lastSlot 0) (take k (drop i b)) ≡ take lastSlot (drop i b)
-copied-part b i k h e =
-    rw e (copied-over _ _ (length-replicate {A = ℕ} lastSlot 0 ∙ sym (length-take-le lastSlot (drop i b) (rw length-drop (omega arith)))))
+pub renewed-bytes : (c : Receiver) (state : List ℕ) → length state ≡ receiverLength → {pid : ℕ} {kind : Kind} {stage : Stage} {after : List ℕ}
+    → c .pid ≡ pid → c .kind ≡ kind → stage ≡ c .stage → after ≡ numbersOf c
+    → over 0 ((wordBytes (pid ∷ []) ++ (kindNumber kind ∷ [])) ++ stageBytes stage) (put 6 numbersLength state after) ≡ receiverBytes c
+unfolding receiverBytes numbersOf
+renewed-bytes c state l p k g a =
+    rw (sym p, sym k, g, a)
+    (renewed state (c .numbers ++ c .before) ((wordBytes (c .pid ∷ []) ++ (kindNumber (c .kind) ∷ [])) ++ stageBytes (c .stage)) l (front-length (c .pid) (c .kind) (c .stage))
+    ∙ append-assoc (wordBytes (c .pid ∷ []) ++ (kindNumber (c .kind) ∷ [])) (stageBytes (c .stage)) (c .numbers ++ c .before))
+
+-- numbers that came back as they were
+pub put-back : (state : List ℕ) → length state ≡ receiverLength → put 6 numbersLength state (drop 6 state) ≡ state
+put-back state l =
+    let none : drop numbersLength (drop 6 state) ≡ [] = drop-of-length-le (drop 6 state) {i = numbersLength} (rw length-drop (omega (arith, l))) in
+    ap (λ (t : List ℕ). take 6 state ++ (drop 6 state ++ t)) none ∙ ap (λ (t : List ℕ). take 6 state ++ t) (append-nil (drop 6 state)) ∙ take-append-drop 6 state
+
+-- ---- read
 
 -- the stage that bytes say counts where their kind is one
 pub no-kind : (b : List ℕ) → 1 < getD b 2 0 → receiverOf b .stage ≡ noStage
@@ -62,13 +85,30 @@ pub a-kind : (b : List ℕ) → getD b 2 0 ≤ 1 → receiverOf b .stage ≡ sta
 unfolding receiverOf
 a-kind b h = rw (lt-ltb (getD b 2 0) 2 (omega arith)) refl
 
--- what each part of the bytes says
-pub receiver-said : (b : List ℕ) {pid : ℕ} {kind : Kind} {stage : Stage} {numbers before : List ℕ}
-    → pid ≡ getD b 0 0 * 256 + getD b 1 0
-    → kind ≡ kindOf (getD b 2 0)
-    → stage ≡ receiverOf b .stage
-    → numbers ≡ take lastSlot (drop 6 b)
-    → before ≡ take lastSlot (drop 58 b)
-    → record { pid = pid; kind = kind; stage = stage; numbers = numbers; before = before } ≡ receiverOf b
+pub said-pid : (b : List ℕ) → getD b 0 0 * 256 + getD b 1 0 ≡ receiverOf b .pid
 unfolding receiverOf
-receiver-said b p k s n f = rw (p, k, s, n, f) refl
+said-pid b = refl
+
+pub said-kind : (b : List ℕ) → kindOf (getD b 2 0) ≡ receiverOf b .kind
+unfolding receiverOf
+said-kind b = refl
+
+-- the numbers are lent where they stand
+module _ (b : List ℕ) (l : length b ≡ receiverLength) where
+  abbrev pub lent : List ℕ
+  lent = take numbersLength (drop 6 b)
+
+  pub lent-all : lent ≡ drop 6 b
+  lent-all = take-all numbersLength (drop 6 b) (rw length-drop (omega (arith, l)))
+
+  pub lent-length : length lent ≡ numbersLength
+  lent-length = length-take-le numbersLength (drop 6 b) (rw length-drop (omega (arith, l)))
+
+  pub said-whole : receiverWith (receiverOf b .pid) (receiverOf b .kind) (receiverOf b .stage) lent ≡ receiverOf b
+  unfolding receiverWith receiverOf
+  said-whole =
+      let second : take lastSlot (drop 58 b) ≡ drop 58 b = take-all lastSlot (drop 58 b) (rw length-drop (omega (arith, l))) in
+      rw (lent-all, drop-drop lastSlot 6 b, second) refl
+
+  pub said-numbers : numbersOf (receiverOf b) ≡ drop 6 b
+  said-numbers = ap numbersOf (sym said-whole) ∙ numbers-with (receiverOf b .pid) (receiverOf b .kind) (receiverOf b .stage) lent ∙ lent-all

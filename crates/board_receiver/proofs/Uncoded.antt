@@ -15,7 +15,8 @@ use Rattle.words.specs.Kinds.{isKind}
 use Rattle.receiver_table.specs.declared.Stage.{Stage}
 use Rattle.receiver.specs.declared.Receiver.{Receiver}
 use Rattle.receiver.specs.Store.{storeLength}
-use Rattle.receiver.specs.Receiving.{stageChecks, receiverChecks, receiveRefusal, handOutRefusal, receiveOf, handOutOf}
+use Rattle.receiver_table.specs.Table.{stageChecks}
+use Rattle.receiver.specs.Receiving.{receiverChecks, receiveRefusal, handOutRefusal, receiveOf, handOutOf}
 use Rattle.board_receiver.specs.States.{noStage, isStage, stageOf, isCoded, receiverOf}
 use Rattle.board_receiver.specs.Calls.{receiveRefused, handOutRefused}
 use Rattle.board_receiver.specs.Demands.{UncodedRefused}

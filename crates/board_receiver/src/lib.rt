@@ -1,4 +1,5 @@
-// The receiver for callers in other languages: its state is lent bytes, and each call is the receiver's own under their coding.
+// The receiver for callers in other languages: its state is lent bytes, and each call is the receiver's own under their coding. The
+// slots' numbers stay where they are, so that a packet costs no copy of them.
 mod states;
 
 use counters::RelativeNumber;
@@ -46,14 +47,24 @@ pub extern "C" fn niranbok_receiver_receive(
         *event = 0;
         return 1;
     }
-    let receiver = states::receiver_of(state);
-    let received = receiver.receive(packet, store);
-    let did = received.event;
+    let pid = words::word(state[0], state[1]);
+    let kind = words::kind_of(state[2]);
+    let stage = states::stage_in(state);
+    let step = receiver::receive_in_place(
+        pid,
+        kind,
+        stage,
+        &mut state[states::NUMBERS..RECEIVER_BYTES],
+        packet,
+        store,
+    );
+    let did = step.event;
     *event = states::event_number(did);
-    if received.refusal != 0 {
-        return received.refusal;
+    if step.refusal != 0 {
+        return step.refusal;
     }
-    states::write_receiver(state, received.state);
+    let after = step.stage;
+    states::write_front(state, pid, kind, after);
     0
 }
 
@@ -74,8 +85,14 @@ pub extern "C" fn niranbok_receiver_hand_out(
         *packets = 0;
         return 1;
     }
-    let receiver = states::receiver_of(state);
-    let handed = receiver.hand_out(store, out, RelativeNumber(r));
+    let handed = receiver::hand_out_in_place(
+        words::word(state[0], state[1]),
+        states::stage_in(state),
+        &state[states::NUMBERS..RECEIVER_BYTES],
+        store,
+        out,
+        RelativeNumber(r),
+    );
     *packets = handed.packets;
     handed.refusal
 }

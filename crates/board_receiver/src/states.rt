@@ -7,8 +7,7 @@ use setting::SLOTS;
 ghost use mathlib.Core.Path.{_≡_};
 ghost use Prim.Native.Nat.{_+_, _≤_};
 ghost use mathlib.Core.List.{[], _∷_, _++_};
-ghost use lib.ListN.{length, take, drop};
-ghost use Rattle.counters.specs.Counters.{lastSlot};
+ghost use lib.ListN.{length};
 ghost use Rattle.words.specs.Words.{wordBytes};
 ghost use Rattle.words.specs.Kinds.{kindNumber};
 ghost use Rattle.slices.specs.Slices.{over};
@@ -19,7 +18,7 @@ pub(crate) const RECEIVER_BYTES: usize = BEFORE + SLOTS;
 // Where the parts start.
 const STAGE: usize = 3;
 
-const NUMBERS: usize = 6;
+pub(crate) const NUMBERS: usize = 6;
 
 const BEFORE: usize = NUMBERS + SLOTS;
 
@@ -66,7 +65,7 @@ fn front_bytes(pid: u16, kind: Kind, stage: Stage) -> [u8; NUMBERS]
 }
 
 // The stage that the bytes say. Beside a number that is no kind, they say none.
-fn stage_in(bytes: &[u8]) -> Stage
+pub(crate) fn stage_in(bytes: &[u8]) -> Stage
     requires { ⌜ length (now bytes) ≡ receiverLength ⌝ }
     ensures { λ r. ⌜ r ≡ receiverOf (now (bytes .entry)) .stage ⌝ }
 {
@@ -74,16 +73,6 @@ fn stage_in(bytes: &[u8]) -> Stage
         return no_stage();
     }
     stage_of(bytes[STAGE], bytes[STAGE + 1], bytes[STAGE + 2])
-}
-
-// The slots' numbers from a place on.
-fn numbers_at(bytes: &[u8], at: usize) -> [u8; SLOTS]
-    requires { ⌜ at + lastSlot ≤ length (now bytes) ⌝ }
-    ensures { λ r. ⌜ r ≡ take lastSlot (drop at (now (bytes .entry))) ⌝ }
-{
-    let mut numbers = [0u8; SLOTS];
-    slices::copy(&mut numbers, &bytes[at..at + SLOTS]);
-    numbers
 }
 
 // Puts the part over the bytes, from a place on.
@@ -94,17 +83,13 @@ fn put(bytes: &mut [u8], at: usize, part: &[u8])
     slices::copy(&mut bytes[at..at + part.len()], part);
 }
 
-pub(crate) fn receiver_of(bytes: &[u8]) -> Receiver
+// Writes PID, kind and stage, and leaves the numbers.
+pub(crate) fn write_front(bytes: &mut [u8], pid: u16, kind: Kind, stage: Stage)
     requires { ⌜ length (now bytes) ≡ receiverLength ⌝ }
-    ensures { λ r. ⌜ r ≡ receiverOf (now (bytes .entry)) ⌝ }
+    ensures { λ _. ⌜ now (bytes .exit) ≡ over 0 ((wordBytes (pid ∷ []) ++ (kindNumber kind ∷ [])) ++ stageBytes stage) (now (bytes .entry)) ⌝ }
 {
-    Receiver {
-        pid: words::word(bytes[0], bytes[1]),
-        kind: words::kind_of(bytes[2]),
-        stage: stage_in(bytes),
-        numbers: numbers_at(bytes, NUMBERS),
-        before: numbers_at(bytes, BEFORE),
-    }
+    let front = front_bytes(pid, kind, stage);
+    put(bytes, 0, &front);
 }
 
 pub(crate) fn write_receiver(bytes: &mut [u8], c: Receiver)
@@ -113,8 +98,7 @@ pub(crate) fn write_receiver(bytes: &mut [u8], c: Receiver)
 {
     let kind = c.kind;
     let stage = c.stage;
-    let front = front_bytes(c.pid, kind, stage);
-    put(bytes, 0, &front);
+    write_front(bytes, c.pid, kind, stage);
     let numbers = c.numbers;
     put(bytes, NUMBERS, &numbers);
     let before = c.before;

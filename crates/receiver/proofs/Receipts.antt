@@ -1,11 +1,13 @@
 -- What a receiver's calls answer and leave, by whether they are refused and by the packet's sort. Assumes nothing.
 use Prim.Native.Nat.{ℕ}
 use mathlib.Core.Path.{_≡_, refl, sym, ap, _∙_}
+use mathlib.Core.Bool.{true}
 use mathlib.Core.List.{List}
 use borrow.Author.Tests.{eq-eqb, ne-eqb}
 use lib.ListN.{length}
 use Rattle.setting.specs.declared.Setting.{Setting}
 use Rattle.layout.specs.Header.{reading}
+use Rattle.packet.specs.Packets.{unfit}
 use Rattle.frame.proofs.Answers.{kept, written}
 use Rattle.receiver_table.specs.declared.Event.{Event}
 use Rattle.receiver.specs.declared.Received.{Received}
@@ -17,12 +19,13 @@ use Rattle.receiver_table.specs.Table.{Sort, good, broken, other, rowOf}
 use Rattle.receiver.specs.Arriving.{sortOf, storeAfter}
 use Rattle.receiver.specs.Receiving.{rowFor, moved, renumbered, receiverAfter, receiveRefusal, receiveOf, receiveStore, handOutRefusal, handOutOf, handOutBuffer}
 use Rattle.receiver_table.proofs.Rows.{other-counter, broken-counter}
+use Rattle.receiver.proofs.Sorts.{not-stored}
 
 -- ---- a packet
 
-module _ (c : Receiver) (p store : List ℕ) where
+module _ (c : Receiver) (p : List ℕ) (store : ℕ) where
   abbrev refusal : ℕ
-  refusal = receiveRefusal c (length p) (length store)
+  refusal = receiveRefusal c (length p) store
 
   -- a row's answer that keeps the numbers
   abbrev pub keeping : Row → Received
@@ -32,22 +35,13 @@ module _ (c : Receiver) (p store : List ℕ) where
   abbrev pub renumbering : Row → Setting → Received
   renumbering row said = record { refusal = 0; event = row .event; state = renumbered c (row .stage) (said .«relative_ts_number») }
 
-  module _ {n : ℕ} (e : n ≡ refusal) (h : n ≡ 0 → ⊥) where
-    pub refused-receipt : record { refusal = n; event = Event.Nothing; state = c } ≡ receiveOf c p (length store)
-    unfolding receiveOf
-    refused-receipt = rw (sym e, ne-eqb n 0 h) refl
-
-    pub refused-store : store ≡ receiveStore c p store
-    unfolding receiveStore
-    refused-store = kept e _ store h
+  pub refused-receipt : {n : ℕ} → n ≡ refusal → (n ≡ 0 → ⊥) → record { refusal = n; event = Event.Nothing; state = c } ≡ receiveOf c p store
+  unfolding receiveOf
+  refused-receipt {n} e h = rw (sym e, ne-eqb n 0 h) refl
 
   module _ (e : refusal ≡ 0) where
-    taken-store : {s : Sort} → sortOf (c .kind) (c .pid) p ≡ s → receiveStore c p store ≡ storeAfter (c .stage) s p store
-    unfolding receiveStore
-    taken-store s = sym (written refl _ store e) ∙ ap (λ (t : Sort). storeAfter (c .stage) t p store) s
-
     taken-receipt : {s : Sort} → sortOf (c .kind) (c .pid) p ≡ s
-        → receiveOf c p (length store)
+        → receiveOf c p store
         ≡ record {
           refusal = 0;
           event = rowOf (c .stage) s (reading (c .kind) p .«continuity_counter») .event;
@@ -57,30 +51,34 @@ module _ (c : Receiver) (p store : List ℕ) where
     taken-receipt s = rw (eq-eqb refusal 0 e, s) refl
 
     module _ {row : Row} where
-      pub other-receipt : sortOf (c .kind) (c .pid) p ≡ other → row ≡ rowOf (c .stage) other 0 → keeping row ≡ receiveOf c p (length store)
+      pub other-receipt : sortOf (c .kind) (c .pid) p ≡ other → row ≡ rowOf (c .stage) other 0 → keeping row ≡ receiveOf c p store
       unfolding receiverAfter
       other-receipt s r = ap keeping (r ∙ other-counter (c .stage) (reading (c .kind) p .«continuity_counter»)) ∙ sym (taken-receipt s)
 
-      pub broken-receipt : sortOf (c .kind) (c .pid) p ≡ broken → row ≡ rowOf (c .stage) broken 0 → keeping row ≡ receiveOf c p (length store)
+      pub broken-receipt : sortOf (c .kind) (c .pid) p ≡ broken → row ≡ rowOf (c .stage) broken 0 → keeping row ≡ receiveOf c p store
       unfolding receiverAfter
       broken-receipt s r = ap keeping (r ∙ broken-counter (c .stage) (reading (c .kind) p .«continuity_counter»)) ∙ sym (taken-receipt s)
 
       pub good-receipt : sortOf (c .kind) (c .pid) p ≡ good → (said : Setting) → said ≡ reading (c .kind) p → row ≡ rowOf (c .stage) good (said .«continuity_counter»)
-          → renumbering row said ≡ receiveOf c p (length store)
+          → renumbering row said ≡ receiveOf c p store
       unfolding receiverAfter
       good-receipt s said t r =
           ap (λ (w : Row). renumbering w said) r ∙ ap (λ (u : Setting). renumbering (rowOf (c .stage) good (u .«continuity_counter»)) u) t ∙ sym (taken-receipt s)
 
-    pub other-store : sortOf (c .kind) (c .pid) p ≡ other → storeAfter (c .stage) other p store ≡ receiveStore c p store
-    other-store s = sym (taken-store s)
+module _ (c : Receiver) (p store : List ℕ) where
+  pub refused-store : {n : ℕ} → n ≡ receiveRefusal c (length p) (length store) → (n ≡ 0 → ⊥) → store ≡ receiveStore c p store
+  unfolding receiveStore
+  refused-store e h = kept e _ store h
 
-    pub broken-store : sortOf (c .kind) (c .pid) p ≡ broken → store ≡ receiveStore c p store
-    unfolding storeAfter
-    broken-store s = sym (taken-store s)
+  module _ (e : receiveRefusal c (length p) (length store) ≡ 0) where
+    pub other-store : sortOf (c .kind) (c .pid) p ≡ other → {after : List ℕ} → after ≡ storeAfter (c .stage) other p store → after ≡ receiveStore c p store
+    unfolding receiveStore
+    other-store s a = a ∙ sym (ap (λ (t : Sort). storeAfter (c .stage) t p store) s) ∙ written refl _ store e
 
-    pub good-store : sortOf (c .kind) (c .pid) p ≡ good → store ≡ receiveStore c p store
-    unfolding storeAfter
-    good-store s = sym (taken-store s)
+    -- a packet that may stand in no slot
+    pub unfit-store : unfit (c .pid) p ≡ true → store ≡ receiveStore c p store
+    unfolding receiveStore
+    unfit-store u = sym (not-stored (c .kind) (c .pid) p u (c .stage) store) ∙ written refl _ store e
 
 -- ---- a ready frame
 
@@ -98,10 +96,11 @@ module _ (c : Receiver) (r : ℕ) (store out : List ℕ) where
     refused-buffer = kept e _ out h
 
   module _ (e : handing ≡ 0) where
-    pub handed-frame : {k : ℕ} → k ≡ slotsFor r (c .before) → record { refusal = 0; packets = k } ≡ handOutOf c r (length store) (length out)
-    unfolding handOutOf
-    handed-frame k = rw (e, k) refl
+    module _ {before : List ℕ} (b : before ≡ c .before) where
+      pub handed-frame : {k : ℕ} → k ≡ slotsFor r before → record { refusal = 0; packets = k } ≡ handOutOf c r (length store) (length out)
+      unfolding handOutOf
+      handed-frame k = rw (e, k, b) refl
 
-    pub handed-buffer : over 0 (numbered r (c .before) store) out ≡ handOutBuffer c r store out
-    unfolding handOutBuffer
-    handed-buffer = written refl _ out e
+      pub handed-buffer : {after : List ℕ} → after ≡ over 0 (numbered r before store) out → after ≡ handOutBuffer c r store out
+      unfolding handOutBuffer
+      handed-buffer a = a ∙ ap (λ (l : List ℕ). over 0 (numbered r l store) out) b ∙ written refl _ out e

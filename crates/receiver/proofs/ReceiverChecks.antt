@@ -14,8 +14,8 @@ use Rattle.frame.proofs.Refusals.{numbered-append}
 use Rattle.receiver_table.specs.declared.Stage.{Stage}
 use Rattle.receiver.specs.declared.Receiver.{Receiver}
 use Rattle.receiver.specs.Store.{storeLength, slotsFor}
-use Rattle.receiver_table.specs.Table.{isReady}
-use Rattle.receiver.specs.Receiving.{stageChecks, receiverChecks, receiveRefusal, handOutRefusal}
+use Rattle.receiver_table.specs.Table.{stageChecks, isReady}
+use Rattle.receiver.specs.Receiving.{receiverChecks, receiveRefusal, handOutRefusal}
 
 -- ---- no check of a part has the number 0: where it answers 0, none holds
 

@@ -2,3 +2,4 @@
 pub mod Store
 pub mod Arriving
 pub mod Receiving
+pub mod InPlace

@@ -20,7 +20,7 @@ use Rattle.receiver.specs.declared.Started.{Started}
 use Rattle.receiver.specs.declared.Received.{Received}
 use Rattle.receiver.specs.declared.HandedOut.{HandedOut}
 use Rattle.receiver.specs.Store.{storeLength, numbered, slotsFor}
-use Rattle.receiver_table.specs.Table.{Sort, good, broken, other, rowOf, isReady}
+use Rattle.receiver_table.specs.Table.{Sort, good, broken, other, rowOf, stageChecks, isReady}
 use Rattle.receiver.specs.Arriving.{sortOf, storeAfter}
 
 -- ---- the state
@@ -42,12 +42,6 @@ receiverAfter c broken stage said = moved c stage
 receiverAfter c other stage said = moved c stage
 
 -- ---- the checks, in the table's order
-
--- 17: the counter and the number of stored packets
-unfoldable pub stageChecks : Stage → List Check
-stageChecks Stage.Waiting = []
-stageChecks (Stage.Open from k) = (17, leb (2 ^ 4) from) ∷ (17, ltb lastSlot k) ∷ []
-stageChecks (Stage.Ready from) = (17, leb (2 ^ 4) from) ∷ []
 
 -- 2 and 17: a state's PID and numbers
 unfoldable pub receiverChecks : Receiver → List Check

@@ -1,5 +1,5 @@
 // What each call of the receiver asks of its state and of what it is lent, in the table's order.
-use crate::Receiver;
+use crate::NUMBERS_BYTES;
 use crate::STORE_BYTES;
 use crate::numbered;
 use counters::RelativeNumber;
@@ -9,74 +9,67 @@ use setting::SLOTS;
 use setting::limits;
 ghost use mathlib.Core.Path.{_≡_};
 ghost use Rattle.rules.specs.Refusal.{firstOf};
-ghost use Rattle.receiver.specs.Receiving.{stageChecks, receiverChecks, receiveRefusal, handOutRefusal};
+ghost use lib.ListN.{length};
+ghost use Rattle.setting.specs.declared.Kind.{Kind};
+ghost use Rattle.receiver.specs.Receiving.{receiverChecks, receiveRefusal, handOutRefusal};
+ghost use Rattle.receiver.specs.InPlace.{numbersLength, receiverWith, lentRefusal};
 
-// 17: the counter and the number of stored packets.
-fn stage_refusal(stage: Stage) -> u8
-    ensures { λ r. ⌜ r ≡ firstOf (stageChecks stage) ⌝ }
+// 2 and 17: the state's PID and numbers, of either kind.
+fn receiver_refusal(pid: u16, stage: Stage, numbers: &[u8]) -> u8
+    requires { ⌜ length (now numbers) ≡ numbersLength ⌝ }
+    ensures { λ r. ⌜ ((kind : Kind) → r ≡ firstOf (receiverChecks (receiverWith pid kind stage (now (numbers .entry))))) ⌝ }
 {
-    match stage {
-        Stage::Waiting => 0,
-        Stage::Open(from, k) => {
-            if limits::COUNTERS <= from {
-                return 17;
-            }
-            if (SLOTS as u8) < k {
-                return 17;
-            }
-            0
-        }
-        Stage::Ready(from) => {
-            if limits::COUNTERS <= from {
-                return 17;
-            }
-            0
-        }
-    }
-}
-
-// 2 and 17: the state's PID and numbers.
-fn receiver_refusal(c: Receiver) -> u8
-    ensures { λ r. ⌜ r ≡ firstOf (receiverChecks c) ⌝ }
-{
-    if !rules::pid_allowed(c.pid) {
+    if !rules::pid_allowed(pid) {
         return 2;
     }
-    let stage = c.stage;
-    let shown = stage_refusal(stage);
+    let shown = receiver_table::stage_refusal(stage);
     if shown != 0 {
         return shown;
     }
-    let numbers = c.numbers;
-    if slices::some_at_least(&numbers, limits::NUMBERS) {
-        return 17;
-    }
-    let before = c.before;
-    if slices::some_at_least(&before, limits::NUMBERS) {
+    if slices::some_at_least(numbers, limits::NUMBERS) {
         return 17;
     }
     0
 }
 
-pub(crate) fn receive_refusal(c: Receiver, packet: usize, store: usize) -> u8
-    ensures { λ r. ⌜ r ≡ receiveRefusal c packet store ⌝ }
+pub(crate) fn receive_refusal(
+    pid: u16,
+    stage: Stage,
+    numbers: &[u8],
+    packet: usize,
+    store: usize,
+) -> u8
+    ensures { λ r. ⌜ ((kind : Kind) → r ≡ lentRefusal (now (numbers .entry)) (receiveRefusal (receiverWith pid kind stage (now (numbers .entry))) packet store)) ⌝ }
 {
+    if numbers.len() != NUMBERS_BYTES {
+        return 1;
+    }
     if packet != PACKET_BYTES {
         return 1;
     }
     if store != STORE_BYTES {
         return 1;
     }
-    receiver_refusal(c)
+    receiver_refusal(pid, stage, numbers)
 }
 
-pub(crate) fn hand_out_refusal(c: Receiver, r: RelativeNumber, store: usize, out: usize) -> u8
-    ensures { λ t. ⌜ t ≡ handOutRefusal c (r .0) store out ⌝ }
+pub(crate) fn hand_out_refusal(
+    pid: u16,
+    stage: Stage,
+    numbers: &[u8],
+    r: RelativeNumber,
+    store: usize,
+    out: usize,
+) -> u8
+    ensures { λ t. ⌜ t ≡ lentRefusal (now (numbers .entry)) (handOutRefusal (receiverWith pid Kind.Plain stage (now (numbers .entry))) (r .0) store out) ⌝ }
 {
+    if numbers.len() != NUMBERS_BYTES {
+        return 1;
+    }
     if store != STORE_BYTES {
         return 1;
     }
-    let state = receiver_refusal(c);
+    let state = receiver_refusal(pid, stage, numbers);
     if state != 0 {
         return state;
     }
@@ -86,12 +79,10 @@ pub(crate) fn hand_out_refusal(c: Receiver, r: RelativeNumber, store: usize, out
     if RelativeNumber::LAST < r.0 {
         return 17;
     }
-    let stage = c.stage;
     if !receiver_table::is_frame_ready(stage) {
         return 16;
     }
-    let before = c.before;
-    if out / PACKET_BYTES < numbered::count(&before, r.0) {
+    if out / PACKET_BYTES < numbered::count(&numbers[SLOTS..NUMBERS_BYTES], r.0) {
         return 15;
     }
     0

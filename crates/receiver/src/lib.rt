@@ -1,6 +1,7 @@
 // Frames received packet by packet: a frame is ready when the header behind it has vouched for it. The state goes in and comes
-// out by value; the packets stand in a lent store, slot i at 188 × (i − 1).
+// out by value, or its numbers are lent and changed in place; the packets stand in a lent store, slot i at 188 × (i − 1).
 mod checks;
+mod halves;
 mod numbered;
 
 use counters::RelativeNumber;
@@ -11,15 +12,20 @@ use receiver_table::Stage;
 use setting::Kind;
 use setting::SLOTS;
 ghost use mathlib.Core.Path.{_≡_};
+ghost use mathlib.Core.Bool.{true};
 ghost use lib.ListN.{length};
-ghost use Rattle.packet.specs.Packets.{packetLength};
+ghost use Rattle.packet.specs.Packets.{packetLength, unfit};
 ghost use Rattle.receiver.specs.Store.{storeLength};
 ghost use Rattle.receiver_table.specs.Table.{other};
 ghost use Rattle.receiver.specs.Arriving.{storeAfter};
-ghost use Rattle.receiver.specs.Receiving.{waiting, moved, renumbered, startReceiverOf, receiveOf, receiveStore, handOutOf, handOutBuffer};
+ghost use Rattle.receiver.specs.Receiving.{waiting, startReceiverOf, receiveRefusal, receiveOf, receiveStore, handOutOf, handOutBuffer};
+ghost use Rattle.receiver.specs.InPlace.{numbersLength, receiverWith, numbersOf, stepOf, receiveStep, receiveNumbers, receiveInto, handOutWith, handOutInto};
 
 // The bytes of the store: a packet for each slot but the header's.
 pub const STORE_BYTES: usize = PACKET_BYTES * SLOTS;
+
+// The slots' numbers by the header of the open frame and by the one before it.
+pub const NUMBERS_BYTES: usize = SLOTS + SLOTS;
 
 // A receiver's state. A saved one may hold anything: each call checks it.
 pub struct Receiver {
@@ -42,6 +48,14 @@ pub struct Received {
     pub refusal: u8,
     pub event: Event,
     pub state: Receiver,
+}
+
+// What a packet's receipt answers beside the numbers: refusal 0, the event and where the receiver stands then, or the refusal's
+// number and the stage as it was.
+pub struct Step {
+    pub refusal: u8,
+    pub event: Event,
+    pub stage: Stage,
 }
 
 // What handing out answers: refusal 0 and how many packets, or the refusal's number and 0.
@@ -74,48 +88,89 @@ fn store_packet(stage: Stage, packet: &[u8], store: &mut [u8])
     }
 }
 
-// What a packet answers that is no good header: the numbers stay.
-fn on_row(c: Receiver, row: Row) -> Received
-    ensures { λ r. ⌜ r ≡ record { refusal = 0; event = row .event; state = moved c (row .stage) } ⌝ }
+// What a packet answers that takes this row.
+fn accepted(row: Row) -> Step
+    ensures { λ r. ⌜ r ≡ record { refusal = 0; event = row .event; stage = row .stage } ⌝ }
 {
     let event = row.event;
     let stage = row.stage;
-    let kind = c.kind;
-    let numbers = c.numbers;
-    let before = c.before;
-    let state = Receiver {
-        pid: c.pid,
-        kind,
-        stage,
-        numbers,
-        before,
-    };
-    Received {
+    Step {
         refusal: 0,
         event,
-        state,
+        stage,
     }
 }
 
-// What a good header answers: its numbers are the open frame's now.
-fn on_header(c: Receiver, row: Row, said: [u8; SLOTS]) -> Received
-    ensures { λ r. ⌜ r ≡ record { refusal = 0; event = row .event; state = renumbered c (row .stage) said } ⌝ }
+// Takes a packet that may stand in no slot: a header, whose numbers are the open frame's now, or a broken one.
+fn take_header(pid: u16, kind: Kind, stage: Stage, numbers: &mut [u8], packet: &[u8]) -> Step
+    requires { ⌜ (length (now numbers) ≡ numbersLength) × (unfit pid (now packet) ≡ true) ⌝ }
+    requires { ⌜ receiveRefusal (receiverWith pid kind stage (now numbers)) (length (now packet)) storeLength ≡ 0 ⌝ }
+    ensures { λ r. ⌜ r ≡ stepOf (receiveOf (receiverWith pid kind stage (now (numbers .entry))) (now (packet .entry)) storeLength) ⌝ }
+    ensures { λ _. ⌜ now (numbers .exit) ≡ numbersOf (receiveOf (receiverWith pid kind stage (now (numbers .entry))) (now (packet .entry)) storeLength .state) ⌝ }
 {
-    let event = row.event;
-    let stage = row.stage;
-    let kind = c.kind;
-    let before = c.numbers;
-    let state = Receiver {
-        pid: c.pid,
-        kind,
-        stage,
-        numbers: said,
-        before,
-    };
-    Received {
+    let reading = header::read(packet, pid, kind);
+    if reading.refusal != 0 {
+        return accepted(receiver_table::broken_row(stage));
+    }
+    let said = reading.setting;
+    let opened = said.relative_ts_number;
+    let before = halves::half(numbers, 0);
+    halves::join(numbers, &opened, &before);
+    accepted(receiver_table::header_row(stage, said.continuity_counter))
+}
+
+// Takes one packet, of a receiver whose numbers are lent. Only a good header changes them.
+pub fn receive_in_place(
+    pid: u16,
+    kind: Kind,
+    stage: Stage,
+    numbers: &mut [u8],
+    packet: &[u8],
+    store: &mut [u8],
+) -> Step
+    ensures { λ r. ⌜ r ≡ receiveStep pid kind stage (now (numbers .entry)) (now (packet .entry)) (length (now (store .entry))) ⌝ }
+    ensures { λ _. ⌜ now (numbers .exit) ≡ receiveNumbers pid kind stage (now (numbers .entry)) (now (packet .entry)) (length (now (store .entry))) ⌝ }
+    ensures { λ _. ⌜ now (store .exit) ≡ receiveInto pid kind stage (now (numbers .entry)) (now (packet .entry)) (now (store .entry)) ⌝ }
+{
+    let refusal = checks::receive_refusal(pid, stage, numbers, packet.len(), store.len());
+    if refusal != 0 {
+        return Step {
+            refusal,
+            event: Event::Nothing,
+            stage,
+        };
+    }
+    if packet::place_refusal(packet, pid) == 0 {
+        store_packet(stage, packet, store);
+        return accepted(receiver_table::other_row(stage));
+    }
+    take_header(pid, kind, stage, numbers, packet)
+}
+
+// Copies the ready frame's packets with number r, in slot order, to the front of the lent buffer; the receiver's numbers are lent.
+pub fn hand_out_in_place(
+    pid: u16,
+    stage: Stage,
+    numbers: &[u8],
+    store: &[u8],
+    out: &mut [u8],
+    r: RelativeNumber,
+) -> HandedOut
+    ensures { λ t. ⌜ t ≡ handOutWith pid stage (now (numbers .entry)) (r .0) (length (now (store .entry))) (length (now (out .entry))) ⌝ }
+    ensures { λ _. ⌜ now (out .exit) ≡ handOutInto pid stage (now (numbers .entry)) (r .0) (now (store .entry)) (now (out .entry)) ⌝ }
+{
+    let refusal = checks::hand_out_refusal(pid, stage, numbers, r, store.len(), out.len());
+    if refusal != 0 {
+        return HandedOut {
+            refusal,
+            packets: 0,
+        };
+    }
+    let before = &numbers[SLOTS..NUMBERS_BYTES];
+    numbered::copy_numbered(out, store, before, r.0);
+    HandedOut {
         refusal: 0,
-        event,
-        state,
+        packets: numbered::count(before, r.0),
     }
 }
 
@@ -141,31 +196,24 @@ impl Receiver {
         ensures { λ r. ⌜ r ≡ receiveOf self (now (packet .entry)) (length (now (store .entry))) ⌝ }
         ensures { λ _. ⌜ now (store .exit) ≡ receiveStore self (now (packet .entry)) (now (store .entry)) ⌝ }
     {
-        let refusal = checks::receive_refusal(self, packet.len(), store.len());
-        if refusal != 0 {
-            return Received {
-                refusal,
-                event: Event::Nothing,
-                state: self,
-            };
-        }
-        let stage = self.stage;
-        if packet::place_refusal(packet, self.pid) == 0 {
-            store_packet(stage, packet, store);
-            return on_row(self, receiver_table::other_row(stage));
-        }
         let kind = self.kind;
-        let reading = header::read(packet, self.pid, kind);
-        if reading.refusal != 0 {
-            return on_row(self, receiver_table::broken_row(stage));
+        let stage = self.stage;
+        let mut numbers = halves::numbers_of(self);
+        let step = receive_in_place(self.pid, kind, stage, &mut numbers, packet, store);
+        let event = step.event;
+        let after = step.stage;
+        let state = Receiver {
+            pid: self.pid,
+            kind,
+            stage: after,
+            numbers: halves::half(&numbers, 0),
+            before: halves::half(&numbers, SLOTS),
+        };
+        Received {
+            refusal: step.refusal,
+            event,
+            state,
         }
-        let said = reading.setting;
-        let numbers = said.relative_ts_number;
-        on_header(
-            self,
-            receiver_table::header_row(stage, said.continuity_counter),
-            numbers,
-        )
     }
 
     // Copies the ready frame's packets with number r, in slot order, to the front of the lent buffer.
@@ -173,18 +221,8 @@ impl Receiver {
         ensures { λ t. ⌜ t ≡ handOutOf self (r .0) (length (now (store .entry))) (length (now (out .entry))) ⌝ }
         ensures { λ _. ⌜ now (out .exit) ≡ handOutBuffer self (r .0) (now (store .entry)) (now (out .entry)) ⌝ }
     {
-        let refusal = checks::hand_out_refusal(self, r, store.len(), out.len());
-        if refusal != 0 {
-            return HandedOut {
-                refusal,
-                packets: 0,
-            };
-        }
-        let before = self.before;
-        numbered::copy_numbered(out, store, &before, r.0);
-        HandedOut {
-            refusal: 0,
-            packets: numbered::count(&before, r.0),
-        }
+        let stage = self.stage;
+        let numbers = halves::numbers_of(self);
+        hand_out_in_place(self.pid, stage, &numbers, store, out, r)
     }
 }

@@ -1,7 +1,9 @@
 -- The receiver's table: what a packet does to a receiver, by what it is, and where the receiver stands then.
 use Prim.Native.Nat.{ℕ, _+_, _-_, _%_, _^_}
 use mathlib.Core.Bool.{Bool, true, false, cond, _&&_}
-use lib.Dec.{ltb, eqb}
+use mathlib.Core.List.{List, [], _∷_}
+use lib.Dec.{leb, ltb, eqb}
+use Rattle.rules.specs.Refusal.{Check}
 use Rattle.counters.specs.Counters.{lastSlot}
 use Rattle.receiver_table.specs.declared.Stage.{Stage}
 use Rattle.receiver_table.specs.declared.Event.{Event}
@@ -70,3 +72,9 @@ unfoldable pub storedOf : Stage → ℕ
 storedOf Stage.Waiting = lastSlot
 storedOf (Stage.Open from k) = k
 storedOf (Stage.Ready from) = 0
+
+-- 17: the counter and the number of stored packets
+unfoldable pub stageChecks : Stage → List Check
+stageChecks Stage.Waiting = []
+stageChecks (Stage.Open from k) = (17, leb (2 ^ 4) from) ∷ (17, ltb lastSlot k) ∷ []
+stageChecks (Stage.Ready from) = (17, leb (2 ^ 4) from) ∷ []

@@ -1,7 +1,9 @@
 // The receiver's table: where a receiver stands, what a packet does to it, and where it stands then.
 use setting::SLOTS;
+use setting::limits;
 ghost use mathlib.Core.Path.{_≡_};
-ghost use Rattle.receiver_table.specs.Table.{good, broken, other, openRow, rowOf, storedOf, isReady};
+ghost use Rattle.rules.specs.Refusal.{firstOf};
+ghost use Rattle.receiver_table.specs.Table.{good, broken, other, openRow, rowOf, stageChecks, storedOf, isReady};
 
 // Where a receiver stands.
 pub enum Stage {
@@ -116,6 +118,30 @@ pub fn broken_row(stage: Stage) -> Row
             event: Event::Broken,
             stage: Stage::Waiting,
         },
+    }
+}
+
+// 17: the counter and the number of stored packets; 0: a stage may hold them.
+pub fn stage_refusal(stage: Stage) -> u8
+    ensures { λ r. ⌜ r ≡ firstOf (stageChecks stage) ⌝ }
+{
+    match stage {
+        Stage::Waiting => 0,
+        Stage::Open(from, k) => {
+            if limits::COUNTERS <= from {
+                return 17;
+            }
+            if (SLOTS as u8) < k {
+                return 17;
+            }
+            0
+        }
+        Stage::Ready(from) => {
+            if limits::COUNTERS <= from {
+                return 17;
+            }
+            0
+        }
     }
 }
 

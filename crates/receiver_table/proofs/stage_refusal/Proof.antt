@@ -7,9 +7,9 @@ use lib.Dec.{ltb}
 use Rattle.counters.specs.Counters.{lastSlot}
 use Rattle.rules.specs.Refusal.{firstOf}
 use Rattle.rules.proofs.Refusals.{answers, passed}
-use Rattle.receiver.specs.Receiving.{stageChecks}
-use Rattle.receiver.proofs.checks.stage_refusal.Statement.{statement}
-use Rattle.receiver.proofs.checks.stage_refusal.Tie as tie
+use Rattle.receiver_table.specs.Table.{stageChecks}
+use Rattle.receiver_table.proofs.stage_refusal.Statement.{statement}
+use Rattle.receiver_table.proofs.stage_refusal.Tie as tie
 
 enum-told : tie.Need-enum-told
 enum-told c = search needs

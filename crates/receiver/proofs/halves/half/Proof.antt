@@ -1,12 +1,12 @@
--- `numbers_at` meets its contract. Assumes nothing.
+-- `half` meets its contract. Assumes nothing.
 use Prim.Native.Nat.{_+_, _-_}
 use mathlib.Core.Path.{_≡_, _∙_}
 use native.Mathlib.Omega.{arith}
 use borrow.Author.Needs.{needs}
 use Rattle.counters.specs.Counters.{lastSlot}
-use Rattle.board_receiver.proofs.Parts.{copied-part}
-use Rattle.board_receiver.proofs.states.numbers_at.Statement.{statement}
-use Rattle.board_receiver.proofs.states.numbers_at.Tie as tie
+use Rattle.receiver.proofs.Parted.{copied-part}
+use Rattle.receiver.proofs.halves.half.Statement.{statement}
+use Rattle.receiver.proofs.halves.half.Tie as tie
 
 slice-aggregate-copy : tie.Need-slice-aggregate-copy
 slice-aggregate-copy c = search needs
@@ -32,10 +32,10 @@ returns c =
     let s = call .before .before .before .before in
     let at = s .args .at in
     let long : at + lastSlot - at ≡ lastSlot = omega arith in
-    call .copy .ensures ∙ copied-part (s .args .bytes .now) at (at + lastSlot - at) (s .pre) long
+    call .copy .ensures ∙ copied-part (s .args .numbers .now) at (at + lastSlot - at) (s .pre) long
 
-pub numbers-at-spec : {M : Type 1} → statement M
-numbers-at-spec =
+pub half-spec : {M : Type 1} → statement M
+half-spec =
     tie.close
     (tie.spec
     slice-aggregate-copy
