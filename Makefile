@@ -1,22 +1,38 @@
-# `make run` proves and builds the lister and runs it on the sample; `make test` is the gate; `make board` makes the archive for C;
-# `make bench` measures it; `make memory` runs the comparison under valgrind.
-.PHONY: run test board board-test bench memory vectors
+# `make tools` proves and builds mux, demux, bond and unbond; `make run` the lister, and lists the sample; `make test` is the gate;
+# `make board` makes the archive for C; `make bench` measures; `make memory` runs the comparison under valgrind; `make real` takes real
+# streams through the tools.
+.PHONY: tools tools-test real run test board board-test bench memory vectors
 SHELL = /bin/bash
 .SHELLFLAGS = -o pipefail -c
 
 BOARD = board_setting board_header board_packet board_frame board_receiver board_bond
 GATE = compare/target/gate.log
 
+# One program with four names, in target/tools.
+tools:
+	rt check tools | tail -n 1
+	mkdir -p target/tools
+	for name in mux demux bond unbond; do ln -sf ../bin/tools target/tools/$$name; done
+
+# The tools on good and bad input, held to what the independent Rust makes of the same.
+tools-test: tools
+	cd compare && cargo test --quiet -p tools
+
+# Two streams by ffmpeg, multiplexed, taken apart and compared, whole and with packets lost.
+real: tools
+	command -v ffmpeg >/dev/null || apt-get install -y ffmpeg
+	examples/real.sh target/tools/mux target/tools/demux
+
 run:
 	rt check lister
 	target/bin/lister < samples/recording.ts
 
 # The independent programs' own tests; the proofs, the wrong programs and the programs (`rt ci`, which starts from nothing); then what is
-# linked with the archive. The last line printed is rt's. Four at a time keep two cores busy where checks take unequal times.
+# linked with the archive, and the tools. The last line printed is rt's. Eight at a time keep two cores busy where checks take unequal times.
 test:
 	cd compare && cargo test --quiet
-	RT_JOBS=4 rt ci | tee $(GATE)
-	$(MAKE) --no-print-directory board-test
+	RT_JOBS=8 rt ci | tee $(GATE)
+	$(MAKE) --no-print-directory board-test tools-test
 	@tail -n 1 $(GATE)
 
 # The board interface as one archive, target/board/libniranbok.a, for include/niranbok.h.
@@ -34,11 +50,12 @@ board-test: board
 	target/board/board
 	cd compare && cargo test --quiet -p board
 
-# Both implementations and bare copies, measured in one run; then the lister.
-bench: board
+# Both implementations and bare copies, measured in one run; then the lister and the tools.
+bench: board tools
 	rt check lister | tail -n 1
 	cd compare && cargo run --quiet --release -p board --bin bench
 	compare/lister.sh target/bin/lister
+	compare/tools.sh target/bin/tools
 
 # The same comparison, shorter, with every access watched.
 memory: board
@@ -48,4 +65,5 @@ memory: board
 # Makes the vectors and expected outputs again, from programs that share nothing with the crates.
 vectors:
 	/usr/bin/python3 vectors/crc_vectors.py
+	/usr/bin/python3 vectors/frames.py
 	vectors/make_cases.sh

@@ -9,7 +9,6 @@ trap 'rm -r "$made"' EXIT
 compare/target/release/lister_cases "$made"
 compare/target/release/frame_cases "$made"
 compare/target/release/bond_cases "$made"
-compare/target/release/bonded_cases "$made"
 
 # The lister runs once: the example on its standard input, the other cases by name, and all outputs one behind another.
 lister=crates/lister
@@ -27,8 +26,6 @@ mkdir -p crates/frame_cases
 cp "$made/frames.out" crates/frame_cases/stdout
 mkdir -p crates/bond_cases
 cp "$made/bonds.out" crates/bond_cases/stdout
-mkdir -p crates/bonded_cases
-cp "$made/bonded.out" crates/bonded_cases/stdout
 
 # The sample that ships: a few packets of the many, one of each refusal among them, and a cut one.
 for k in 0 1 2 3 36 142 170 184 198 212 226 240; do

@@ -1,7 +1,6 @@
 //! Cases for comparing another implementation with the reference: inputs
 //! with their expected outputs, the same in every run.
 
-pub mod bonded;
 pub mod bonds;
 mod drawn;
 pub mod frames;
