@@ -3,15 +3,15 @@
 # then the same with one packet in a thousand lost. Needs ffmpeg and ffprobe.
 #   examples/real.sh MUX DEMUX
 set -euo pipefail
-mux=$(realpath "$1") demux=$(realpath "$2")
+mux=$(realpath -s "$1") demux=$(realpath -s "$2") # not the file behind the name, which says what it does
 work=$(mktemp -d)
 trap 'rm -rf "$work"' EXIT
 cd "$work"
 make_stream() { # FILE VIDEO_CODEC AUDIO_CODEC PICTURE TONE
     ffmpeg -loglevel error -f lavfi -i "$4=size=352x288:rate=25" -f lavfi -i "sine=frequency=$5" -t 6 \
-        -c:v "$2" -b:v 1M -c:a "$3" -b:a 128k -f mpegts "$1"
+        -c:v "$2" -g 12 -b:v 1M -c:a "$3" -b:a 128k -f mpegts "$1"
 }
-tracks() { ffprobe -loglevel error -show_entries stream=codec_name -of csv=p=0 "$1" | sort -u | paste -sd ' '; }
+tracks() { ffprobe -loglevel fatal -show_entries stream=codec_name -of default=nw=1:nk=1 "$1" | sort -u | paste -sd ' '; }
 packets() { echo $(($(stat -c %s "$1") / 188)); }
 
 make_stream news.ts mpeg2video mp2 testsrc 440
@@ -25,8 +25,7 @@ cmp news.ts news.out
 cmp film.ts film.out
 echo "both came back byte for byte; ffprobe reads: $(tracks news.out) and $(tracks film.out)"
 
-# Every packet of a stream that comes out of the damaged frames is to stand in the stream, in its order: `left` is what of the original
-# is not there, and nothing may be added.
+# Every packet that comes out of the damaged frames is to stand in its own stream, in its order: nothing may be added.
 perl -e 'srand 7; local $/ = \188; while (<STDIN>) { print unless rand() < 0.001 }' <frames >lossy
 echo "one packet in a thousand lost: $(packets lossy) of $(packets frames) packets left"
 check_lossy() { # STREAM FILE

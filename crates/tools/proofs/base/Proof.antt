@@ -1,6 +1,5 @@
 -- `base` is safe and ends. Assumes nothing.
-use Prim.Native.Nat.{_+_, _-_, _*_, _^_, _≤_, _<_}
-use mathlib.Core.Path.{_≡_}
+use Prim.Native.Nat.{_-_, _≤_}
 use native.Mathlib.Omega.{arith}
 use borrow.Author.Needs.{needs}
 use lib.ListN.{length}

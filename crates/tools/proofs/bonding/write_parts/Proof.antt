@@ -1,11 +1,6 @@
 -- `write_parts` is safe and ends. Assumes nothing.
-use Prim.Native.Nat.{_+_, _-_, _*_, _^_, _≤_, _<_}
-use mathlib.Core.Path.{_≡_}
-use native.Mathlib.Omega.{arith}
+use Prim.Native.Nat.{_-_}
 use borrow.Author.Needs.{needs}
-use lib.ListN.{length}
-use Rattle.io.proofs.Counting.{counts}
-use mathlib.Core.Path.{refl}
 use Rattle.tools.proofs.bonding.write_parts.Statement.{statement}
 use Rattle.tools.proofs.bonding.write_parts.Tie as tie
 

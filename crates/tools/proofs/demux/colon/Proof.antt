@@ -1,11 +1,8 @@
 -- `colon` is safe and ends. Assumes nothing.
-use Prim.Native.Nat.{_+_, _-_, _*_, _^_, _≤_, _<_}
-use mathlib.Core.Path.{_≡_}
+use Prim.Native.Nat.{_-_, _≤_}
 use native.Mathlib.Omega.{arith}
 use borrow.Author.Needs.{needs}
 use lib.ListN.{length}
-use Rattle.io.proofs.Counting.{counts}
-use mathlib.Core.Path.{refl}
 use Rattle.tools.proofs.demux.colon.Statement.{statement}
 use Rattle.tools.proofs.demux.colon.Tie as tie
 

@@ -1,11 +1,10 @@
 -- `read_block` is safe and ends. Assumes nothing.
-use Prim.Native.Nat.{_+_, _-_, _*_, _^_, _≤_, _<_}
-use mathlib.Core.Path.{_≡_}
+use Prim.Native.Nat.{_-_, _≤_}
+use mathlib.Core.Path.{_≡_, refl}
 use native.Mathlib.Omega.{arith}
 use borrow.Author.Needs.{needs}
 use lib.ListN.{length}
 use Rattle.io.proofs.Counting.{counts}
-use mathlib.Core.Path.{refl}
 use Rattle.tools.proofs.input.read_block.Statement.{statement}
 use Rattle.tools.proofs.input.read_block.Tie as tie
 

@@ -1,11 +1,7 @@
--- `read_packets` is safe and ends. Assumes nothing.
-use Prim.Native.Nat.{_+_, _-_, _*_, _^_, _≤_, _<_}
-use mathlib.Core.Path.{_≡_}
+-- `read_packets` is safe. Assumes nothing.
 use native.Mathlib.Omega.{arith}
 use borrow.Author.Needs.{needs}
-use lib.ListN.{length}
 use Rattle.io.proofs.Counting.{counts}
-use mathlib.Core.Path.{refl}
 use Rattle.tools.proofs.mux.read_packets.Statement.{statement}
 use Rattle.tools.proofs.mux.read_packets.Tie as tie
 

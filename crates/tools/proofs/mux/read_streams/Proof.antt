@@ -1,9 +1,6 @@
 -- `read_streams` is safe and ends. Assumes nothing.
-use Prim.Native.Nat.{_+_, _-_, _*_, _^_, _≤_, _<_}
-use mathlib.Core.Path.{_≡_}
-use native.Mathlib.Omega.{arith}
+use Prim.Native.Nat.{_-_}
 use borrow.Author.Needs.{needs}
-use lib.ListN.{length}
 use Rattle.tools.proofs.mux.read_streams.Statement.{statement}
 use Rattle.tools.proofs.mux.read_streams.Tie as tie
 

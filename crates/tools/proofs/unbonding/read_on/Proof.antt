@@ -1,11 +1,8 @@
 -- `read_on` is safe and ends. Assumes nothing.
-use Prim.Native.Nat.{_+_, _-_, _*_, _^_, _≤_, _<_}
-use mathlib.Core.Path.{_≡_}
-use native.Mathlib.Omega.{arith}
+use Prim.Native.Nat.{_-_}
+use mathlib.Core.Path.{_≡_, refl}
 use borrow.Author.Needs.{needs}
 use lib.ListN.{length}
-use Rattle.io.proofs.Counting.{counts}
-use mathlib.Core.Path.{refl}
 use Rattle.tools.proofs.unbonding.read_on.Statement.{statement}
 use Rattle.tools.proofs.unbonding.read_on.Tie as tie
 
