@@ -3,7 +3,7 @@
 
 pub mod bonded;
 pub mod bonds;
-mod drawn;
+pub mod drawn;
 pub mod frames;
 pub mod generator;
 pub mod lister;
