@@ -2,7 +2,7 @@
 //! with their expected outputs, the same in every run.
 
 pub mod bonds;
-mod drawn;
+pub mod drawn;
 pub mod frames;
 pub mod generator;
 pub mod lister;

@@ -1,12 +1,14 @@
 // One carrier of a group, read packet by packet. A run's first header has counter 0, and never more than fifteen headers in a row are
 // lost: so a header's counter tells its frame's place in the run, and with that the super frame that it belongs to.
 use crate::input;
+use crate::says;
 use crate::tally;
 use crate::tally::Tally;
 use packet::FRAME_BYTES;
 use packet::PACKET_BYTES;
 use receiver_table::Event;
 use setting::Kind;
+use setting::SLOTS;
 use setting::limits;
 ghost use mathlib.Core.Path.{_≡_};
 ghost use Prim.Native.Nat.{_≤_, _<_};
@@ -23,8 +25,9 @@ pub(crate) struct Carrier {
     pub(crate) ended: bool,
     // How many frames its super frames have, by the last good header; 0 before the first.
     pub(crate) frames: u8,
-    // The place in the run, from 0, of the frame that the last good header opened.
+    // The place in the run, from 0, of the frame that the last good header opened, and how many packets had come with it.
     pub(crate) place: u64,
+    pub(crate) came: u64,
     // The frames of the super frame asked for that came whole, a bit for each.
     pub(crate) have: u8,
     // The packets of the block, and how many of them were taken.
@@ -39,6 +42,7 @@ pub(crate) fn start(fd: i32) -> Carrier {
         ended: false,
         frames: 0,
         place: 0,
+        came: 0,
         have: 0,
         packets: 0,
         taken: 0,
@@ -95,15 +99,43 @@ fn place_behind(place: u64, counter: u8) -> u64 {
     std::num::wrapping_add_u64(place, step as u64)
 }
 
+// Whether a header with this counter is one that came already, and not the sixteenth behind it: then a frame's packets would have come
+// between.
+fn is_repeated(c: Carrier, counter: u8) -> bool {
+    if c.frames == 0 {
+        return false;
+    }
+    if (c.place % 16) as u8 != counter {
+        return false;
+    }
+    let so_far = c.tally;
+    std::num::wrapping_sub_u64(so_far.came, c.came) <= SLOTS as u64
+}
+
+// A carrier whose place in the run is no longer known: nothing more of it is used.
+fn lost(c: Carrier) -> Carrier {
+    says::text(b"a header came twice: the carrier's place in the run is no longer known\n");
+    let mut next = c;
+    next.frames = 0;
+    next.have = 0;
+    next.ended = true;
+    next
+}
+
 // What a good header tells.
 fn with_header(c: Carrier, packet: &[u8], pid: u16) -> Carrier {
     let said = header::read(packet, pid, Kind::Extended).setting;
+    if is_repeated(c, said.continuity_counter) {
+        return lost(c);
+    }
+    let so_far = c.tally;
     let mut next = c;
     if c.frames == 0 {
         next.place = said.continuity_counter as u64;
     } else {
         next.place = place_behind(c.place, said.continuity_counter);
     }
+    next.came = so_far.came;
     next.frames = said.number_of_frames;
     next
 }

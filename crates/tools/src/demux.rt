@@ -181,7 +181,8 @@ fn write_packets(out: &[u8], packets: usize) -> bool
     true
 }
 
-// Hands out the stream's packets of a frame that just became ready. Answers how many.
+// Hands out the stream's packets of a frame that just became ready. Answers how many, and more than a frame has where standard output
+// did not take them.
 fn hand_out(receiver: Receiver, store: &[u8], number: u8) -> usize {
     let mut out = [0u8; STORE_BYTES];
     let handed = receiver.hand_out(store, &mut out, RelativeNumber(number));
@@ -195,11 +196,19 @@ fn after_ready(link: Link, store: &[u8]) -> Link {
     let receiver = link.receiver;
     let packets = hand_out(receiver, store, link.number);
     let before = link.tally;
+    if SLOTS < packets {
+        return Link {
+            receiver,
+            number: link.number,
+            tally: before,
+            taken: false,
+        };
+    }
     Link {
         receiver,
         number: link.number,
         tally: tally::with_packets(before, packets),
-        taken: link.taken && packets <= SLOTS,
+        taken: true,
     }
 }
 
@@ -236,6 +245,9 @@ fn take_block(link: Link, block: &[u8], store: &mut [u8], pid: u16, choice: Choi
     while i < packets {
         let at = PACKET_BYTES * i;
         next = take(next, &block[at..at + PACKET_BYTES], store, pid, choice);
+        if !next.taken {
+            return next;
+        }
         i += 1;
     }
     next

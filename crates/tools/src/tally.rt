@@ -103,8 +103,18 @@ fn say_frames(t: Tally) {
     say_count(b", broken ", t.broken);
 }
 
+fn say_no_header(t: Tally, pid: u16) {
+    say_count(b"no header with PID ", pid as u64);
+    say_count(b" in ", t.came);
+    says::text(b" packets: another PID, or not cut on packet borders\n");
+}
+
 // The frames of one input among several, in a line.
-pub(crate) fn say_input(t: Tally) {
+pub(crate) fn say_input(t: Tally, pid: u16) {
+    if t.headers == 0 {
+        say_no_header(t, pid);
+        return;
+    }
     say_frames(t);
     says::text(b"\n");
 }
@@ -112,9 +122,7 @@ pub(crate) fn say_input(t: Tally) {
 // The summary. An input without a header is said to have none.
 pub(crate) fn say(t: Tally, pid: u16) {
     if t.headers == 0 {
-        say_count(b"no header with PID ", pid as u64);
-        say_count(b" in ", t.came);
-        says::text(b" packets: another PID, or not cut on packet borders\n");
+        say_no_header(t, pid);
         return;
     }
     say_frames(t);

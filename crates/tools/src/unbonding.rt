@@ -40,6 +40,8 @@ struct Count {
     out: u64,
     dropped: u64,
     packets: u64,
+    // A refusal was said: those behind it are only counted.
+    said: bool,
     // The last one that was tried is the input's end, or standard output takes no more.
     ended: bool,
 }
@@ -237,8 +239,19 @@ fn with_drop(count: Count) -> Count {
         out: count.out,
         dropped: std::num::wrapping_add_u64(count.dropped, 1),
         packets: count.packets,
+        said: count.said,
         ended: count.ended,
     }
+}
+
+// A refusal is said the first time, and counted each time.
+fn with_refusal(count: Count, refusal: u8) -> Count {
+    let mut next = count;
+    if !count.said {
+        says::refusal(b"super frame", refusal);
+        next.said = true;
+    }
+    with_drop(next)
 }
 
 // A line every so many super frames of a long input.
@@ -251,25 +264,27 @@ fn say_progress(out: u64) {
     }
 }
 
-// Gathers the group and writes the stream. Only the first refusal is said: all are counted.
+// Gathers the group and writes the stream.
 fn gather(group: &[u8], out: &mut [u8], bond: Bond, count: Count) -> Count
     requires { ⌜ length (now out) ≡ 312832 ⌝ }
 {
     let moved = bond::gather(group, out, bond);
     if moved.refusal != 0 {
-        if count.dropped == 0 {
-            says::refusal(b"super frame", moved.refusal);
-        }
-        return with_drop(count);
+        return with_refusal(count, moved.refusal);
     }
-    let taken = write(out, moved.packets);
+    if !write(out, moved.packets) {
+        let mut last = count;
+        last.ended = true;
+        return last;
+    }
     let more = std::num::wrapping_add_u64(count.out, 1);
     say_progress(more);
     Count {
         out: more,
         dropped: count.dropped,
         packets: std::num::wrapping_add_u64(count.packets, moved.packets as u64),
-        ended: !taken,
+        said: count.said,
+        ended: false,
     }
 }
 
@@ -309,7 +324,7 @@ fn one_super(
     gather(&group[0..end], out, bond, count)
 }
 
-fn say_carriers(g: Group, n: usize)
+fn say_carriers(g: Group, pid: u16, n: usize)
     requires { ⌜ n ≤ 8 ⌝ }
 {
     let mut c = 0;
@@ -317,7 +332,7 @@ fn say_carriers(g: Group, n: usize)
         let one = g.carriers[c];
         let what = one.tally;
         says::about(b"carrier ", (c + 1) as u64);
-        tally::say_input(what);
+        tally::say_input(what, pid);
         c += 1;
     }
 }
@@ -381,6 +396,7 @@ fn unbond_with(
         out: 0,
         dropped: 0,
         packets: 0,
+        said: false,
         ended: false,
     };
     let mut want: u64 = 0;
@@ -422,7 +438,7 @@ fn run_files(bond: Bond, first: usize, n: usize)
     let end = unbond(g, n, bond);
     let group = end.group;
     let count = end.count;
-    say_carriers(group, n);
+    say_carriers(group, bond.pid, n);
     say(count);
 }
 

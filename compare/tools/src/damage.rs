@@ -1,0 +1,68 @@
+//! What happens to packets on their way.
+
+use cases::generator::Generator;
+use reference::{null_packet, FRAME_BYTES, PACKET_BYTES};
+
+/// A frame's packets, its header first.
+pub const FRAME_PACKETS: usize = FRAME_BYTES / PACKET_BYTES;
+
+/// The lot of one packet.
+#[derive(Clone, Copy, Debug, PartialEq, Eq)]
+pub enum Lot {
+    Whole,
+    Lost,
+    /// All bits of one byte are turned.
+    Spoiled(usize),
+    Doubled,
+    /// A null packet comes behind it.
+    Followed,
+}
+
+/// The lots of a run of whole frames and a last header.
+#[derive(Clone)]
+pub struct Lots(pub Vec<Lot>);
+
+impl Lots {
+    pub fn whole(bytes: &[u8]) -> Lots {
+        Lots(vec![Lot::Whole; bytes.len() / PACKET_BYTES])
+    }
+
+    /// One packet in so many has this lot.
+    pub fn some(&mut self, generator: &mut Generator, one_in: u16, lot: Lot) {
+        for old in &mut self.0 {
+            if generator.below(one_in) == 0 {
+                *old = lot;
+            }
+        }
+    }
+
+    /// One header in so many is spoiled, in any of its bytes.
+    pub fn spoil_headers(&mut self, generator: &mut Generator, one_in: u16) {
+        for old in self.0.iter_mut().step_by(FRAME_PACKETS) {
+            if generator.below(one_in) == 0 {
+                *old = Lot::Spoiled(generator.below(PACKET_BYTES as u16).into());
+            }
+        }
+    }
+
+    /// The packets as they arrive.
+    pub fn arrive(&self, bytes: &[u8]) -> Vec<u8> {
+        let packets = bytes.chunks_exact(PACKET_BYTES);
+        let lots = self.0.iter().copied();
+        packets.zip(lots).flat_map(arrived).collect()
+    }
+}
+
+fn arrived((packet, lot): (&[u8], Lot)) -> Vec<u8> {
+    match lot {
+        Lot::Whole => packet.to_vec(),
+        Lot::Lost => Vec::new(),
+        Lot::Spoiled(byte) => {
+            let mut packet = packet.to_vec();
+            packet[byte] ^= 0xFF;
+            packet
+        }
+        Lot::Doubled => packet.repeat(2),
+        Lot::Followed => [packet, &null_packet()].concat(),
+    }
+}
