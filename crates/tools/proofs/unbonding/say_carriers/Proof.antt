@@ -5,10 +5,10 @@ use Rattle.tools.proofs.unbonding.say_carriers.Statement.{statement}
 use Rattle.tools.proofs.unbonding.say_carriers.Tie as tie
 
 abbrev Inv-loop : tie.InvT-loop
-Inv-loop n g c₀ t7 c = Unit {0}
+Inv-loop pid n g c₀ t8 c = Unit {0}
 
 abbrev μ-loop : tie.MeasureT-loop
-μ-loop n g c₀ t7 c = n - c
+μ-loop pid n g c₀ t8 c = n - c
 
 loop-holds : tie.Need-loop-holds Inv-loop μ-loop
 loop-holds c = tt
