@@ -150,6 +150,15 @@ pub(crate) fn pid(i: usize) -> u16 {
     low(n)
 }
 
+// A word's number in 16 bits, or none, which is said.
+pub(crate) fn identifier(i: usize, field: &[u8]) -> Number {
+    let Number::Is(n) = number_at(i, 0, 65535) else {
+        says::range(field, 0, 65535, 17);
+        return Number::None;
+    };
+    Number::Is(n)
+}
+
 // The number in 16 bits, as all within 65,535 are.
 pub(crate) fn low(n: u32) -> u16 {
     (n % 65536) as u16

@@ -5,20 +5,14 @@ use crate::carriers;
 use crate::carriers::CARRIERS;
 use crate::carriers::GROUP_BYTES;
 use crate::carriers::STREAM_BYTES;
+use crate::headings;
+use crate::headings::Bonded;
 use crate::input;
 use crate::nulls;
-use crate::plan;
-use crate::plan::SHARES;
 use crate::says;
-use crate::settings;
-use counters::FramePosition;
 use counters::Slot;
 use group::Bond;
-use packet::FRAME_BYTES;
 use packet::PACKET_BYTES;
-use setting::Kind;
-use setting::SLOTS;
-use setting::Setting;
 use setting::limits;
 ghost use mathlib.Core.Path.{_≡_};
 ghost use Prim.Native.Nat.{_≤_, _<_};
@@ -33,12 +27,6 @@ fn usage() {
     says::text(
         b"usage: bond PID GROUP TS_ID NETWORK_ID FILE FRAMES SLOTS CARRIER_FILE [FRAMES SLOTS CARRIER_FILE]..\n",
     );
-}
-
-// A bond and the id of its group.
-struct Bonded {
-    bond: Bond,
-    group_id: u8,
 }
 
 // Says of a carrier's field that it is out of range.
@@ -135,126 +123,6 @@ fn packets_of(frames: &[u8], slots: &[u8], n: usize) -> usize
         c += 1;
     }
     carriers::at_most(sum, STREAM_BYTES / PACKET_BYTES)
-}
-
-// The plan of a carrier whose stream has so many slots of each frame.
-fn plan_of(slots: u8) -> [u8; SLOTS]
-    ensures { λ r. ⌜ length r ≡ 52 ⌝ }
-{
-    let mut shares = [0u32; SHARES];
-    let n = carriers::at_most(slots as usize, SLOTS);
-    shares[1] = n as u32;
-    shares[0] = (SLOTS - n) as u32;
-    plan::numbers(&shares)
-}
-
-// The counter of a frame, from 0, in the super frame with this number: the run's first header has 0.
-fn counter(number: u64, frames: u8, f: u8) -> u8
-    requires { ⌜ f < 4 ⌝ }
-{
-    let n = (number % 16) as u8;
-    if frames == limits::FEWEST_FRAMES {
-        return (n * 3 + f) % 16;
-    }
-    (n * 4 + f) % 16
-}
-
-// The setting of a carrier's frame, from 0, in the super frame with this number.
-fn setting_of(b: Bonded, c: u8, frames: u8, f: u8, number: u64) -> Setting
-    requires { ⌜ f < 4 ⌝ }
-{
-    let bond = b.bond;
-    let mut s = settings::with_stream(Setting::blank(), 1, bond.ts_id, bond.original_network_id);
-    s.continuity_counter = counter(number, frames, f);
-    s.frame_type = limits::LAST_FRAME_TYPE;
-    s.group_id = b.group_id;
-    s.number_of_carriers = bond.carriers;
-    s.carrier_sequence = c;
-    s.number_of_frames = frames;
-    let position = FramePosition(f + 1);
-    s.frame_position = position;
-    s
-}
-
-// Writes a header into the lent packet. Answers whether it was written.
-fn write_header(
-    packet: &mut [u8],
-    b: Bonded,
-    c: u8,
-    frames: u8,
-    f: u8,
-    number: u64,
-    slots: u8,
-) -> bool
-    requires { ⌜ f < 4 ⌝ }
-{
-    let mut s = setting_of(b, c, frames, f, number);
-    let numbers = plan_of(slots);
-    s.relative_ts_number = numbers;
-    let bond = b.bond;
-    let refusal = header::write(packet, bond.pid, Kind::Extended, s);
-    if refusal != 0 {
-        says::refusal(b"header", refusal);
-        return false;
-    }
-    true
-}
-
-// Writes the headers of a carrier's super frame, which starts here.
-fn write_super(
-    group: &mut [u8],
-    at: usize,
-    b: Bonded,
-    c: u8,
-    frames: u8,
-    number: u64,
-    slots: u8,
-) -> bool
-    requires { ⌜ (length (now group) ≡ 318848) × (at ≤ 318848) ⌝ }
-{
-    let mut f = 0;
-    while f < limits::MOST_FRAMES {
-        if frames <= f {
-            return true;
-        }
-        let from = carriers::at_most(at + FRAME_BYTES * f as usize, GROUP_BYTES - PACKET_BYTES);
-        if !write_header(
-            &mut group[from..from + PACKET_BYTES],
-            b,
-            c,
-            frames,
-            f,
-            number,
-            slots,
-        ) {
-            return false;
-        }
-        f += 1;
-    }
-    true
-}
-
-// Writes the headers of all carriers.
-fn write_headers(
-    group: &mut [u8],
-    b: Bonded,
-    frames: &[u8],
-    slots: &[u8],
-    number: u64,
-    n: usize,
-) -> bool
-    requires { ⌜ (length (now frames) ≡ 8) × (length (now slots) ≡ 8) ⌝ }
-    requires { ⌜ (length (now group) ≡ 318848) × (n ≤ 8) ⌝ }
-{
-    let mut c = 0;
-    while c < n {
-        let at = carriers::bytes_before(frames, c);
-        if !write_super(group, at, b, (c + 1) as u8, frames[c], number, slots[c]) {
-            return false;
-        }
-        c += 1;
-    }
-    true
 }
 
 fn write(fd: i32, c: usize, bytes: &[u8]) -> bool {
@@ -367,7 +235,7 @@ fn make_all(
 {
     let mut number: u64 = 0;
     while number < u64::MAX {
-        if !write_headers(group, b, frames, slots, number, n) {
+        if !headings::write_headers(group, b, frames, slots, number, n) {
             return;
         }
         let bond = b.bond;
@@ -417,22 +285,13 @@ fn run_carriers(b: Bonded, input: usize, n: usize)
     }
 }
 
-// A word's number in 16 bits, or none, which is said.
-pub(crate) fn identifier(i: usize, field: &[u8]) -> Number {
-    let Number::Is(n) = arguments::number_at(i, 0, 65535) else {
-        says::range(field, 0, 65535, 17);
-        return Number::None;
-    };
-    Number::Is(n)
-}
-
 fn run_group(pid: u16, group_id: u8, first: usize, n: usize)
     requires { ⌜ (first ≤ 2) × (n ≤ 8) ⌝ }
 {
-    let Number::Is(ts_id) = identifier(first + 2, b"TS_ID") else {
+    let Number::Is(ts_id) = arguments::identifier(first + 2, b"TS_ID") else {
         return;
     };
-    let Number::Is(network_id) = identifier(first + 3, b"NETWORK_ID") else {
+    let Number::Is(network_id) = arguments::identifier(first + 3, b"NETWORK_ID") else {
         return;
     };
     let bond = Bond {

@@ -5,6 +5,8 @@ mod bonding;
 mod carrier;
 mod carriers;
 mod demux;
+mod gathering;
+mod headings;
 mod input;
 mod mux;
 mod nulls;

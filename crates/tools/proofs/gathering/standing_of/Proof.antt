@@ -1,14 +1,14 @@
--- `all_open` is safe and ends. Assumes nothing.
+-- `standing_of` is safe and ends. Assumes nothing.
 use Prim.Native.Nat.{_-_}
 use borrow.Author.Needs.{needs}
-use Rattle.tools.proofs.unbonding.all_open.Statement.{statement}
-use Rattle.tools.proofs.unbonding.all_open.Tie as tie
+use Rattle.tools.proofs.gathering.standing_of.Statement.{statement}
+use Rattle.tools.proofs.gathering.standing_of.Tie as tie
 
 abbrev Inv-loop : tie.InvT-loop
-Inv-loop n g c₀ c = Unit {0}
+Inv-loop n g all₀ c₀ all c = Unit {0}
 
 abbrev μ-loop : tie.MeasureT-loop
-μ-loop n g c₀ c = n - c
+μ-loop n g all₀ c₀ all c = n - c
 
 loop-holds : tie.Need-loop-holds Inv-loop μ-loop
 loop-holds c = tt
@@ -19,8 +19,8 @@ mul-one c = search needs
 element-copy-out-one : tie.Need-element-copy-out-one Inv-loop μ-loop
 element-copy-out-one c = search needs
 
-returns : tie.Need-returns Inv-loop μ-loop
-returns c = tt
+with-carrier-requires : tie.Need-with-carrier-requires Inv-loop μ-loop
+with-carrier-requires c κs = search needs
 
 add-c : tie.Need-add-c Inv-loop μ-loop
 add-c c = search needs
@@ -31,11 +31,11 @@ loop-less c = search needs
 loop-again : tie.Need-loop-again Inv-loop μ-loop
 loop-again c = tt
 
-returns-2 : tie.Need-returns-2 Inv-loop μ-loop
-returns-2 c = tt
+returns : tie.Need-returns Inv-loop μ-loop
+returns c = tt
 
-pub all-open-spec : {M : Type 1} → statement M
-all-open-spec =
+pub standing-of-spec : {M : Type 1} → statement M
+standing-of-spec =
     tie.close
     (tie.spec
     Inv-loop
@@ -43,8 +43,8 @@ all-open-spec =
     loop-holds
     mul-one
     element-copy-out-one
-    returns
+    with-carrier-requires
     add-c
     loop-less
     loop-again
-    returns-2)
+    returns)

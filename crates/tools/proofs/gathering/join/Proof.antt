@@ -3,8 +3,8 @@ use Prim.Native.Nat.{_-_}
 use mathlib.Core.Path.{_≡_, refl}
 use borrow.Author.Needs.{needs}
 use lib.ListN.{length}
-use Rattle.tools.proofs.unbonding.join.Statement.{statement}
-use Rattle.tools.proofs.unbonding.join.Tie as tie
+use Rattle.tools.proofs.gathering.join.Statement.{statement}
+use Rattle.tools.proofs.gathering.join.Tie as tie
 
 abbrev Inv-loop : tie.InvT-loop
 Inv-loop group₀ supers frames n c₀ group c = length group ≡ length group₀

@@ -1,23 +1,20 @@
--- `some_ended` is safe and ends. Assumes nothing.
+-- `all_whole` is safe and ends. Assumes nothing.
 use Prim.Native.Nat.{_-_}
 use borrow.Author.Needs.{needs}
-use Rattle.tools.proofs.unbonding.some_ended.Statement.{statement}
-use Rattle.tools.proofs.unbonding.some_ended.Tie as tie
+use Rattle.tools.proofs.gathering.all_whole.Statement.{statement}
+use Rattle.tools.proofs.gathering.all_whole.Tie as tie
 
 abbrev Inv-loop : tie.InvT-loop
-Inv-loop n g c₀ c = Unit {0}
+Inv-loop frames n c₀ c = Unit {0}
 
 abbrev μ-loop : tie.MeasureT-loop
-μ-loop n g c₀ c = n - c
+μ-loop frames n c₀ c = n - c
 
 loop-holds : tie.Need-loop-holds Inv-loop μ-loop
 loop-holds c = tt
 
-mul-one : tie.Need-mul-one Inv-loop μ-loop
-mul-one c = search needs
-
-element-copy-out-one : tie.Need-element-copy-out-one Inv-loop μ-loop
-element-copy-out-one c = search needs
+shared-slice-read-if1 : tie.Need-shared-slice-read-if1 Inv-loop μ-loop
+shared-slice-read-if1 c = search needs
 
 returns : tie.Need-returns Inv-loop μ-loop
 returns c = tt
@@ -34,15 +31,14 @@ loop-again c = tt
 returns-2 : tie.Need-returns-2 Inv-loop μ-loop
 returns-2 c = tt
 
-pub some-ended-spec : {M : Type 1} → statement M
-some-ended-spec =
+pub all-whole-spec : {M : Type 1} → statement M
+all-whole-spec =
     tie.close
     (tie.spec
     Inv-loop
     μ-loop
     loop-holds
-    mul-one
-    element-copy-out-one
+    shared-slice-read-if1
     returns
     add-c
     loop-less

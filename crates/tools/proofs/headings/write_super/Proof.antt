@@ -3,8 +3,8 @@ use Prim.Native.Nat.{_-_}
 use mathlib.Core.Path.{_≡_, refl}
 use borrow.Author.Needs.{needs}
 use lib.ListN.{length}
-use Rattle.tools.proofs.bonding.write_super.Statement.{statement}
-use Rattle.tools.proofs.bonding.write_super.Tie as tie
+use Rattle.tools.proofs.headings.write_super.Statement.{statement}
+use Rattle.tools.proofs.headings.write_super.Tie as tie
 
 abbrev Inv-loop : tie.InvT-loop
 Inv-loop group₀ at b c frames number slots f₀ group f = length group ≡ length group₀

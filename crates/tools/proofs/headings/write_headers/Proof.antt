@@ -3,8 +3,8 @@ use Prim.Native.Nat.{_-_}
 use mathlib.Core.Path.{_≡_, refl}
 use borrow.Author.Needs.{needs}
 use lib.ListN.{length}
-use Rattle.tools.proofs.bonding.write_headers.Statement.{statement}
-use Rattle.tools.proofs.bonding.write_headers.Tie as tie
+use Rattle.tools.proofs.headings.write_headers.Statement.{statement}
+use Rattle.tools.proofs.headings.write_headers.Tie as tie
 
 abbrev Inv-loop : tie.InvT-loop
 Inv-loop group₀ b frames slots number n c₀ group c = length group ≡ length group₀

@@ -1,0 +1,144 @@
+// The headers of the super frames that bond writes.
+use crate::carriers;
+use crate::carriers::GROUP_BYTES;
+use crate::plan;
+use crate::plan::SHARES;
+use crate::says;
+use crate::settings;
+use counters::FramePosition;
+use group::Bond;
+use packet::FRAME_BYTES;
+use packet::PACKET_BYTES;
+use setting::Kind;
+use setting::SLOTS;
+use setting::Setting;
+use setting::limits;
+ghost use mathlib.Core.Path.{_≡_};
+ghost use Prim.Native.Nat.{_≤_, _<_};
+ghost use lib.ListN.{length};
+
+// A bond and the id of its group.
+pub(crate) struct Bonded {
+    pub(crate) bond: Bond,
+    pub(crate) group_id: u8,
+}
+
+// The plan of a carrier whose stream has so many slots of each frame.
+fn plan_of(slots: u8) -> [u8; SLOTS]
+    ensures { λ r. ⌜ length r ≡ 52 ⌝ }
+{
+    let mut shares = [0u32; SHARES];
+    let n = carriers::at_most(slots as usize, SLOTS);
+    shares[1] = n as u32;
+    shares[0] = (SLOTS - n) as u32;
+    plan::numbers(&shares)
+}
+
+// The counter of a frame, from 0, in the super frame with this number: the run's first header has 0.
+fn counter(number: u64, frames: u8, f: u8) -> u8
+    requires { ⌜ f < 4 ⌝ }
+{
+    let n = (number % 16) as u8;
+    if frames == limits::FEWEST_FRAMES {
+        return (n * 3 + f) % 16;
+    }
+    (n * 4 + f) % 16
+}
+
+// The setting of a carrier's frame, from 0, in the super frame with this number.
+fn setting_of(b: Bonded, c: u8, frames: u8, f: u8, number: u64) -> Setting
+    requires { ⌜ f < 4 ⌝ }
+{
+    let bond = b.bond;
+    let mut s = settings::with_stream(Setting::blank(), 1, bond.ts_id, bond.original_network_id);
+    s.continuity_counter = counter(number, frames, f);
+    s.frame_type = limits::LAST_FRAME_TYPE;
+    s.group_id = b.group_id;
+    s.number_of_carriers = bond.carriers;
+    s.carrier_sequence = c;
+    s.number_of_frames = frames;
+    let position = FramePosition(f + 1);
+    s.frame_position = position;
+    s
+}
+
+// Writes a header into the lent packet. Answers whether it was written.
+fn write_header(
+    packet: &mut [u8],
+    b: Bonded,
+    c: u8,
+    frames: u8,
+    f: u8,
+    number: u64,
+    slots: u8,
+) -> bool
+    requires { ⌜ f < 4 ⌝ }
+{
+    let mut s = setting_of(b, c, frames, f, number);
+    let numbers = plan_of(slots);
+    s.relative_ts_number = numbers;
+    let bond = b.bond;
+    let refusal = header::write(packet, bond.pid, Kind::Extended, s);
+    if refusal != 0 {
+        says::refusal(b"header", refusal);
+        return false;
+    }
+    true
+}
+
+// Writes the headers of a carrier's super frame, which starts here.
+fn write_super(
+    group: &mut [u8],
+    at: usize,
+    b: Bonded,
+    c: u8,
+    frames: u8,
+    number: u64,
+    slots: u8,
+) -> bool
+    requires { ⌜ (length (now group) ≡ 318848) × (at ≤ 318848) ⌝ }
+{
+    let mut f = 0;
+    while f < limits::MOST_FRAMES {
+        if frames <= f {
+            return true;
+        }
+        let from = carriers::at_most(at + FRAME_BYTES * f as usize, GROUP_BYTES - PACKET_BYTES);
+        if !write_header(
+            &mut group[from..from + PACKET_BYTES],
+            b,
+            c,
+            frames,
+            f,
+            number,
+            slots,
+        ) {
+            return false;
+        }
+        f += 1;
+    }
+    true
+}
+
+// Writes the headers of all carriers.
+pub(crate) fn write_headers(
+    group: &mut [u8],
+    b: Bonded,
+    frames: &[u8],
+    slots: &[u8],
+    number: u64,
+    n: usize,
+) -> bool
+    requires { ⌜ (length (now frames) ≡ 8) × (length (now slots) ≡ 8) ⌝ }
+    requires { ⌜ (length (now group) ≡ 318848) × (n ≤ 8) ⌝ }
+{
+    let mut c = 0;
+    while c < n {
+        let at = carriers::bytes_before(frames, c);
+        if !write_super(group, at, b, (c + 1) as u8, frames[c], number, slots[c]) {
+            return false;
+        }
+        c += 1;
+    }
+    true
+}
