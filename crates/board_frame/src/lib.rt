@@ -5,7 +5,6 @@ use coding::SETTING_BYTES;
 use counters::RelativeNumber;
 use frame::composer::Composer;
 ghost use mathlib.Core.Path.{_≡_};
-ghost use lib.ListN.{length};
 ghost use Rattle.board_frame.specs.Calls.{startRefused, startState, beginRefused, beginState, beginMemory, putRefused, putPlaced, putState, putMemory, closeRefused, closeState, closeMemory};
 
 // How many bytes a composer's state takes.

@@ -3,7 +3,6 @@
 use announced::Announced;
 use counters::FramePosition;
 use setting::AUXILIARY_BYTES;
-use setting::Kind;
 use setting::PRIVATE_BYTES;
 use setting::SLOTS;
 use setting::STREAMS;

@@ -7,7 +7,6 @@ use packet::PACKET_BYTES;
 use setting::Setting;
 use setting::limits;
 ghost use mathlib.Core.Path.{_≡_};
-ghost use lib.ListN.{length};
 ghost use Rattle.rules.specs.Refusal.{firstOf};
 ghost use Rattle.rules.specs.Rules.{widthChecks, ruleChecks};
 ghost use Rattle.frame.specs.Composing.{asked, stateChecks, openRuleChecks, markChecks, inTurn, openChecks, streamChecks, beginRefusal, putRefusal, closeRefusal};

@@ -2,21 +2,18 @@
 use Prim.Native.Nat.{ℕ}
 use mathlib.Core.Path.{_≡_, refl, sym, ap, _∙_}
 use mathlib.Core.Bool.{Bool, true, false, cond, not, true≢false}
-use mathlib.Core.List.{List, [], _∷_}
+use mathlib.Core.List.{List}
 use borrow.Author.Tests.{eq-eqb, ne-eqb}
 use lib.Dec.{eqb}
-use lib.ListN.{length}
 use Rattle.slices.proofs.Any.{neither}
 use Rattle.setting.specs.declared.Kind.{Kind}
-use Rattle.rules.specs.Refusal.{none, more}
-use Rattle.rules.proofs.Refusals.{first-none, none-first, none-at}
 use Rattle.header_reader.specs.declared.Reading.{Reading}
 use Rattle.layout.specs.Rows.{place, rowAt}
 use Rattle.layout.specs.Layout.{syncByte, startRows, identifierRows, controlRows, numberRows, privateRows, layout}
 use Rattle.layout.specs.Header.{startValue, reading}
 use Rattle.header_reader.specs.Reader.{readRefusal, readOf}
 use Rattle.header.proofs.Accepted.{shown}
-use Rattle.packet.specs.Packets.{packetLength, unfit, placeRefusal}
+use Rattle.packet.specs.Packets.{unfit}
 use Rattle.receiver_table.specs.Table.{good, broken, other}
 use Rattle.receiver_table.specs.declared.Stage.{Stage}
 use Rattle.receiver.specs.Arriving.{sortOf, storeAfter}

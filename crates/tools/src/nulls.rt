@@ -1,7 +1,6 @@
 // Null packets.
 use packet::PACKET_BYTES;
-ghost use Prim.Native.Nat.{_+_, _≤_};
-ghost use lib.ListN.{length};
+ghost use Prim.Native.Nat.{_+_};
 
 fn write_head(packet: &mut [u8]) {
     let head = [0x47u8, 0x1F, 0xFF, 0x10];

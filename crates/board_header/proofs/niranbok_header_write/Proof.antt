@@ -1,7 +1,6 @@
 -- `niranbok_header_write` meets its contract. Assumes nothing.
 use mathlib.Core.Path.{refl, sym, _∙_}
 use borrow.Author.Tests.{ne-eqb}
-use lib.ListN.{length}
 use Rattle.frame.specs.Composing.{leaves}
 use Rattle.board_header.specs.Calls.{thenRefused, writeRefused, writeMemory}
 use borrow.Author.Needs.{needs}

@@ -1,5 +1,5 @@
 -- `hand_out_in_place` meets its contract: it is refused, or the packets stand at the front of the buffer. Assumes nothing.
-use mathlib.Core.Path.{_≡_, sym, _∙_}
+use mathlib.Core.Path.{_≡_}
 use borrow.Author.Needs.{needs}
 use lib.ListN.{length, take, drop}
 use Rattle.setting.specs.declared.Kind.{Kind}

@@ -6,7 +6,6 @@ use lib.ListN.{length}
 use Rattle.packet.specs.Packets.{unfit}
 use Rattle.packet.proofs.Fit.{may-stand, may-not-stand}
 use Rattle.receiver.specs.declared.Receiver.{Receiver}
-use Rattle.receiver.specs.Store.{storeLength}
 use Rattle.receiver.specs.Receiving.{receiveRefusal}
 use Rattle.receiver.specs.InPlace.{numbersLength, receiverWith}
 use Rattle.receiver.proofs.ReceiverChecks.{whole-packet, whole-store}
