@@ -1,38 +1,66 @@
 # `make tools` proves and builds mux, demux, bond and unbond; `make run` the lister, and lists the sample; `make test` is the gate;
 # `make board` makes the archive for C; `make bench` measures; `make memory` runs the comparison under valgrind; `make real` takes real
 # streams through the tools.
-.PHONY: tools tools-test real run test board board-test bench memory vectors
+.PHONY: tools rust-test real run test board board-test bench memory vectors x86-64 natively
 SHELL = /bin/bash
 .SHELLFLAGS = -o pipefail -c
 
 BOARD = board_setting board_header board_packet board_frame board_receiver board_bond
 GATE = compare/target/gate.log
 
+# The archive and the programs are for x86-64. On another processor an emulator runs them, and Debian's cross compilers make what is
+# linked with the archive.
+ifeq ($(shell uname -m),x86_64)
+CROSS_CC = gcc
+CROSS_CARGO = cargo
+else
+EMULATOR = qemu-x86_64
+CROSS_CC = x86_64-linux-gnu-gcc
+CROSS_CARGO = RUSTC=/usr/bin/rustc CARGO_BUILD_TARGET=x86_64-unknown-linux-gnu CARGO_TARGET_X86_64_UNKNOWN_LINUX_GNU_LINKER=$(CROSS_CC) \
+	CARGO_TARGET_X86_64_UNKNOWN_LINUX_GNU_RUNNER=$(EMULATOR) cargo
+export NIRANBOK_EMULATOR = $(EMULATOR)
+endif
+
+# Installs the emulator and the cross compilers where they are needed and lack.
+x86-64:
+ifdef EMULATOR
+	command -v $(EMULATOR) $(CROSS_CC) /usr/bin/rustc >/dev/null && [ -d /usr/lib/rustlib/x86_64-unknown-linux-gnu ] || \
+	{ dpkg --add-architecture amd64 && apt-get -q update && DEBIAN_FRONTEND=noninteractive apt-get -q install -y --no-install-recommends \
+	qemu-user gcc-x86-64-linux-gnu libc6-dev-amd64-cross rustc-web libstd-rust-web-dev:amd64; } >/dev/null
+endif
+
 # One program with four names, in target/tools.
-tools:
+tools: x86-64
 	rt check tools | tail -n 1
 	mkdir -p target/tools
+ifdef EMULATOR
+	for name in mux demux bond unbond; do printf '#!/bin/sh\nexec $(EMULATOR) -0 %s %s "$$@"\n' $$name $(CURDIR)/target/bin/tools \
+	>target/tools/$$name; chmod +x target/tools/$$name; done
+else
 	for name in mux demux bond unbond; do ln -sf ../bin/tools target/tools/$$name; done
+endif
 
-# The tools on good and bad input, held to what the independent Rust makes of the same.
-tools-test: tools
-	cd compare && cargo test --quiet -p tools
+# The independent programs' own tests; the tools on good and bad input, held to what the independent Rust makes of the same. What it runs is
+# there before, so that no second rt writes into target/ beside board-test's.
+rust-test:
+	cd compare && cargo test --quiet && cargo test --quiet -p tools
 
 # Two streams by ffmpeg, multiplexed, taken apart and compared, whole and with packets lost.
 real: tools
 	command -v ffmpeg >/dev/null || apt-get install -y ffmpeg
 	examples/real.sh target/tools/mux target/tools/demux
 
-run:
+run: x86-64
 	rt check lister
-	target/bin/lister < samples/recording.ts
+	$(EMULATOR) target/bin/lister < samples/recording.ts
 
-# The independent programs' own tests; the proofs, the wrong programs and the programs (`rt ci`, which starts from nothing); then what is
-# linked with the archive, and the tools. The last line printed is rt's. Eight at a time keep two cores busy where checks take unequal times.
-test:
-	cd compare && cargo test --quiet
-	RT_JOBS=8 rt ci | tee $(GATE)
-	$(MAKE) --no-print-directory board-test tools-test
+# The proofs, the wrong programs and the programs (`rt ci`, which starts from nothing); then what is linked with the archive, the independent
+# programs and the tools. The last line printed is rt's. Many at a time keep two cores busy where checks take unequal times.
+test: x86-64
+	mkdir -p $(dir $(GATE))
+	RT_JOBS=16 rt ci | tee $(GATE)
+	$(MAKE) --no-print-directory tools
+	$(MAKE) --no-print-directory -j 2 board-test rust-test
 	@tail -n 1 $(GATE)
 
 # The board interface as one archive, target/board/libniranbok.a, for include/niranbok.h.
@@ -43,22 +71,26 @@ board:
 	set -e; cd target/board/objects; for crate in $(BOARD); do ar x ../../staticlib/lib$$crate.a; done; ar rcs ../libniranbok.a *.o
 
 # The header's constants, the example in C, and both implementations over the same inputs.
-board-test: board
+board-test: board x86-64
 	rt check limits | tail -n 1
-	compare/limits.sh target/bin/limits
-	gcc -std=c99 -Wall -Wextra -Werror -Iinclude examples/board.c target/board/libniranbok.a -o target/board/board
-	target/board/board
-	cd compare && cargo test --quiet -p board
+	compare/limits.sh $(EMULATOR) target/bin/limits
+	$(CROSS_CC) -std=c99 -Wall -Wextra -Werror -Iinclude examples/board.c target/board/libniranbok.a -o target/board/board
+	$(EMULATOR) target/board/board
+	cd compare && $(CROSS_CARGO) test --quiet -p board
+
+# A time under the emulator says nothing.
+natively:
+	@[ -z '$(EMULATOR)' ] || { echo 'this measures on x86-64 alone'; exit 1; }
 
 # Both implementations and bare copies, measured in one run; then the lister and the tools.
-bench: board tools
+bench: natively board tools
 	rt check lister | tail -n 1
 	cd compare && cargo run --quiet --release -p board --bin bench
 	compare/lister.sh target/bin/lister
 	compare/tools.sh target/bin/tools
 
 # The same comparison, shorter, with every access watched.
-memory: board
+memory: natively board
 	cd compare && cargo test --quiet -p board --no-run
 	compare/memory.sh
 

@@ -2,12 +2,12 @@
 # Holds the constants of include/niranbok.h to what the program `limits` prints: each line of it becomes
 # an assertion that the C compiler checks, and each range, refusal, length and place of the header must
 # have such a line.
-#   compare/limits.sh LIMITS
+#   compare/limits.sh LIMITS, or the command that starts it
 set -e
 cd "$(dirname "$0")/.."
 work=$(mktemp -d)
 trap 'rm -rf "$work"' EXIT
-"$1" >"$work/limits"
+"$@" >"$work/limits"
 awk -F '\t' '
     function same(name, n) { print "_Static_assert(NIRANBOK_" toupper(name) " == " n ", \"" name "\");" }
     BEGIN { print "#include \"niranbok.h\"" }

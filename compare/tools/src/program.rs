@@ -1,6 +1,7 @@
 //! Running the programs in a folder of their own.
 
 use std::env;
+use std::ffi::OsStr;
 use std::fs::{self, File};
 use std::io::Write;
 use std::os::unix::process::CommandExt;
@@ -64,10 +65,9 @@ impl Folder {
 
     /// The program started by a tool's name, or by any other.
     pub fn command(&self, tool: &str, words: &str) -> Command {
-        let mut command = Command::new(program());
+        let mut command = start(&program(), tool.as_ref());
         let words = words.split_whitespace();
         command
-            .arg0(tool)
             .args(words.map(|word| word.trim_matches('\'')))
             .current_dir(&self.0);
         command
@@ -96,6 +96,19 @@ fn said(command: &mut Command) -> Said {
         out: output.stdout,
         err: String::from_utf8(output.stderr).expect("text on standard error"),
     }
+}
+
+/// A program under a name, started by the emulator that NIRANBOK_EMULATOR
+/// names, if it names one.
+pub fn start(program: &Path, name: &OsStr) -> Command {
+    let Some(emulator) = env::var_os("NIRANBOK_EMULATOR") else {
+        let mut command = Command::new(program);
+        command.arg0(name);
+        return command;
+    };
+    let mut command = Command::new(emulator);
+    command.arg("-0").arg(name).arg(program);
+    command
 }
 
 /// The program that is all four tools.

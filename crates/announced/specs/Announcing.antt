@@ -7,7 +7,7 @@ use lib.ListN.{length, getD}
 use Rattle.slices.specs.Slices.{anyBelow, someAtLeast}
 use Rattle.setting.specs.declared.Setting.{Setting}
 use Rattle.counters.specs.Counters.{lastStream}
-use Rattle.rules.specs.Refusal.{Check}
+use Rattle.refusal_table.specs.Refusal.{Check}
 use Rattle.announced.specs.declared.Announced.{Announced}
 
 -- slot information, identifiers and control information: what raises the version where it differs

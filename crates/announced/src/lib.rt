@@ -4,7 +4,7 @@ use setting::Setting;
 use setting::limits;
 ghost use mathlib.Core.Path.{_≡_};
 ghost use lib.ListN.{length};
-ghost use Rattle.rules.specs.Refusal.{firstOf};
+ghost use Rattle.refusal_table.specs.Refusal.{firstOf};
 ghost use Rattle.announced.specs.Announcing.{announced, someDiffer, differ, announcedChecks};
 
 // What of the last closed header decides on the next version: slot information, identifiers and control information.

@@ -6,7 +6,8 @@ use borrow.Author.Tests.{eq-eqb, ne-eqb}
 use lib.ListN.{length}
 use Rattle.frame.specs.declared.composer.Answer.{Answer}
 use Rattle.frame.specs.declared.composer.Placed.{Placed}
-use Rattle.frame.specs.Composing.{leaves, beginOf, begunFrame, putOf, putFrame, closeOf, closedFrame}
+use Rattle.frame.specs.Composing.{beginOf, begunFrame, putOf, putFrame, closeOf, closedFrame}
+use Rattle.refusal_table.specs.Refusal.{leaves}
 use Rattle.coding.specs.Settings.{settingLength, settingOf}
 use Rattle.board_frame.specs.States.{composerLength, composerBytes, composerOf}
 use Rattle.board_frame.specs.Calls.{beginRefused, beginState, beginMemory, putRefused, putPlaced, putState, putMemory, closeRefused, closeState, closeMemory}

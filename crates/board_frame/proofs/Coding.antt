@@ -10,9 +10,9 @@ use lib.ListN.{length, getD, length-map}
 use lib.Seq.{take-all}
 use Rattle.slices.specs.Slices.{someAtLeast}
 use Rattle.slices.proofs.Any.{any-no}
-use Rattle.rules.specs.Refusal.{Check, firstOf}
+use Rattle.refusal_table.specs.Refusal.{Check, firstOf}
 use Rattle.setting.specs.declared.Kind.{Kind}
-use Rattle.rules.proofs.Refusals.{answers, passed}
+use Rattle.refusal_table.proofs.Refusals.{answers, passed}
 use Rattle.packet.specs.Packets.{packetLength, frameLength}
 use Rattle.frame.specs.Composing.{stateChecks, answer, beginOf, putOf, closeOf, beginRefusal, putRefusal, closeRefusal}
 use Rattle.frame.specs.declared.composer.Composer.{Composer}

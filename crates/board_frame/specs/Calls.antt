@@ -4,9 +4,9 @@ use mathlib.Core.Bool.{Bool, cond, not, _&&_}
 use mathlib.Core.List.{List, [], _∷_}
 use lib.Dec.{eqb}
 use lib.ListN.{length}
-use Rattle.rules.specs.Refusal.{firstOf}
+use Rattle.refusal_table.specs.Refusal.{firstOf, leaves}
 use Rattle.rules.specs.Rules.{pidAllowed}
-use Rattle.frame.specs.Composing.{leaves, startOf, beginOf, begunFrame, putOf, putFrame, closeOf, closedFrame}
+use Rattle.frame.specs.Composing.{startOf, beginOf, begunFrame, putOf, putFrame, closeOf, closedFrame}
 use Rattle.words.specs.Kinds.{isKind, kindOf}
 use Rattle.coding.specs.Settings.{settingLength, settingOf}
 use Rattle.board_frame.specs.States.{composerLength, composerBytes, composerOf}

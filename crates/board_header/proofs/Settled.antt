@@ -5,9 +5,9 @@ use mathlib.Core.Bool.{Bool, not}
 use mathlib.Core.List.{List, [], _∷_}
 use lib.Dec.{eqb}
 use borrow.Author.Tests.{eqb-true, not-false}
-use Rattle.rules.specs.Refusal.{Check, NoneHolds, more}
+use Rattle.refusal_table.specs.Refusal.{Check, NoneHolds, more}
 use Rattle.rules.specs.Rules.{pidAllowed}
-use Rattle.rules.proofs.Refusals.{none-first}
+use Rattle.refusal_table.proofs.Refusals.{none-first}
 use Rattle.layout.specs.Header.{headerLength}
 use Rattle.words.specs.Kinds.{isKind}
 use Rattle.coding.specs.Settings.{settingLength}

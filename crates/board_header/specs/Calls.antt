@@ -4,12 +4,11 @@ use mathlib.Core.Bool.{cond, not}
 use mathlib.Core.List.{List, [], _∷_}
 use lib.Dec.{eqb}
 use lib.ListN.{length}
-use Rattle.rules.specs.Refusal.{firstOf}
+use Rattle.refusal_table.specs.Refusal.{firstOf, leaves}
 use Rattle.rules.specs.Rules.{pidAllowed}
 use Rattle.layout.specs.Header.{headerLength}
 use Rattle.header_writer.specs.Writing.{writeRefusal, written}
 use Rattle.header_reader.specs.Reader.{readOf}
-use Rattle.frame.specs.Composing.{leaves}
 use Rattle.words.specs.Kinds.{isKind, kindOf}
 use Rattle.coding.specs.Settings.{settingLength, settingBytes, settingOf}
 

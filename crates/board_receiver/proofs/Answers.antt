@@ -9,10 +9,9 @@ use lib.ListN.{length, drop}
 use Rattle.slices.specs.Slices.{over}
 use Rattle.slices.proofs.Front.{put}
 use Rattle.setting.specs.declared.Kind.{Kind}
-use Rattle.rules.specs.Refusal.{firstOf, none}
+use Rattle.refusal_table.specs.Refusal.{firstOf, none}
 use Rattle.rules.specs.Rules.{pidAllowed}
-use Rattle.rules.proofs.Refusals.{answers, passed, first-none}
-use Rattle.frame.proofs.Answers.{kept, written}
+use Rattle.refusal_table.proofs.Refusals.{answers, passed, first-none, kept, written}
 use Rattle.words.specs.Words.{wordBytes}
 use Rattle.words.specs.Kinds.{isKind, kindOf, kindNumber}
 use Rattle.receiver_table.specs.declared.Stage.{Stage}

@@ -7,9 +7,9 @@ use native.Mathlib.Omega.{arith}
 use borrow.Author.Tests.{eq-eqb, ne-eqb}
 use lib.Dec.{eqb}
 use lib.ListN.{length, getD}
-use Rattle.rules.specs.Refusal.{firstOf}
+use Rattle.refusal_table.specs.Refusal.{firstOf}
 use Rattle.rules.specs.Rules.{pidAllowed}
-use Rattle.rules.proofs.Refusals.{passed, at-once}
+use Rattle.refusal_table.proofs.Refusals.{passed, at-once}
 use Rattle.packet.specs.Packets.{packetLength}
 use Rattle.words.specs.Kinds.{isKind}
 use Rattle.receiver_table.specs.declared.Stage.{Stage}

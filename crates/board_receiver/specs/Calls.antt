@@ -4,9 +4,8 @@ use mathlib.Core.Bool.{cond, not}
 use mathlib.Core.List.{List, [], _∷_}
 use lib.Dec.{eqb}
 use lib.ListN.{length}
-use Rattle.rules.specs.Refusal.{firstOf}
+use Rattle.refusal_table.specs.Refusal.{firstOf, leaves}
 use Rattle.rules.specs.Rules.{pidAllowed}
-use Rattle.frame.specs.Composing.{leaves}
 use Rattle.words.specs.Kinds.{isKind, kindOf}
 use Rattle.receiver.specs.Receiving.{startReceiverOf, receiveOf, receiveStore, handOutOf, handOutBuffer}
 use Rattle.board_receiver.specs.States.{receiverLength, receiverBytes, receiverOf, eventNumber}

@@ -5,8 +5,8 @@ use mathlib.Core.Bool.{not}
 use mathlib.Core.List.{List, [], _∷_}
 use lib.Dec.{eqb}
 use borrow.Author.Tests.{eqb-true, not-false}
-use Rattle.rules.specs.Refusal.{Check, NoneHolds, more}
-use Rattle.rules.proofs.Refusals.{none-first}
+use Rattle.refusal_table.specs.Refusal.{Check, NoneHolds, more}
+use Rattle.refusal_table.proofs.Refusals.{none-first}
 use Rattle.words.specs.Kinds.{isKind}
 use Rattle.coding.specs.Settings.{settingLength}
 use Rattle.board_setting.specs.Calls.{callRefused}

@@ -13,9 +13,9 @@ use Rattle.slices.proofs.Any.{any-no}
 use Rattle.setting.specs.declared.Kind.{Kind}
 use Rattle.setting.specs.declared.Setting.{Setting}
 use Rattle.counters.specs.Counters.{firstPosition}
-use Rattle.rules.specs.Refusal.{Check, NoneHolds, none, more, firstOf}
+use Rattle.refusal_table.specs.Refusal.{Check, NoneHolds, none, more, firstOf}
 use Rattle.rules.specs.Rules.{ruleChecks}
-use Rattle.rules.proofs.Refusals.{first-none, none-at, none-append, none-before, none-behind}
+use Rattle.refusal_table.proofs.Refusals.{first-none, none-at, none-append, none-before, none-behind}
 use Rattle.layout.specs.Header.{reading, packetChecks}
 use Rattle.header.specs.Demands.{Among}
 use Rattle.packet.specs.Packets.{packetLength, frameLength, slot, unfit}

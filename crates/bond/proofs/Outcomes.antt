@@ -7,8 +7,8 @@ use borrow.Author.Tests.{ltb-false, eq-eqb, ne-eqb}
 use lib.Dec.{ltb, eqb}
 use lib.ListN.{length, length-map}
 use Rattle.slices.specs.Slices.{copied}
-use Rattle.rules.specs.Refusal.{Check, NoneHolds, firstOf}
-use Rattle.rules.proofs.Refusals.{answers, passed, onward, at-once, none-first, none-at, none-before, none-behind}
+use Rattle.refusal_table.specs.Refusal.{Check, NoneHolds, firstOf}
+use Rattle.refusal_table.proofs.Refusals.{answers, passed, onward, at-once, none-first, none-at, none-before, none-behind}
 use Rattle.packet.specs.Packets.{packetLength}
 use Rattle.group.specs.declared.Bond.{Bond}
 use Rattle.group.specs.declared.headers.Plan.{Plan}

@@ -5,7 +5,7 @@ use mathlib.Core.List.{List, [], _∷_, _++_}
 use lib.Dec.{ltb, eqb}
 use lib.ListN.{length, take, drop}
 use Rattle.slices.specs.Slices.{copied, over, anyBelow}
-use Rattle.rules.specs.Refusal.{Check, firstOf}
+use Rattle.refusal_table.specs.Refusal.{Check, firstOf}
 use Rattle.packet.specs.Packets.{packetLength, slot, unfit}
 use Rattle.group.specs.declared.Bond.{Bond}
 use Rattle.bond.specs.declared.Moved.{Moved}

@@ -4,7 +4,7 @@ use mathlib.Core.Path.{_≡_}
 use mathlib.Core.Bool.{true, false}
 use mathlib.Core.List.{List, _++_}
 use lib.ListN.{length, getD, drop}
-use Rattle.rules.specs.Refusal.{NoneHolds}
+use Rattle.refusal_table.specs.Refusal.{NoneHolds}
 use Rattle.header.specs.Demands.{Among}
 use Rattle.packet.specs.Packets.{packetLength, slot, unfit}
 use Rattle.group.specs.declared.Bond.{Bond}

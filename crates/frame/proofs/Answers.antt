@@ -6,10 +6,10 @@ use mathlib.Core.List.{List, _∷_}
 use native.Mathlib.Omega.{arith}
 use borrow.Author.Tests.{ne-eqb, eqb-true}
 use lib.Dec.{eqb}
-use Rattle.rules.specs.Refusal.{Check, firstOf}
+use Rattle.refusal_table.specs.Refusal.{Check, firstOf}
 use Rattle.frame.specs.declared.composer.Composer.{Composer}
 use Rattle.packet.specs.Packets.{frameLength}
-use Rattle.frame.specs.Composing.{lengthCheck, answer, leaves}
+use Rattle.frame.specs.Composing.{lengthCheck, answer}
 
 -- n is the refusal, and m what the code found it to be
 module _ {m n : ℕ} (e : m ≡ n) where
@@ -17,17 +17,9 @@ module _ {m n : ℕ} (e : m ≡ n) where
   unfolding answer
   refused new old h = rw (sym e, ne-eqb m 0 h)
 
-  pub kept : (new old : List ℕ) → (m ≡ 0 → ⊥) → old ≡ leaves n new old
-  unfolding leaves
-  kept new old h = rw (sym e, ne-eqb m 0 h)
-
   pub granted : (new old : Composer) → m ≡ 0 → record { refusal = 0; state = new } ≡ answer n new old
   unfolding answer
   granted new old z = rw (sym e ∙ z)
-
-  pub written : (new old : List ℕ) → m ≡ 0 → new ≡ leaves n new old
-  unfolding leaves
-  written new old z = rw (sym e ∙ z)
 
 -- a call that is not refused was lent a frame
 pub frame-lent : (lent : ℕ) (cs : List Check) → firstOf (lengthCheck lent ∷ cs) ≡ 0 → lent ≡ frameLength

@@ -10,16 +10,16 @@ use lib.ListN.{length, drop}
 use Rattle.slices.proofs.Any.{both}
 use Rattle.setting.specs.declared.Setting.{Setting}
 use Rattle.counters.specs.Counters.{firstStream, lastStream, within}
-use Rattle.rules.specs.Refusal.{Check, NoneHolds, none, more}
+use Rattle.refusal_table.specs.Refusal.{Check, NoneHolds, none, more}
 use Rattle.rules.specs.Rules.{pidAllowed, widthChecks, ruleChecks}
-use Rattle.rules.proofs.Refusals.{none-first, none-at, none-before, none-behind}
+use Rattle.refusal_table.proofs.Refusals.{none-first, none-at, none-before, none-behind, numbered-append}
 use Rattle.frame.specs.declared.composer.Composer.{Composer}
 use Rattle.packet.specs.Packets.{packetLength, frameLength}
 use Rattle.frame.specs.Slots.{someUnfit}
 use Rattle.announced.specs.Announcing.{announcedChecks}
 use Rattle.frame.specs.Composing.{asked, stateChecks, openRuleChecks, markChecks, lengthCheck, openChecks, streamChecks, beginRefusal, putRefusal, closeRefusal}
 use Rattle.frame.proofs.Answers.{frame-lent}
-use Rattle.frame.proofs.Refusals.{numbered-append, state-numbered, open-numbered}
+use Rattle.frame.proofs.Refusals.{state-numbered, open-numbered}
 
 -- ---- checks behind the first, and checks that are asked
 

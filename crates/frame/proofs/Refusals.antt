@@ -3,7 +3,7 @@ use Prim.Native.Nat.{ℕ, _≤_}
 use mathlib.Core.Path.{_≡_, refl, sym, ap, ap₂}
 use mathlib.Core.Logic.{_⊎_, inl, inr}
 use mathlib.Core.Bool.{Bool, true, false, cond, _&&_}
-use mathlib.Core.List.{List, [], _∷_, _++_}
+use mathlib.Core.List.{List, [], _∷_}
 use native.Mathlib.Nat.{le-refl}
 use native.Mathlib.Omega.{arith}
 use borrow.Author.Tests.{eq-eqb, ne-eqb, le-ltb, ltb-false}
@@ -11,9 +11,9 @@ use lib.Dec.{leb, eqb, ltb}
 use Rattle.slices.proofs.Any.{both}
 use Rattle.setting.specs.declared.Kind.{Kind}
 use Rattle.setting.specs.declared.Setting.{Setting}
-use Rattle.rules.specs.Refusal.{Check, firstOf, NoneHolds, none, more}
+use Rattle.refusal_table.specs.Refusal.{Check, firstOf, NoneHolds, none, more}
 use Rattle.rules.specs.Rules.{absentChecks, widthChecks, bondingChecks, ruleChecks}
-use Rattle.rules.proofs.Refusals.{first-none, numbered, none-first}
+use Rattle.refusal_table.proofs.Refusals.{first-none, numbered, numbered-append, none-first}
 use Rattle.announced.specs.declared.Announced.{Announced}
 use Rattle.frame.specs.declared.composer.Composer.{Composer}
 use Rattle.announced.specs.Announcing.{announcedChecks}
@@ -99,12 +99,6 @@ rules-rise Kind.Extended s t b =
     (step 11 11 (omega arith) end))))))
 
 -- ---- no check of a part has the number 0: where it answers 0, none holds
-
-pub numbered-append : (cs ds : List Check) → numbered cs ≡ true → numbered ds ≡ true → numbered (cs ++ ds) ≡ true
-numbered-append [] ds e f = f
-numbered-append (c ∷ cs) ds e f =
-    let p = both (leb 1 (c .0)) (numbered cs) e in
-    ap₂ _&&_ (p .0) (numbered-append cs ds (p .1) f)
 
 numbered-asked : (b : Bool) (cs : List Check) → numbered cs ≡ true → numbered (asked b cs) ≡ true
 unfolding asked

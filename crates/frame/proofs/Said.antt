@@ -14,9 +14,9 @@ use Rattle.slices.proofs.Any.{any-no, any-each}
 use Rattle.setting.specs.declared.Kind.{Kind}
 use Rattle.setting.specs.declared.Setting.{Setting}
 use Rattle.setting.specs.Setting.{OfItsTypes}
-use Rattle.rules.specs.Refusal.{NoneHolds, more}
+use Rattle.refusal_table.specs.Refusal.{NoneHolds, more}
 use Rattle.rules.specs.Rules.{pidAllowed, unavailable, someUnavailable, absentChecks, widthChecks, bondingChecks, ruleChecks}
-use Rattle.rules.proofs.Refusals.{none-at, none-append}
+use Rattle.refusal_table.proofs.Refusals.{none-at, none-append}
 use Rattle.rules.proofs.Fields.{some-fit, fit-some}
 use Rattle.layout.specs.Meets.{MeetsRules}
 use Rattle.frame.specs.Slots.{numbersOf}

@@ -7,7 +7,7 @@ use lib.ListN.{length, drop, replicate}
 use Rattle.setting.specs.declared.Kind.{Kind}
 use Rattle.setting.specs.declared.Setting.{Setting}
 use Rattle.counters.specs.Counters.{firstStream, lastStream, lastSlot, within, available}
-use Rattle.rules.specs.Refusal.{Check, firstOf}
+use Rattle.refusal_table.specs.Refusal.{Check, firstOf, leaves}
 use Rattle.rules.specs.Rules.{pidAllowed, widthChecks, ruleChecks}
 use Rattle.setting.specs.Setting.{blank}
 use Rattle.layout.specs.Header.{header}
@@ -176,10 +176,6 @@ closeRefusal c lent = firstOf (lengthCheck lent ∷ (stateChecks c ++ openChecks
 -- what one answers that makes a new state: refusal 0 and it, or the refusal's number and the old one
 unfoldable pub answer : ℕ → Composer → Composer → Answer
 answer refusal new old = record { refusal = refusal; state = cond (eqb refusal 0) new old }
-
--- memory of which a call that is not refused makes something new
-unfoldable pub leaves : ℕ → List ℕ → List ℕ → List ℕ
-leaves refusal new old = cond (eqb refusal 0) new old
 
 -- a refused start gives the fresh plain state of PID 0
 unfoldable pub startOf : Kind → ℕ → Answer

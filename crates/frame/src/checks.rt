@@ -7,7 +7,7 @@ use packet::PACKET_BYTES;
 use setting::Setting;
 use setting::limits;
 ghost use mathlib.Core.Path.{_≡_};
-ghost use Rattle.rules.specs.Refusal.{firstOf};
+ghost use Rattle.refusal_table.specs.Refusal.{firstOf};
 ghost use Rattle.rules.specs.Rules.{widthChecks, ruleChecks};
 ghost use Rattle.frame.specs.Composing.{asked, stateChecks, openRuleChecks, markChecks, inTurn, openChecks, streamChecks, beginRefusal, putRefusal, closeRefusal};
 
@@ -20,7 +20,7 @@ fn open_width_refusal(c: Composer) -> u8
     }
     let kind = c.kind;
     let setting = c.setting;
-    rules::width_refusal(kind, setting)
+    widths::width_refusal(kind, setting)
 }
 
 // 2 and 17: the state's PID and numbers, and its setting's fields while a frame is open.
@@ -53,7 +53,7 @@ fn open_rule_refusal(c: Composer) -> u8
     }
     let kind = c.kind;
     let setting = c.setting;
-    rules::rule_refusal(kind, setting)
+    setting_rules::rule_refusal(kind, setting)
 }
 
 // 17: a filled mark on a slot planned 0.
@@ -79,7 +79,7 @@ fn both_rules_refusal(c: Composer, s: Setting) -> u8
 {
     let old = open_rule_refusal(c);
     let kind = c.kind;
-    let new = rules::rule_refusal(kind, s);
+    let new = setting_rules::rule_refusal(kind, s);
     if old == 0 {
         return new;
     }
@@ -103,7 +103,7 @@ pub(crate) fn begin_refusal(c: Composer, s: Setting, lent: usize) -> u8
         return state;
     }
     let kind = c.kind;
-    let width = rules::width_refusal(kind, s);
+    let width = widths::width_refusal(kind, s);
     if width != 0 {
         return width;
     }

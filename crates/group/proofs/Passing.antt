@@ -1,16 +1,16 @@
 -- What passes the checks of a group, and what that leaves to know. Assumes nothing.
 use Prim.Native.Nat.{ℕ, zero, suc, _+_, _%_, _≤_}
-use mathlib.Core.Path.{_≡_, refl, sym, ap₂, _∙_}
-use mathlib.Core.Bool.{true, cond, _&&_}
-use mathlib.Core.List.{List, [], _∷_, _++_}
+use mathlib.Core.Path.{_≡_, refl, sym, _∙_}
+use mathlib.Core.Bool.{true, cond}
+use mathlib.Core.List.{List, _++_}
 use borrow.Author.Tests.{eqb-true, eqb-false, ne-eqb, not-false}
-use lib.Dec.{leb, eqb}
+use lib.Dec.{eqb}
 use lib.ListN.{length}
-use Rattle.slices.proofs.Any.{both, neither}
+use Rattle.slices.proofs.Any.{neither}
 use Rattle.counters.specs.Counters.{within}
-use Rattle.rules.specs.Refusal.{Check, NoneHolds, firstOf}
+use Rattle.refusal_table.specs.Refusal.{NoneHolds, firstOf}
 use Rattle.rules.specs.Rules.{pidAllowed, ruleChecks, bondingChecks}
-use Rattle.rules.proofs.Refusals.{numbered, none-first, none-at, onward, at-once}
+use Rattle.refusal_table.proofs.Refusals.{numbered-append, numbered, none-first, none-at, onward, at-once}
 use Rattle.rules.proofs.Fields.{at-most}
 use Rattle.layout.specs.Header.{packetChecks}
 use Rattle.packet.specs.Packets.{frameLength}
@@ -23,12 +23,6 @@ use Rattle.group.specs.Plan.{nothingSeen, planAfter, plannedBy, plannedO
 use Rattle.group.proofs.Standing.{at-least}
 
 -- ---- no check has the number 0
-
-pub numbered-append : (cs ds : List Check) → numbered cs ≡ true → numbered ds ≡ true → numbered (cs ++ ds) ≡ true
-numbered-append [] ds p q = q
-numbered-append (c ∷ cs) ds p q =
-    let h = both (leb 1 (c .0)) (numbered cs) p in
-    ap₂ _&&_ (h .0) (numbered-append cs ds (h .1) q)
 
 module _ (b : Bond) (group : List ℕ) where
   numbered-header : (j : ℕ) → numbered (headerChecks b group j) ≡ true

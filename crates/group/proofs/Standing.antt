@@ -12,9 +12,9 @@ use Rattle.slices.proofs.Any.{both}
 use Rattle.setting.specs.declared.Kind.{Kind}
 use Rattle.setting.specs.declared.Setting.{Setting}
 use Rattle.counters.specs.Counters.{firstPosition, within}
-use Rattle.rules.specs.Refusal.{NoneHolds}
+use Rattle.refusal_table.specs.Refusal.{NoneHolds}
 use Rattle.rules.specs.Rules.{ruleChecks, bondingChecks}
-use Rattle.rules.proofs.Refusals.{none-at, none-before, none-behind}
+use Rattle.refusal_table.proofs.Refusals.{none-at, none-before, none-behind}
 use Rattle.rules.proofs.Fields.{at-most, bonding-none}
 use Rattle.layout.specs.Header.{packetChecks}
 use Rattle.packet.specs.Packets.{slot}

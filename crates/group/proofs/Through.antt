@@ -13,9 +13,9 @@ use lib.Seq.{length-take-le}
 use Rattle.setting.specs.declared.Kind.{Kind}
 use Rattle.counters.specs.Counters.{lastPosition}
 use Rattle.setting.specs.Setting.{blank}
-use Rattle.rules.specs.Refusal.{Check, NoneHolds, firstOf}
+use Rattle.refusal_table.specs.Refusal.{Check, NoneHolds, firstOf}
 use Rattle.rules.specs.Rules.{pidAllowed, ruleChecks, bondingChecks}
-use Rattle.rules.proofs.Refusals.{answers, first-none, onward, at-once, none-append, none-before, none-behind, none-first}
+use Rattle.refusal_table.proofs.Refusals.{answers, first-none, onward, at-once, none-append, none-before, none-behind, none-first}
 use Rattle.header_reader.specs.declared.Reading.{Reading}
 use Rattle.layout.specs.Header.{headerLength, packetChecks, reading}
 use Rattle.header_reader.specs.Reader.{readRefusal, readOf}

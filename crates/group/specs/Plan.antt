@@ -6,7 +6,7 @@ use lib.Dec.{eqb}
 use lib.ListN.{set, replicate}
 use lib.Count.{ones}
 use Rattle.setting.specs.declared.Setting.{Setting}
-use Rattle.rules.specs.Refusal.{firstOf}
+use Rattle.refusal_table.specs.Refusal.{firstOf}
 use Rattle.group.specs.declared.Bond.{Bond}
 use Rattle.group.specs.declared.headers.Plan.{Plan}
 use Rattle.group.specs.declared.headers.Planned.{Planned}

@@ -9,7 +9,7 @@ use Rattle.setting.specs.declared.Kind.{Kind}
 use Rattle.setting.specs.declared.Setting.{Setting}
 use Rattle.counters.specs.Counters.{firstPosition, within}
 use Rattle.setting.specs.Setting.{blank}
-use Rattle.rules.specs.Refusal.{Check}
+use Rattle.refusal_table.specs.Refusal.{Check}
 use Rattle.rules.specs.Rules.{pidAllowed, ruleChecks}
 use Rattle.layout.specs.Header.{packetChecks}
 use Rattle.packet.specs.Packets.{frameLength, slot}

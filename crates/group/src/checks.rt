@@ -3,7 +3,7 @@ use crate::Bond;
 use crate::headers::CARRIERS;
 use packet::FRAME_BYTES;
 ghost use mathlib.Core.Path.{_≡_};
-ghost use Rattle.rules.specs.Refusal.{firstOf};
+ghost use Rattle.refusal_table.specs.Refusal.{firstOf};
 ghost use Rattle.group.specs.Standing.{callChecks};
 
 // 1, 2, 17: the group's length and the numbers.

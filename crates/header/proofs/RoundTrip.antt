@@ -15,10 +15,10 @@ use Rattle.crc.specs.Crc.{registerOf}
 use Rattle.setting.specs.declared.Kind.{Kind}
 use Rattle.setting.specs.declared.Setting.{Setting}
 use Rattle.setting.specs.Setting.{privateBytes, auxiliaryBytes, blank, OfItsTypes}
-use Rattle.rules.specs.Refusal.{NoneHolds, none, more}
+use Rattle.refusal_table.specs.Refusal.{NoneHolds, none, more}
 use Rattle.rules.specs.Rules.{widthChecks, absentChecks, ruleChecks}
 use Rattle.rules.proofs.Fields.{fit-some}
-use Rattle.rules.proofs.Refusals.{first-none, none-at, none-append, none-behind}
+use Rattle.refusal_table.proofs.Refusals.{first-none, none-at, none-append, none-behind}
 use Rattle.header_reader.specs.declared.Reading.{Reading}
 use Rattle.layout.specs.Rows.{place, rowAt}
 use Rattle.layout.specs.Layout.{layout}

@@ -28,7 +28,7 @@ pub fn read(packet: &[u8], pid: u16, kind: Kind) -> Reading
         return reader::refused(shown);
     }
     let setting = reader::setting_of(packet, kind);
-    let rule = rules::rule_refusal(kind, setting);
+    let rule = setting_rules::rule_refusal(kind, setting);
     if rule != 0 {
         return reader::refused(rule);
     }

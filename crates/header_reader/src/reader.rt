@@ -14,7 +14,7 @@ ghost use lib.ListN.{length, take, drop, getD};
 ghost use Rattle.bits.specs.Fields.{run, cut};
 ghost use Rattle.counters.specs.Counters.{lastStream};
 ghost use Rattle.setting.specs.Setting.{privateBytes, auxiliaryBytes, blank};
-ghost use Rattle.rules.specs.Refusal.{firstOf};
+ghost use Rattle.refusal_table.specs.Refusal.{firstOf};
 ghost use Rattle.rules.specs.Rules.{byKind};
 ghost use Rattle.layout.specs.Header.{headerLength, firsts, seconds, packetChecks, reading};
 

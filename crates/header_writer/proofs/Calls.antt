@@ -7,8 +7,8 @@ use lib.ListN.{length}
 use borrow.Author.Tests.{eq-eqb, ne-eqb}
 use Rattle.setting.specs.declared.Kind.{Kind}
 use Rattle.setting.specs.declared.Setting.{Setting}
-use Rattle.rules.specs.Refusal.{more}
-use Rattle.rules.proofs.Refusals.{first-none}
+use Rattle.refusal_table.specs.Refusal.{more}
+use Rattle.refusal_table.proofs.Refusals.{first-none}
 use Rattle.layout.specs.Header.{headerLength, header}
 use Rattle.layout.specs.Meets.{MeetsRules}
 use Rattle.header_writer.specs.Writing.{writeRefusal, written}

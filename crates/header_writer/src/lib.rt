@@ -19,11 +19,11 @@ pub fn write(buffer: &mut [u8], pid: u16, kind: Kind, s: Setting) -> u8
     if !rules::pid_allowed(pid) {
         return 2;
     }
-    let width = rules::width_refusal(kind, s);
+    let width = widths::width_refusal(kind, s);
     if width != 0 {
         return width;
     }
-    let rule = rules::rule_refusal(kind, s);
+    let rule = setting_rules::rule_refusal(kind, s);
     if rule != 0 {
         return rule;
     }

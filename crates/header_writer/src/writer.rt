@@ -9,7 +9,7 @@ ghost use Prim.Native.Nat.{_*_, _<_, _^_};
 ghost use lib.ListN.{length};
 ghost use Rattle.bits.specs.Fields.{bitsOf, run};
 ghost use Rattle.setting.specs.Setting.{privateBytes};
-ghost use Rattle.rules.specs.Refusal.{firstOf};
+ghost use Rattle.refusal_table.specs.Refusal.{firstOf};
 ghost use Rattle.rules.specs.Rules.{Narrow, bondingChecks};
 ghost use Rattle.layout.specs.Rows.{pack};
 ghost use Rattle.layout.specs.Layout.{startRows, controlRows, privateRows};

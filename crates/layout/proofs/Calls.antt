@@ -4,9 +4,9 @@ use mathlib.Core.Path.{_≡_, ap, _∙_}
 use mathlib.Core.Bool.{true, false, not}
 use mathlib.Core.List.{List, _++_}
 use borrow.Author.Tests.{eq-eqb, ne-eqb}
-use Rattle.rules.specs.Refusal.{Check, firstOf}
+use Rattle.refusal_table.specs.Refusal.{Check, firstOf}
 use Rattle.rules.specs.Rules.{pidAllowed}
-use Rattle.rules.proofs.Refusals.{answers, passed}
+use Rattle.refusal_table.proofs.Refusals.{answers, passed}
 use Rattle.layout.specs.Header.{headerLength, callChecks}
 
 module _ (pid lent : ℕ) (rest : List Check) where

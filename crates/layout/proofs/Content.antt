@@ -12,7 +12,7 @@ use Rattle.counters.specs.Counters.{lastStream}
 use Rattle.setting.specs.Setting.{Array, OfItsTypes}
 use Rattle.rules.specs.Rules.{widthChecks, ruleChecks}
 use Rattle.rules.proofs.Fields.{at-most, bonded, bonding-none, narrow}
-use Rattle.rules.proofs.Refusals.{none-before, none-behind}
+use Rattle.refusal_table.proofs.Refusals.{none-before, none-behind}
 use Rattle.layout.specs.Layout.{reservedByte, reservedBytes, layout}
 use Rattle.layout.specs.Header.{one, paired, content}
 use Rattle.layout.specs.Meets.{MeetsRules}

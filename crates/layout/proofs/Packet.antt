@@ -9,8 +9,8 @@ use lib.Dec.{eqb}
 use lib.ListN.{length, getD}
 use Rattle.bits.specs.Fields.{Fit, cut}
 use Rattle.bits.proofs.Laws.{fit-getD}
-use Rattle.rules.specs.Refusal.{firstOf, NoneHolds}
-use Rattle.rules.proofs.Refusals.{none-first}
+use Rattle.refusal_table.specs.Refusal.{firstOf, NoneHolds}
+use Rattle.refusal_table.proofs.Refusals.{none-first}
 use Rattle.layout.specs.Rows.{place, rowAt}
 use Rattle.layout.specs.Layout.{startRows}
 use Rattle.layout.specs.Header.{headerLength, startValue, packetChecks}

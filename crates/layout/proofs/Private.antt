@@ -11,7 +11,7 @@ use Rattle.slices.specs.Slices.{copied}
 use Rattle.slices.proofs.Front.{put, front-none, front-part, front-length, front-all}
 use Rattle.setting.specs.declared.Kind.{Kind}
 use Rattle.setting.specs.declared.Setting.{Setting}
-use Rattle.rules.specs.Refusal.{NoneHolds}
+use Rattle.refusal_table.specs.Refusal.{NoneHolds}
 use Rattle.rules.specs.Rules.{bondingChecks}
 use Rattle.rules.proofs.Fields.{bonded}
 use Rattle.layout.specs.Rows.{pack}

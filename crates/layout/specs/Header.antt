@@ -9,7 +9,7 @@ use Rattle.crc.specs.Crc.{registerFrom, registerOf}
 use Rattle.setting.specs.declared.Kind.{Kind}
 use Rattle.setting.specs.declared.Setting.{Setting}
 use Rattle.setting.specs.Setting.{privateBytes, auxiliaryBytes}
-use Rattle.rules.specs.Refusal.{Check}
+use Rattle.refusal_table.specs.Refusal.{Check}
 use Rattle.rules.specs.Rules.{byKind, pidAllowed}
 use Rattle.layout.specs.Rows.{pack, rowAt}
 use Rattle.layout.specs.Layout.{syncByte, tsmfSync, reservedByte, reservedBytes, startRows, layout}

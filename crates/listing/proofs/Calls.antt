@@ -10,7 +10,7 @@ use lib.ListN.{length}
 use borrow.Author.Tests.{lt-ltb, le-ltb, ne-eqb}
 use Rattle.io.specs.Counts.{Counts}
 use Rattle.io.proofs.Counting.{counts}
-use Rattle.rules.specs.Refusal.{firstOf}
+use Rattle.refusal_table.specs.Refusal.{firstOf}
 use Rattle.listing.specs.declared.Listed.{Listed}
 use Rattle.listing.specs.Text.{Puts}
 use Rattle.listing.specs.Listing.{packetsIn, roomFor, listing, listChecks, listRefusal, listed, overFront, listedOver}

@@ -6,7 +6,7 @@ use mathlib.Core.List.{List, [], _∷_, _++_}
 use lib.Dec.{eqb, ltb}
 use lib.ListN.{length, take, drop}
 use Rattle.setting.specs.declared.Kind.{Kind}
-use Rattle.rules.specs.Refusal.{Check, firstOf}
+use Rattle.refusal_table.specs.Refusal.{Check, firstOf}
 use Rattle.counters.specs.Counters.{countAvailable}
 use Rattle.header_reader.specs.declared.Reading.{Reading}
 use Rattle.header_reader.specs.Reader.{readOf}

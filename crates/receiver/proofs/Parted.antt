@@ -10,7 +10,7 @@ use lib.Seq.{getD-take, getD-drop, length-take-le, take-all}
 use Rattle.slices.specs.Slices.{copied, anyBelow, someAtLeast}
 use Rattle.slices.proofs.Front.{put, front-none, front-part, front-length, front-all, copied-over}
 use Rattle.counters.specs.Counters.{lastSlot}
-use Rattle.rules.specs.Refusal.{firstOf}
+use Rattle.refusal_table.specs.Refusal.{firstOf}
 use Rattle.receiver.specs.InPlace.{numbersLength}
 
 -- ---- tested

@@ -8,7 +8,7 @@ use lib.ListN.{length}
 use Rattle.setting.specs.declared.Setting.{Setting}
 use Rattle.layout.specs.Header.{reading}
 use Rattle.packet.specs.Packets.{unfit}
-use Rattle.frame.proofs.Answers.{kept, written}
+use Rattle.refusal_table.proofs.Refusals.{kept, written}
 use Rattle.receiver_table.specs.declared.Event.{Event}
 use Rattle.receiver.specs.declared.Received.{Received}
 use Rattle.receiver.specs.declared.Receiver.{Receiver}

@@ -7,10 +7,9 @@ use borrow.Author.Tests.{eqb-true, ltb-false, not-false}
 use lib.Dec.{eqb, ltb}
 use Rattle.slices.specs.Slices.{someAtLeast}
 use Rattle.counters.specs.Counters.{firstStream, lastStream, within}
-use Rattle.rules.specs.Refusal.{Check, firstOf, NoneHolds}
-use Rattle.rules.proofs.Refusals.{numbered, none-first, none-at, none-behind}
+use Rattle.refusal_table.specs.Refusal.{Check, firstOf, NoneHolds}
+use Rattle.refusal_table.proofs.Refusals.{numbered, none-first, none-at, none-behind, numbered-append}
 use Rattle.packet.specs.Packets.{packetLength}
-use Rattle.frame.proofs.Refusals.{numbered-append}
 use Rattle.receiver_table.specs.declared.Stage.{Stage}
 use Rattle.receiver.specs.declared.Receiver.{Receiver}
 use Rattle.receiver.specs.Store.{storeLength, slotsFor}

@@ -7,11 +7,10 @@ use lib.ListN.{length, replicate}
 use Rattle.slices.specs.Slices.{someAtLeast, over}
 use Rattle.setting.specs.declared.Kind.{Kind}
 use Rattle.counters.specs.Counters.{firstStream, lastStream, lastSlot, within}
-use Rattle.rules.specs.Refusal.{Check, firstOf}
+use Rattle.refusal_table.specs.Refusal.{Check, firstOf, leaves}
 use Rattle.rules.specs.Rules.{pidAllowed}
 use Rattle.layout.specs.Header.{reading}
 use Rattle.packet.specs.Packets.{packetLength}
-use Rattle.frame.specs.Composing.{leaves}
 use Rattle.receiver_table.specs.declared.Stage.{Stage}
 use Rattle.receiver_table.specs.declared.Event.{Event}
 use Rattle.receiver_table.specs.declared.Row.{Row}

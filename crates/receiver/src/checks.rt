@@ -8,7 +8,7 @@ use receiver_table::Stage;
 use setting::SLOTS;
 use setting::limits;
 ghost use mathlib.Core.Path.{_≡_};
-ghost use Rattle.rules.specs.Refusal.{firstOf};
+ghost use Rattle.refusal_table.specs.Refusal.{firstOf};
 ghost use lib.ListN.{length};
 ghost use Rattle.setting.specs.declared.Kind.{Kind};
 ghost use Rattle.receiver.specs.Receiving.{receiverChecks, receiveRefusal, handOutRefusal};

@@ -3,7 +3,7 @@ use Prim.Native.Nat.{ℕ, _+_, _-_, _%_, _^_}
 use mathlib.Core.Bool.{Bool, true, false, cond, _&&_}
 use mathlib.Core.List.{List, [], _∷_}
 use lib.Dec.{leb, ltb, eqb}
-use Rattle.rules.specs.Refusal.{Check}
+use Rattle.refusal_table.specs.Refusal.{Check}
 use Rattle.counters.specs.Counters.{lastSlot}
 use Rattle.receiver_table.specs.declared.Stage.{Stage}
 use Rattle.receiver_table.specs.declared.Event.{Event}

@@ -2,7 +2,7 @@
 use setting::SLOTS;
 use setting::limits;
 ghost use mathlib.Core.Path.{_≡_};
-ghost use Rattle.rules.specs.Refusal.{firstOf};
+ghost use Rattle.refusal_table.specs.Refusal.{firstOf};
 ghost use Rattle.receiver_table.specs.Table.{good, broken, other, openRow, rowOf, stageChecks, storedOf, isReady};
 
 // Where a receiver stands.

@@ -16,9 +16,9 @@ use Rattle.slices.proofs.Any.{both, any-no, any-each}
 use Rattle.setting.specs.declared.Kind.{Kind}
 use Rattle.setting.specs.declared.Setting.{Setting}
 use Rattle.counters.specs.Counters.{lastStream, within}
-use Rattle.rules.specs.Refusal.{NoneHolds}
+use Rattle.refusal_table.specs.Refusal.{NoneHolds}
 use Rattle.rules.specs.Rules.{widthChecks, bondingChecks, ruleChecks, Narrow}
-use Rattle.rules.proofs.Refusals.{none-at, none-behind}
+use Rattle.refusal_table.proofs.Refusals.{none-at, none-behind}
 
 pub some-fit : (w : ℕ) (xs : List ℕ) → Fit w xs → someAtLeast (2 ^ w) xs ≡ false
 unfolding someAtLeast

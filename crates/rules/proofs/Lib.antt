@@ -1,4 +1,2 @@
+pub mod Checked
 pub mod Fields
-mod Pairs
-pub mod Refusals
-mod Unavailable

@@ -1,3 +1,2 @@
--- What a setting has to obey, and refusals by number.
-pub mod Refusal
+-- What a setting has to obey.
 pub mod Rules

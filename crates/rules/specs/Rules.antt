@@ -9,7 +9,7 @@ use Rattle.slices.specs.Slices.{anyBelow, someAtLeast}
 use Rattle.setting.specs.declared.Kind.{Kind}
 use Rattle.setting.specs.declared.Setting.{Setting}
 use Rattle.counters.specs.Counters.{lastStream, firstPosition, within, available}
-use Rattle.rules.specs.Refusal.{Check}
+use Rattle.refusal_table.specs.Refusal.{Check}
 
 -- what a plain and an extended header have in its place
 abbrev pub byKind : {A : Type 0} → Kind → A → A → A

@@ -13,9 +13,10 @@ use Rattle.setting.specs.declared.Kind.{Kind}
 use Rattle.setting.specs.declared.Setting.{Setting}
 use Rattle.counters.specs.Counters.{lastStream, lastSlot, available}
 use Rattle.setting.specs.Setting.{privateBytes, auxiliaryBytes, blank, OfItsTypes}
-use Rattle.rules.specs.Refusal.{Check, firstOf, NoneHolds, none, more}
+use Rattle.refusal_table.specs.Refusal.{Check, firstOf, NoneHolds, none, more}
 use Rattle.rules.specs.Rules.{pidAllowed, someUnavailable, pairTwice, absentChecks, widthChecks, bondingChecks, ruleChecks}
-use Rattle.rules.proofs.Refusals.{first-none, none-append, width-none, rule-none}
+use Rattle.refusal_table.proofs.Refusals.{first-none, none-append}
+use Rattle.rules.proofs.Checked.{width-none, rule-none}
 use Rattle.rules.proofs.Fields.{fit-some}
 use Rattle.layout.specs.Rows.{place, rowAt}
 use Rattle.layout.specs.Layout.{startRows}

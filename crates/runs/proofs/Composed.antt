@@ -12,9 +12,9 @@ use Rattle.setting.specs.declared.Kind.{Kind}
 use Rattle.setting.specs.declared.Setting.{Setting}
 use Rattle.counters.specs.Counters.{firstStream, firstSlot, lastSlot}
 use Rattle.setting.specs.Setting.{blank, OfItsTypes}
-use Rattle.rules.specs.Refusal.{firstOf}
+use Rattle.refusal_table.specs.Refusal.{firstOf}
 use Rattle.rules.specs.Rules.{pidAllowed, ruleChecks}
-use Rattle.rules.proofs.Refusals.{none-at}
+use Rattle.refusal_table.proofs.Refusals.{none-at}
 use Rattle.rules.proofs.Fields.{at-most}
 use Rattle.layout.specs.Header.{header}
 use Rattle.header_reader.specs.Reader.{readOf}

@@ -13,7 +13,7 @@ use Rattle.setting.specs.declared.Kind.{Kind}
 use Rattle.setting.specs.declared.Setting.{Setting}
 use Rattle.counters.specs.Counters.{lastSlot}
 use Rattle.rules.specs.Rules.{pidAllowed, widthChecks}
-use Rattle.rules.proofs.Refusals.{none-at}
+use Rattle.refusal_table.proofs.Refusals.{none-at}
 use Rattle.rules.proofs.Fields.{fit-some}
 use Rattle.header_reader.specs.declared.Reading.{Reading}
 use Rattle.layout.specs.Header.{header}

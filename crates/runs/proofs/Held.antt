@@ -12,7 +12,7 @@ use Rattle.setting.specs.declared.Kind.{Kind}
 use Rattle.setting.specs.declared.Setting.{Setting}
 use Rattle.counters.specs.Counters.{lastSlot}
 use Rattle.setting.specs.Setting.{OfItsTypes}
-use Rattle.rules.specs.Refusal.{NoneHolds}
+use Rattle.refusal_table.specs.Refusal.{NoneHolds, leaves}
 use Rattle.rules.specs.Rules.{widthChecks, ruleChecks}
 use Rattle.layout.specs.Header.{header}
 use Rattle.announced.specs.declared.Announced.{Announced}
@@ -20,7 +20,7 @@ use Rattle.frame.specs.declared.composer.Composer.{Composer}
 use Rattle.packet.specs.Packets.{packetLength, frameLength}
 use Rattle.frame.specs.Slots.{nulls, cleared, slotsAfter, marksAfter, someUnfit, frameAfter}
 use Rattle.announced.specs.Announcing.{announced}
-use Rattle.frame.specs.Composing.{opened, marked, nextCounter, nextVersion, closing, closedWith, closed, answer, leaves, beginOf, begunFrame, putOf, putFrame, closeOf, closedFrame}
+use Rattle.frame.specs.Composing.{opened, marked, nextCounter, nextVersion, closing, closedWith, closed, answer, beginOf, begunFrame, putOf, putFrame, closeOf, closedFrame}
 use Rattle.frame.proofs.Passed.{begin-passed, PutPassed, put-passed, ClosePassed, close-passed}
 use Rattle.runs.specs.Runs.{Call, begin, put, close, Each, none, more, OfTypes, Run, refusalOf, after, closedBy, framesOf}
 use Rattle.runs.specs.Work.{Work, added, workAfter, doneBy, worksOf, slotsFilled, said, versionBehind, headedBehind, frameOf}

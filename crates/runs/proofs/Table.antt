@@ -12,14 +12,13 @@ use lib.Seq.{length-take-le, take-at, drop-append-add, drop-drop}
 use Rattle.bits.specs.Fields.{Fit}
 use Rattle.setting.specs.declared.Kind.{Kind}
 use Rattle.counters.specs.Counters.{lastSlot}
-use Rattle.rules.specs.Refusal.{NoneHolds, none, more}
+use Rattle.refusal_table.specs.Refusal.{NoneHolds, none, more, leaves}
 use Rattle.rules.specs.Rules.{pidAllowed}
-use Rattle.rules.proofs.Refusals.{first-none, none-append}
+use Rattle.refusal_table.proofs.Refusals.{first-none, none-append}
 use Rattle.rules.proofs.Fields.{some-fit}
 use Rattle.layout.specs.Header.{reading}
 use Rattle.header_reader.specs.Reader.{readRefusal}
 use Rattle.packet.specs.Packets.{packetLength, unfit}
-use Rattle.frame.specs.Composing.{leaves}
 use Rattle.receiver_table.specs.declared.Stage.{Stage}
 use Rattle.receiver_table.specs.declared.Event.{Event}
 use Rattle.receiver_table.specs.declared.Row.{Row}

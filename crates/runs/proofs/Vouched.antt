@@ -13,13 +13,12 @@ use Rattle.bits.specs.Fields.{Fit}
 use Rattle.setting.specs.declared.Kind.{Kind}
 use Rattle.setting.specs.declared.Setting.{Setting}
 use Rattle.counters.specs.Counters.{firstStream, lastStream, lastSlot}
-use Rattle.rules.specs.Refusal.{none, more}
-use Rattle.rules.proofs.Refusals.{first-none, none-append}
+use Rattle.refusal_table.specs.Refusal.{none, more, leaves}
+use Rattle.refusal_table.proofs.Refusals.{first-none, none-append}
 use Rattle.header_reader.specs.declared.Reading.{Reading}
 use Rattle.layout.specs.Header.{reading}
 use Rattle.header_reader.specs.Reader.{readRefusal, readOf}
 use Rattle.packet.specs.Packets.{packetLength, frameLength, slot, unfit}
-use Rattle.frame.specs.Composing.{leaves}
 use Rattle.receiver_table.specs.declared.Stage.{Stage}
 use Rattle.receiver_table.specs.declared.Event.{Event}
 use Rattle.receiver_table.specs.declared.Row.{Row}

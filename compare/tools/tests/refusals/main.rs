@@ -12,9 +12,8 @@ use lines::*;
 use reference::PACKET_BYTES;
 use std::fs::OpenOptions;
 use std::os::unix::fs::symlink;
-use std::process::Command;
 use tools::composing::compose;
-use tools::program::{program, Folder, Said};
+use tools::program::{program, start, Folder, Said};
 use tools::streams::stream;
 
 const PID: u16 = 0x1FF0;
@@ -94,9 +93,10 @@ fn links() {
     for (tool, usage) in TOOLS.into_iter().zip(USAGES) {
         let link = folder.path(tool);
         symlink(program(), &link).expect("a link");
-        let output = Command::new(&link).output().expect("the program runs");
+        let linked = || start(&link, link.as_os_str());
+        let output = linked().output().expect("the program runs");
         assert_eq!(String::from_utf8_lossy(&output.stderr), usage);
-        let output = Command::new(&link).arg("mux").output();
+        let output = linked().arg("mux").output();
         let output = output.expect("the program runs");
         assert_eq!(String::from_utf8_lossy(&output.stderr), usage);
     }

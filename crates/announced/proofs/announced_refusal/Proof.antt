@@ -4,8 +4,8 @@ use borrow.Author.Needs.{needs}
 use borrow.Author.Tests.{le-leb, lt-leb}
 use lib.ListN.{length}
 use Rattle.counters.specs.Counters.{lastStream}
-use Rattle.rules.specs.Refusal.{Check, firstOf}
-use Rattle.rules.proofs.Refusals.{Past, answers, passed}
+use Rattle.refusal_table.specs.Refusal.{Check, firstOf}
+use Rattle.refusal_table.proofs.Refusals.{Past, answers, passed}
 use Rattle.announced.specs.Announcing.{announcedChecks}
 use Rattle.announced.proofs.announced_refusal.Statement.{statement}
 use Rattle.announced.proofs.announced_refusal.Tie as tie

@@ -4,7 +4,8 @@ use borrow.Author.Tests.{eq-eqb, ne-eqb}
 use lib.ListN.{length}
 use Rattle.setting.specs.declared.Setting.{Setting}
 use Rattle.frame.specs.declared.composer.Composer.{Composer}
-use Rattle.frame.specs.Composing.{leaves, beginOf, begunFrame}
+use Rattle.frame.specs.Composing.{beginOf, begunFrame}
+use Rattle.refusal_table.specs.Refusal.{leaves}
 use Rattle.coding.specs.Settings.{settingLength, settingOf}
 use Rattle.board_frame.specs.States.{composerLength, composerOf}
 use Rattle.board_frame.specs.Calls.{beginRefused, beginState, beginMemory}

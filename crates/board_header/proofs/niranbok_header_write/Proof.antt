@@ -1,7 +1,7 @@
 -- `niranbok_header_write` meets its contract. Assumes nothing.
 use mathlib.Core.Path.{refl, sym, _∙_}
 use borrow.Author.Tests.{ne-eqb}
-use Rattle.frame.specs.Composing.{leaves}
+use Rattle.refusal_table.specs.Refusal.{leaves}
 use Rattle.board_header.specs.Calls.{thenRefused, writeRefused, writeMemory}
 use borrow.Author.Needs.{needs}
 use Rattle.board_header.proofs.niranbok_header_write.Statement.{statement}

@@ -1,7 +1,7 @@
 -- `call_refusal` meets its contract: a check a return. Assumes nothing.
 use native.Mathlib.Omega.{arith}
 use borrow.Author.Tests.{eq-eqb, ne-eqb, lt-ltb, le-ltb}
-use Rattle.rules.specs.Refusal.{firstOf}
+use Rattle.refusal_table.specs.Refusal.{firstOf}
 use Rattle.coding.specs.Settings.{settingLength}
 use Rattle.board_setting.specs.Calls.{callRefused}
 use Rattle.board_setting.proofs.call_refusal.Statement.{statement}

@@ -2,7 +2,7 @@
 use mathlib.Core.Path.{sym, _∙_}
 use borrow.Author.Needs.{needs}
 use lib.ListN.{length}
-use Rattle.rules.specs.Refusal.{NoneHolds}
+use Rattle.refusal_table.specs.Refusal.{NoneHolds}
 use Rattle.group.specs.Standing.{callChecks}
 use Rattle.group.proofs.Passing.{called, call-none, call-refused, headers-answer}
 use Rattle.group.proofs.read_headers.Statement.{statement}

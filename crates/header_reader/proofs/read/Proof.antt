@@ -4,9 +4,9 @@ use mathlib.Core.Path.{_≡_, refl, sym, ap, _∙_}
 use mathlib.Core.List.{List, _++_}
 use native.Mathlib.Omega.{arith}
 use borrow.Author.Tests.{not-true, not-false}
-use Rattle.rules.specs.Refusal.{Check, firstOf}
+use Rattle.refusal_table.specs.Refusal.{Check, firstOf}
 use Rattle.rules.specs.Rules.{ruleChecks}
-use Rattle.rules.proofs.Refusals.{onward, at-once}
+use Rattle.refusal_table.proofs.Refusals.{onward, at-once}
 use Rattle.layout.specs.Header.{reading, packetChecks}
 use Rattle.header_reader.specs.Reader.{readRefusal}
 use Rattle.layout.proofs.Calls.{wrong-length, wrong-pid, right-call}

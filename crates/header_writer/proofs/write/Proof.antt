@@ -6,10 +6,11 @@ use mathlib.Core.List.{List, _++_}
 use native.Mathlib.Omega.{arith}
 use borrow.Author.Tests.{not-true, not-false}
 use lib.ListN.{length}
-use Rattle.rules.specs.Refusal.{Check, firstOf, NoneHolds}
+use Rattle.refusal_table.specs.Refusal.{Check, firstOf, NoneHolds}
 use Rattle.rules.specs.Rules.{pidAllowed, widthChecks, ruleChecks}
 use Rattle.rules.proofs.Fields.{at-most, narrow, bonding-none}
-use Rattle.rules.proofs.Refusals.{onward, at-once, first-none, width-none, rule-none}
+use Rattle.refusal_table.proofs.Refusals.{onward, at-once, first-none}
+use Rattle.rules.proofs.Checked.{width-none, rule-none}
 use Rattle.header_writer.specs.Writing.{writeRefusal}
 use Rattle.layout.proofs.Calls.{wrong-length, wrong-pid, right-call}
 use Rattle.header_writer.proofs.Calls.{left, made}

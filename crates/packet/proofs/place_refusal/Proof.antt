@@ -3,8 +3,8 @@ use mathlib.Core.Path.{sym, ap, _∙_}
 use mathlib.Core.Bool.{not}
 use borrow.Author.Needs.{needs}
 use borrow.Author.Tests.{eq-eqb, ne-eqb}
-use Rattle.rules.specs.Refusal.{none, more}
-use Rattle.rules.proofs.Refusals.{answers, passed, first-none}
+use Rattle.refusal_table.specs.Refusal.{none, more}
+use Rattle.refusal_table.proofs.Refusals.{answers, passed, first-none}
 use Rattle.packet.specs.Packets.{placeRefusal}
 use Rattle.packet.proofs.place_refusal.Statement.{statement}
 use Rattle.packet.proofs.place_refusal.Tie as tie

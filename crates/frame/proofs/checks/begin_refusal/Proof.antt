@@ -4,9 +4,10 @@ use mathlib.Core.Bool.{not}
 use mathlib.Core.List.{List, _++_}
 use borrow.Author.Needs.{needs}
 use borrow.Author.Tests.{eq-eqb, ne-eqb}
-use Rattle.rules.specs.Refusal.{Check, firstOf}
+use Rattle.refusal_table.specs.Refusal.{Check, firstOf}
 use Rattle.rules.specs.Rules.{widthChecks, ruleChecks}
-use Rattle.rules.proofs.Refusals.{answers, passed, onward, at-once, width-none}
+use Rattle.refusal_table.proofs.Refusals.{answers, passed, onward, at-once}
+use Rattle.rules.proofs.Checked.{width-none}
 use Rattle.frame.specs.Composing.{stateChecks, openRuleChecks, markChecks, inTurn, beginRefusal}
 use Rattle.frame.proofs.Refusals.{state-none, both-rules-none}
 use Rattle.frame.proofs.checks.begin_refusal.Statement.{statement}

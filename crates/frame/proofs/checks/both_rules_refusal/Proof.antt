@@ -2,7 +2,7 @@ use mathlib.Core.Path.{_≡_, sym, ap₂, _∙_}
 use native.Mathlib.Omega.{arith}
 use borrow.Author.Needs.{needs}
 use borrow.Author.Tests.{eq-eqb, ne-eqb, lt-ltb, le-ltb}
-use Rattle.rules.specs.Refusal.{firstOf}
+use Rattle.refusal_table.specs.Refusal.{firstOf}
 use Rattle.rules.specs.Rules.{ruleChecks}
 use Rattle.frame.specs.Composing.{inTurn, openRuleChecks}
 use Rattle.frame.proofs.Refusals.{lesser, in-turn, rules-rise}

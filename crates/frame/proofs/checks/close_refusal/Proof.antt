@@ -3,8 +3,8 @@ use mathlib.Core.Bool.{not}
 use mathlib.Core.List.{_++_}
 use borrow.Author.Needs.{needs}
 use borrow.Author.Tests.{eq-eqb, ne-eqb}
-use Rattle.rules.specs.Refusal.{firstOf}
-use Rattle.rules.proofs.Refusals.{answers, passed, onward, at-once}
+use Rattle.refusal_table.specs.Refusal.{firstOf}
+use Rattle.refusal_table.proofs.Refusals.{answers, passed, onward, at-once}
 use Rattle.frame.specs.Composing.{stateChecks, openChecks, closeRefusal}
 use Rattle.frame.proofs.Refusals.{state-none}
 use Rattle.frame.proofs.checks.close_refusal.Statement.{statement}

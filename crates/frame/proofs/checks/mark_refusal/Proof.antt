@@ -3,7 +3,7 @@ use borrow.Author.Needs.{needs}
 use borrow.Author.Tests.{not-true, not-false}
 use lib.ListN.{length}
 use Rattle.counters.specs.Counters.{lastSlot}
-use Rattle.rules.specs.Refusal.{firstOf}
+use Rattle.refusal_table.specs.Refusal.{firstOf}
 use Rattle.frame.specs.Composing.{markChecks}
 use Rattle.frame.proofs.checks.mark_refusal.Statement.{statement}
 use Rattle.frame.proofs.checks.mark_refusal.Tie as tie

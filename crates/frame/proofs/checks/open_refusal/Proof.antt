@@ -1,8 +1,8 @@
 use mathlib.Core.Path.{_≡_, sym, _∙_}
 use mathlib.Core.List.{_++_}
 use borrow.Author.Needs.{needs}
-use Rattle.rules.specs.Refusal.{firstOf}
-use Rattle.rules.proofs.Refusals.{answers, passed, onward, at-once}
+use Rattle.refusal_table.specs.Refusal.{firstOf}
+use Rattle.refusal_table.proofs.Refusals.{answers, passed, onward, at-once}
 use Rattle.frame.specs.Composing.{openRuleChecks, markChecks, openChecks}
 use Rattle.frame.proofs.Refusals.{open-rules-none}
 use Rattle.frame.proofs.checks.open_refusal.Statement.{statement}

@@ -5,8 +5,8 @@ use mathlib.Core.List.{List, _∷_, _++_}
 use borrow.Author.Needs.{needs}
 use borrow.Author.Tests.{eq-eqb, ne-eqb}
 use Rattle.counters.specs.Counters.{firstStream, lastStream, within}
-use Rattle.rules.specs.Refusal.{Check, firstOf}
-use Rattle.rules.proofs.Refusals.{answers, passed, onward, at-once}
+use Rattle.refusal_table.specs.Refusal.{Check, firstOf}
+use Rattle.refusal_table.proofs.Refusals.{answers, passed, onward, at-once}
 use Rattle.counters.proofs.Within.{under, past, between}
 use Rattle.frame.specs.Composing.{stateChecks, openChecks, streamChecks, putRefusal}
 use Rattle.frame.proofs.Refusals.{state-none, open-none}

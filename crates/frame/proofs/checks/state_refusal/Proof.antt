@@ -3,9 +3,9 @@ use mathlib.Core.Bool.{not}
 use mathlib.Core.List.{List, _++_}
 use borrow.Author.Needs.{needs}
 use borrow.Author.Tests.{le-leb, lt-leb}
-use Rattle.rules.specs.Refusal.{Check, firstOf}
+use Rattle.refusal_table.specs.Refusal.{Check, firstOf}
 use Rattle.rules.specs.Rules.{widthChecks}
-use Rattle.rules.proofs.Refusals.{Past, answers, passed, onward, at-once}
+use Rattle.refusal_table.proofs.Refusals.{Past, answers, passed, onward, at-once}
 use Rattle.announced.specs.Announcing.{announcedChecks}
 use Rattle.frame.specs.Composing.{asked, stateChecks}
 use Rattle.frame.proofs.Refusals.{announced-none}

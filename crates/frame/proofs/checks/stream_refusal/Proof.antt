@@ -4,8 +4,8 @@ use mathlib.Core.List.{List}
 use borrow.Author.Needs.{needs}
 use lib.ListN.{length}
 use Rattle.counters.specs.Counters.{lastSlot}
-use Rattle.rules.specs.Refusal.{Check, firstOf}
-use Rattle.rules.proofs.Refusals.{Past, answers, passed}
+use Rattle.refusal_table.specs.Refusal.{Check, firstOf}
+use Rattle.refusal_table.proofs.Refusals.{Past, answers, passed}
 use Rattle.frame.specs.Composing.{streamChecks}
 use Rattle.frame.proofs.checks.stream_refusal.Statement.{statement}
 use Rattle.frame.proofs.checks.stream_refusal.Tie as tie

@@ -5,8 +5,8 @@ use mathlib.Core.Bool.{not}
 use mathlib.Core.List.{[]}
 use borrow.Author.Needs.{needs}
 use borrow.Author.Tests.{eq-eqb, ne-eqb}
-use Rattle.rules.specs.Refusal.{firstOf}
-use Rattle.rules.proofs.Refusals.{Past, answers, passed}
+use Rattle.refusal_table.specs.Refusal.{firstOf}
+use Rattle.refusal_table.proofs.Refusals.{Past, answers, passed}
 use Rattle.counters.proofs.Within.{under, past, between}
 use Rattle.places.specs.Walk.{lastCarrier}
 use Rattle.group.specs.Standing.{callChecks}

@@ -2,7 +2,7 @@
 use Prim.Native.Nat.{ℕ, _+_, _-_}
 use mathlib.Core.Path.{_≡_, refl, sym, ap, _∙_}
 use mathlib.Core.Logic.{⊎-elim}
-use Rattle.rules.specs.Refusal.{firstOf}
+use Rattle.refusal_table.specs.Refusal.{firstOf}
 use Rattle.group.specs.declared.headers.Shown.{Shown}
 use Rattle.group.specs.Standing.{shownBy, before, standingChecks}
 use Rattle.group.specs.Plan.{seen}

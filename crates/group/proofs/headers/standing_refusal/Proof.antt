@@ -8,8 +8,8 @@ use borrow.Author.Needs.{needs}
 use borrow.Author.Tests.{eq-eqb, ne-eqb, not-true, not-false}
 use lib.Dec.{eqb}
 use Rattle.counters.specs.declared.FramePosition.{FramePosition}
-use Rattle.rules.specs.Refusal.{firstOf}
-use Rattle.rules.proofs.Refusals.{Past, answers, passed}
+use Rattle.refusal_table.specs.Refusal.{firstOf}
+use Rattle.refusal_table.proofs.Refusals.{Past, answers, passed}
 use Rattle.group.specs.Standing.{isLast, nextPosition, standingChecks}
 use Rattle.group.proofs.headers.standing_refusal.Statement.{statement}
 use Rattle.group.proofs.headers.standing_refusal.Tie as tie

@@ -9,8 +9,8 @@ use lib.Seq.{take-all}
 use Rattle.bits.specs.Fields.{Fit}
 use Rattle.bits.proofs.Laws.{fit-of}
 use Rattle.crc.specs.Crc.{registerOf}
-use Rattle.rules.specs.Refusal.{Check, firstOf}
-use Rattle.rules.proofs.Refusals.{Past, answers, passed}
+use Rattle.refusal_table.specs.Refusal.{Check, firstOf}
+use Rattle.refusal_table.proofs.Refusals.{Past, answers, passed}
 use Rattle.layout.specs.Layout.{syncByte, tsmfSync}
 use Rattle.layout.specs.Header.{startValue, packetChecks}
 use Rattle.layout.proofs.Packet.{differs, agrees, first-differs, second-differs, both-agree, sync-byte, zeros, header-pid, one, tsmf-sync}

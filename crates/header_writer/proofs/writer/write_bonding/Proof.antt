@@ -4,7 +4,7 @@ use native.Mathlib.Omega.{arith}
 use Rattle.setting.specs.declared.Kind.{Kind}
 use Rattle.rules.specs.Rules.{bondingChecks}
 use Rattle.rules.proofs.Fields.{Bonded, bonded}
-use Rattle.rules.proofs.Refusals.{none-first}
+use Rattle.refusal_table.proofs.Refusals.{none-first}
 use Rattle.layout.specs.Bytes.{bondingBytes}
 use Rattle.slices.proofs.Front.{stored}
 use borrow.Author.Needs.{needs}

@@ -6,7 +6,7 @@ use lib.Seq.{length-take-le}
 use Rattle.setting.specs.declared.Kind.{Kind}
 use Rattle.setting.specs.Setting.{auxiliaryBytes}
 use Rattle.rules.specs.Rules.{bondingChecks}
-use Rattle.rules.proofs.Refusals.{none-first}
+use Rattle.refusal_table.proofs.Refusals.{none-first}
 use Rattle.layout.proofs.Private.{copied-all, extended-parts}
 use borrow.Author.Needs.{needs}
 use Rattle.header_writer.proofs.writer.write_extended.Statement.{statement}

@@ -5,7 +5,7 @@ use lib.ListN.{length}
 use Rattle.bits.specs.Fields.{run}
 use Rattle.setting.specs.declared.Kind.{Kind}
 use Rattle.setting.specs.Setting.{privateBytes}
-use Rattle.rules.specs.Refusal.{firstOf}
+use Rattle.refusal_table.specs.Refusal.{firstOf}
 use Rattle.rules.specs.Rules.{bondingChecks}
 use Rattle.layout.specs.Rows.{pack}
 use Rattle.layout.specs.Layout.{privateRows}

@@ -2,7 +2,7 @@
 use mathlib.Core.Path.{refl, sym, _∙_}
 use borrow.Author.Needs.{needs}
 use borrow.Author.Tests.{not-true, not-false}
-use Rattle.rules.specs.Refusal.{firstOf}
+use Rattle.refusal_table.specs.Refusal.{firstOf}
 use Rattle.receiver.specs.Receiving.{startReceiverOf}
 use Rattle.receiver.proofs.Receiver.start.Statement.{statement}
 use Rattle.receiver.proofs.Receiver.start.Tie as tie

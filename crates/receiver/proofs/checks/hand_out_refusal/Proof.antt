@@ -9,8 +9,8 @@ use borrow.Author.Tests.{eq-eqb, ne-eqb, lt-ltb, le-ltb}
 use lib.Dec.{ltb}
 use lib.ListN.{drop}
 use Rattle.counters.specs.Counters.{firstStream, lastStream, lastSlot, within}
-use Rattle.rules.specs.Refusal.{Check, firstOf}
-use Rattle.rules.proofs.Refusals.{answers, passed, onward, at-once}
+use Rattle.refusal_table.specs.Refusal.{Check, firstOf}
+use Rattle.refusal_table.proofs.Refusals.{answers, passed, onward, at-once}
 use Rattle.counters.proofs.Within.{under, past, between}
 use Rattle.packet.specs.Packets.{packetLength}
 use Rattle.receiver.specs.Store.{slotsFor}

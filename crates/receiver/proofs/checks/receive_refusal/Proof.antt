@@ -3,7 +3,7 @@ use mathlib.Core.Path.{refl, sym, ap, _∙_}
 use mathlib.Core.Bool.{not}
 use borrow.Author.Needs.{needs}
 use borrow.Author.Tests.{eq-eqb, ne-eqb}
-use Rattle.rules.proofs.Refusals.{answers, passed}
+use Rattle.refusal_table.proofs.Refusals.{answers, passed}
 use Rattle.receiver.specs.Receiving.{receiveRefusal}
 use Rattle.receiver.specs.InPlace.{lentRefusal}
 use Rattle.receiver.proofs.checks.receive_refusal.Statement.{statement}

@@ -9,8 +9,8 @@ use lib.ListN.{take, drop}
 use Rattle.slices.specs.Slices.{someAtLeast}
 use Rattle.setting.specs.declared.Kind.{Kind}
 use Rattle.counters.specs.Counters.{lastSlot}
-use Rattle.rules.specs.Refusal.{Check, firstOf}
-use Rattle.rules.proofs.Refusals.{answers, passed, onward, at-once}
+use Rattle.refusal_table.specs.Refusal.{Check, firstOf}
+use Rattle.refusal_table.proofs.Refusals.{answers, passed, onward, at-once}
 use Rattle.receiver.specs.declared.Receiver.{Receiver}
 use Rattle.receiver_table.specs.Table.{stageChecks}
 use Rattle.receiver.specs.Receiving.{receiverChecks}

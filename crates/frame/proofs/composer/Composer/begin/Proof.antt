@@ -2,7 +2,8 @@ use mathlib.Core.Path.{sym, ap, _∙_}
 use borrow.Author.Needs.{needs}
 use Rattle.frame.specs.declared.composer.Composer.{Composer}
 use Rattle.frame.specs.Composing.{beginOf, begunFrame}
-use Rattle.frame.proofs.Answers.{refused, kept, granted, written}
+use Rattle.frame.proofs.Answers.{refused, granted}
+use Rattle.refusal_table.proofs.Refusals.{kept, written}
 use Rattle.frame.proofs.Passed.{begin-passed}
 use Rattle.frame.proofs.composer.Composer.begin.Statement.{statement}
 use Rattle.frame.proofs.composer.Composer.begin.Tie as tie

@@ -10,7 +10,8 @@ use Rattle.setting.specs.declared.Setting.{Setting}
 use Rattle.counters.specs.Counters.{lastSlot}
 use Rattle.packet.specs.Packets.{packetLength}
 use Rattle.frame.specs.Composing.{saying, closing, closedWith, closed, closeOf, closedFrame}
-use Rattle.frame.proofs.Answers.{refused, kept, granted, written}
+use Rattle.frame.proofs.Answers.{refused, granted}
+use Rattle.refusal_table.proofs.Refusals.{kept, written}
 use Rattle.frame.proofs.Passed.{ClosePassed, close-passed}
 use Rattle.frame.proofs.Closing.{header-granted, header-made}
 use Rattle.frame.proofs.composer.Composer.close.Statement.{statement}

@@ -6,7 +6,7 @@ use borrow.Author.Tests.{ne-eqb}
 use lib.ListN.{length}
 use Rattle.counters.specs.Counters.{lastSlot}
 use Rattle.frame.specs.Composing.{marked, putOf, putFrame}
-use Rattle.frame.proofs.Answers.{kept, written}
+use Rattle.refusal_table.proofs.Refusals.{kept, written}
 use Rattle.frame.proofs.Passed.{PutPassed, put-passed}
 use Rattle.frame.proofs.Rest.{left-within, counted}
 use Rattle.frame.proofs.composer.Composer.put.Statement.{statement}

@@ -1,7 +1,7 @@
 use mathlib.Core.Path.{sym, _∙_}
 use borrow.Author.Needs.{needs}
 use borrow.Author.Tests.{not-true, not-false}
-use Rattle.rules.specs.Refusal.{firstOf}
+use Rattle.refusal_table.specs.Refusal.{firstOf}
 use Rattle.frame.specs.Composing.{answer, startOf}
 use Rattle.frame.proofs.composer.Composer.start.Statement.{statement}
 use Rattle.frame.proofs.composer.Composer.start.Tie as tie

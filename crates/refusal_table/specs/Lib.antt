@@ -1,0 +1,2 @@
+-- Refusals by number, in the table's order.
+pub mod Refusal

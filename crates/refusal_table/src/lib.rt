@@ -1,0 +1,1 @@
+// Refusals by number: definitions in specs/, laws in proofs/. No code.

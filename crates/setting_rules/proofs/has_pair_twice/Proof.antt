@@ -1,0 +1,106 @@
+-- `has_pair_twice` meets its contract: no stream before stream j + 1 makes a pair with one before it. Assumes nothing.
+use Prim.Native.Nat.{_-_, _≤_}
+use mathlib.Core.Path.{_≡_, sym, _∙_}
+use mathlib.Core.Logic.{⊎-elim}
+use native.Mathlib.Omega.{arith}
+use borrow.Author.Needs.{needs}
+use lib.ListN.{length, length-set}
+use Rattle.slices.proofs.Any.{any-found}
+use Rattle.rules.specs.Rules.{pairTwice}
+use Rattle.setting_rules.proofs.Pairs.{places, Seen, seen-none, no-mark, seen-more, seen-absent}
+use Rattle.setting_rules.proofs.has_pair_twice.Statement.{statement}
+use Rattle.setting_rules.proofs.has_pair_twice.Tie as tie
+
+abbrev Inv-loop : tie.InvT-loop
+Inv-loop availability ts os met₀ j₀ met j = (j ≤ length ts) × (length met ≡ places) × Seen availability ts os met j
+
+abbrev μ-loop : tie.MeasureT-loop
+μ-loop availability ts os met₀ j₀ met j = length ts - j
+
+loop-holds : tie.Need-loop-holds Inv-loop μ-loop
+loop-holds c = let args = c .before .before .args in (omega arith, omega arith, seen-none (args .availability) (args .ts .now) (args .os .now) _)
+
+add-t7 : tie.Need-add-t7 Inv-loop μ-loop
+add-t7 c = search needs
+
+cast-t10 : tie.Need-cast-t10 Inv-loop μ-loop
+cast-t10 c = search needs
+
+is-available-requires : tie.Need-is-available-requires Inv-loop μ-loop
+is-available-requires c κs = search needs
+
+mul-k : tie.Need-mul-k Inv-loop μ-loop
+mul-k c = search needs
+
+shared-slice-read-k : tie.Need-shared-slice-read-k Inv-loop μ-loop
+shared-slice-read-k c = search needs
+
+cast-k : tie.Need-cast-k Inv-loop μ-loop
+cast-k c = search needs
+
+array-read-if2 : tie.Need-array-read-if2 Inv-loop μ-loop
+array-read-if2 c = search needs
+
+has-pair-before-requires : tie.Need-has-pair-before-requires Inv-loop μ-loop
+has-pair-before-requires c κs = search needs
+
+returns : tie.Need-returns Inv-loop μ-loop
+unfolding pairTwice
+returns c =
+    sym (any-found _ _ (c .before .before .before .before .before .before .before .loop .j) (omega arith) (sym (c .before .has-pair-before .ensures) ∙ c .if3 .taken))
+
+array-write-met : tie.Need-array-write-met Inv-loop μ-loop
+array-write-met c = search needs
+
+add-j : tie.Need-add-j Inv-loop μ-loop
+add-j c = search needs
+
+loop-less : tie.Need-loop-less Inv-loop μ-loop
+loop-less c = search needs
+
+loop-again : tie.Need-loop-again Inv-loop μ-loop
+loop-again c =
+    let turn = c .before .before .before .loop in
+    let args = c .before .before .before .before .before .before .args in (
+      omega arith,
+      ⊎-elim (λ w. rw (w .3) (simp length-set (turn .inv .1))) (λ w. rw (w .1) (turn .inv .1)) (c .if1 .came),
+      ⊎-elim
+          (λ w.
+          rw (w .3)
+          (seen-more (args .availability) (args .ts .now) (args .os .now) (turn .inv .2) (turn .inv .1)
+          (⊎-elim
+          (λ v. sym (v .1 .ensures) ∙ v .2 .left)
+          (λ v. no-mark (args .availability) (args .ts .now) (args .os .now) (turn .inv .2) (v .left))
+          (w .2 .came))))
+          (λ w.
+          rw (w .1) (seen-absent (args .availability) (args .ts .now) (args .os .now) (turn .inv .2) (sym (c .before .is-available .ensures) ∙ w .0 .left)))
+          (c .if1 .came),
+    )
+
+returns-2 : tie.Need-returns-2 Inv-loop μ-loop
+unfolding pairTwice
+returns-2 c =
+    let all : c .before .loop .j ≡ length (c .before .before .before .before .args .ts .now) = omega arith in
+    sym (rw all at (c .before .loop .inv .2 .none))
+
+pub has-pair-twice-spec : {M : Type 1} → statement M
+has-pair-twice-spec =
+    tie.close
+    (tie.spec
+    Inv-loop
+    μ-loop
+    loop-holds
+    add-t7
+    cast-t10
+    is-available-requires
+    mul-k
+    shared-slice-read-k
+    cast-k
+    array-read-if2
+    has-pair-before-requires
+    returns
+    array-write-met
+    add-j
+    loop-less
+    loop-again
+    returns-2)

@@ -1,0 +1,84 @@
+use mathlib.Core.Path.{_≡_, sym, ap, _∙_}
+use mathlib.Core.Bool.{not}
+use mathlib.Core.List.{List}
+use borrow.Author.Needs.{needs}
+use lib.ListN.{length}
+use Rattle.counters.specs.Counters.{lastStream}
+use Rattle.refusal_table.specs.Refusal.{Check}
+use Rattle.rules.specs.Rules.{ruleChecks}
+use Rattle.refusal_table.proofs.Refusals.{Past, answers, passed}
+use Rattle.setting_rules.proofs.rule_refusal.Statement.{statement}
+use Rattle.setting_rules.proofs.rule_refusal.Tie as tie
+
+-- the rows that the function goes through
+abbrev rows : tie.Start → List Check
+rows c = ruleChecks (c .args .kind) (c .args .s)
+
+-- what arrays of the setting have, which their types say
+streams : (c : tie.Start) → (length (c .args .s .«ts_id») ≡ lastStream) × (length (c .args .s .«original_network_id») ≡ lastStream)
+streams c = (search needs, search needs)
+
+past-1 : (c : tie.Else1) → Past 1 (rows (c .before .before))
+unfolding ruleChecks
+past-1 c = passed _ _ (ap not (sym (c .before .frame-type-allowed .ensures)) ∙ c .if1 .left)
+
+past-2 : (c : tie.Else2) → Past 2 (rows (c .before .before .before .before .before .before))
+unfolding ruleChecks
+past-2 c = past-1 (c .before .before .before .before) ∙ passed _ _ (sym (c .before .has-unavailable .ensures) ∙ c .if2 .left)
+
+past-3 : (c : tie.Else3) → Past 3 (rows (c .before .before .before .before .before .before .before .before .before .before .before .before))
+unfolding ruleChecks
+past-3 c = past-2 (c .before .before .before .before .before .before) ∙ passed _ _ (sym (c .before .has-pair-twice .ensures) ∙ c .if3 .left)
+
+frame-type-allowed-requires : tie.Need-frame-type-allowed-requires
+frame-type-allowed-requires c κs = search needs
+
+returns : tie.Need-returns
+unfolding ruleChecks
+returns c = sym (answers _ _ (ap not (sym (c .before .frame-type-allowed .ensures)) ∙ c .if1 .taken))
+
+slice-aggregate-has-unavailable : tie.Need-slice-aggregate-has-unavailable
+slice-aggregate-has-unavailable c = search needs
+
+has-unavailable-requires : tie.Need-has-unavailable-requires
+has-unavailable-requires c κs = search needs
+
+returns-2 : tie.Need-returns-2
+unfolding ruleChecks
+returns-2 c = sym (past-1 (c .before .before .before .before) ∙ answers _ _ (sym (c .before .has-unavailable .ensures) ∙ c .if2 .taken))
+
+slice-aggregate-has-pair-twice : tie.Need-slice-aggregate-has-pair-twice
+slice-aggregate-has-pair-twice c = search needs
+
+slice-aggregate-has-pair-twice-2 : tie.Need-slice-aggregate-has-pair-twice-2
+slice-aggregate-has-pair-twice-2 c = search needs
+
+has-pair-twice-requires : tie.Need-has-pair-twice-requires
+has-pair-twice-requires c κs = streams (c .before .before .before .before .before .before .before .before .before .before)
+
+returns-3 : tie.Need-returns-3
+unfolding ruleChecks
+returns-3 c = sym (past-2 (c .before .before .before .before .before .before) ∙ answers _ _ (sym (c .before .has-pair-twice .ensures) ∙ c .if3 .taken))
+
+bonding-refusal-requires : tie.Need-bonding-refusal-requires
+bonding-refusal-requires c κs = search needs
+
+returns-4 : tie.Need-returns-4
+unfolding ruleChecks
+returns-4 c = c .bonding-refusal .ensures ∙ sym (past-3 (c .before))
+
+pub rule-refusal-spec : {M : Type 1} → statement M
+rule-refusal-spec =
+    tie.close
+    (tie.spec
+    frame-type-allowed-requires
+    returns
+    slice-aggregate-has-unavailable
+    has-unavailable-requires
+    returns-2
+    slice-aggregate-has-pair-twice
+    slice-aggregate-has-pair-twice-2
+    has-pair-twice-requires
+    returns-3
+    bonding-refusal-requires
+    returns-4)
