@@ -1,5 +1,5 @@
 #!/bin/sh
-# Writes the inputs and expected outputs of the programs that are compared with the independent program of compare/.
+# Writes the lister's inputs and expected outputs, which come from the independent program of compare/, and the sample.
 # Run by hand, with cargo. The files are the same in every run.
 set -eu
 cd "$(dirname "$0")/.."
@@ -7,8 +7,6 @@ made=$(mktemp -d)
 trap 'rm -r "$made"' EXIT
 (cd compare && cargo build --release)
 compare/target/release/lister_cases "$made"
-compare/target/release/frame_cases "$made"
-compare/target/release/bond_cases "$made"
 
 # The lister runs once: the example on its standard input, the other cases by name, and all outputs one behind another.
 lister=crates/lister
@@ -22,10 +20,6 @@ for case in $cases; do
     cat "$made/$case.out" >> "$lister/stdout"
     echo "$case" >> "$lister/args"
 done
-mkdir -p crates/frame_cases
-cp "$made/frames.out" crates/frame_cases/stdout
-mkdir -p crates/bond_cases
-cp "$made/bonds.out" crates/bond_cases/stdout
 
 # The sample that ships: a few packets of the many, one of each refusal among them, and a cut one.
 for k in 0 1 2 3 36 142 170 184 198 212 226 240; do

@@ -1,21 +1,7 @@
-//! What several of the case programs draw alike.
+//! What the tests of the programs draw alike.
 
 use crate::generator::Generator;
 use reference::{Setting, PACKET_BYTES};
-
-/// Everything between version and slot numbers, but for frame_type.
-pub fn announced(generator: &mut Generator, setting: &mut Setting) {
-    setting.slot_allocation_type = generator.byte_below(2);
-    setting.availability = generator.below(32768);
-    for id in &mut setting.ts_id {
-        *id = generator.draw();
-    }
-    for id in &mut setting.original_network_id {
-        *id = generator.draw();
-    }
-    generator.fill(&mut setting.receive_status, 4);
-    setting.emergency_indicator = generator.byte_below(2);
-}
 
 pub fn make_available(setting: &mut Setting, r: usize, ts_id: u16, original_network_id: u16) {
     setting.availability |= availability_bit(r);
@@ -24,7 +10,7 @@ pub fn make_available(setting: &mut Setting, r: usize, ts_id: u16, original_netw
 }
 
 /// Stream 1 has the highest of the fifteen bits.
-pub fn availability_bit(r: usize) -> u16 {
+fn availability_bit(r: usize) -> u16 {
     0x4000 >> (r - 1)
 }
 

@@ -1,9 +1,7 @@
 //! Cases for comparing another implementation with the reference: inputs
 //! with their expected outputs, the same in every run.
 
-pub mod bonds;
 pub mod drawn;
-pub mod frames;
 pub mod generator;
 pub mod lister;
 pub mod output;
