@@ -8,7 +8,7 @@ use borrow.Author.Tests.{le-ltb, eq-eqb, eqb-true, not-false}
 use lib.Dec.{eqb}
 use lib.ListN.{length, drop}
 use lib.Seq.{take-all}
-use Rattle.slices.specs.Slices.{copied, anyBelow}
+use Rattle.slices.specs.Slices.{copied, anyBelow, Among}
 use Rattle.slices.proofs.Any.{any-no}
 use Rattle.setting.specs.declared.Kind.{Kind}
 use Rattle.setting.specs.declared.Setting.{Setting}
@@ -17,7 +17,6 @@ use Rattle.refusal_table.specs.Refusal.{Check, NoneHolds, none, more, firstOf}
 use Rattle.rules.specs.Rules.{ruleChecks}
 use Rattle.refusal_table.proofs.Refusals.{first-none, none-at, none-append, none-before, none-behind}
 use Rattle.layout.specs.Header.{reading, packetChecks}
-use Rattle.header.specs.Demands.{Among}
 use Rattle.packet.specs.Packets.{packetLength, frameLength, slot, unfit}
 use Rattle.group.specs.declared.Bond.{Bond}
 use Rattle.group.specs.declared.headers.Shown.{Shown}

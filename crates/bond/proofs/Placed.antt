@@ -6,8 +6,7 @@ use native.Mathlib.Omega.{arith}
 use native.Mathlib.Decide.{decLt}
 use lib.ListN.{length, getD, take, drop, length-append, length-drop, take-append-drop}
 use lib.Seq.{take-append-le, drop-append-le, drop-append-add, take-append-seam, drop-append-seam, length-take-le, drop-drop}
-use Rattle.slices.specs.Slices.{over}
-use Rattle.header.specs.Demands.{Among, here, there}
+use Rattle.slices.specs.Slices.{over, Among, here, there}
 use Rattle.packet.specs.Packets.{packetLength, slot}
 use Rattle.places.specs.Order.{Rising, none, more}
 use Rattle.group.specs.Group.{placeIn, earlier}

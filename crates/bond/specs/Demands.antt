@@ -5,7 +5,7 @@ use mathlib.Core.Bool.{true, false}
 use mathlib.Core.List.{List, _++_}
 use lib.ListN.{length, getD, drop}
 use Rattle.refusal_table.specs.Refusal.{NoneHolds}
-use Rattle.header.specs.Demands.{Among}
+use Rattle.slices.specs.Slices.{Among}
 use Rattle.packet.specs.Packets.{packetLength, slot, unfit}
 use Rattle.group.specs.declared.Bond.{Bond}
 use Rattle.places.specs.Order.{Rising, framePackets}

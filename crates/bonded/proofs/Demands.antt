@@ -8,7 +8,7 @@ use lib.ListN.{length, getD, take, drop, take-append-drop}
 use lib.Seq.{drop-drop}
 use Rattle.setting.specs.declared.Kind.{Kind}
 use Rattle.rules.specs.Rules.{pidAllowed}
-use Rattle.header.specs.Demands.{Among, here, there}
+use Rattle.slices.specs.Slices.{Among, here, there}
 use Rattle.packet.specs.Packets.{packetLength, frameLength, slot, unfit}
 use Rattle.receiver.specs.Store.{storeLength}
 use Rattle.runs.specs.Runs.{Each, none, more}

@@ -235,7 +235,7 @@ pub(crate) fn plan_of(group: &[u8], b: Bond) -> Planned
     let mut j = 0;
     while j < count {
         let at = FRAME_BYTES * j;
-        let reading = header::read(&group[at..at + PACKET_BYTES], b.pid, Kind::Extended);
+        let reading = header_reader::read(&group[at..at + PACKET_BYTES], b.pid, Kind::Extended);
         if reading.refusal != 0 {
             return refused(reading.refusal);
         }

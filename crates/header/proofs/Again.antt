@@ -13,7 +13,8 @@ use Rattle.setting.specs.declared.Kind.{Kind}
 use Rattle.counters.specs.Counters.{lastStream}
 use Rattle.layout.specs.Layout.{layout, reservedRows}
 use Rattle.layout.specs.Header.{headerLength, one, paired, firsts, seconds, content, body, header, row, value, reading}
-use Rattle.header.specs.Demands.{Among, here, there, allOnes, SameButReserved, ReservedOnes, WrittenAgain}
+use Rattle.slices.specs.Slices.{Among, here, there}
+use Rattle.header.specs.Demands.{allOnes, SameButReserved, ReservedOnes, WrittenAgain}
 use Rattle.layout.proofs.Rows.{rowOf, Fills, Suits, Each, next, done, each-at, pack-rows}
 use Rattle.layout.proofs.LaidOut.{laid-out, bodyBits, size-layout, length-content}
 use Rattle.header_writer.proofs.Calls.{not-refused}

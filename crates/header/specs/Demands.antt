@@ -1,9 +1,10 @@
 -- What demand 2 says of headers, as statements over what the calls answer and leave. The proofs stand apart.
 use Prim.Native.Nat.{ℕ, _-_, _<_, _^_}
 use mathlib.Core.Path.{_≡_}
-use mathlib.Core.List.{List, _∷_}
+use mathlib.Core.List.{List}
 use lib.ListN.{length, getD, replicate}
 use Rattle.bits.specs.Fields.{Fit}
+use Rattle.slices.specs.Slices.{Among}
 use Rattle.setting.specs.declared.Kind.{Kind}
 use Rattle.setting.specs.declared.Setting.{Setting}
 use Rattle.setting.specs.Setting.{OfItsTypes}
@@ -21,11 +22,6 @@ WrittenAndReadBack =
     → OfItsTypes s → MeetsRules kind pid s → length buffer ≡ headerLength
     → (writeRefusal kind pid s (length buffer) ≡ 0)
     × (readOf kind pid (written kind pid s buffer) ≡ record { refusal = 0; setting = s })
-
--- whether k is among the numbers
-pub data Among (k : ℕ) : List ℕ → Type 0 where
-  here : {ks : List ℕ} → Among k (k ∷ ks)
-  there : {j : ℕ} {ks : List ℕ} → Among k ks → Among k (j ∷ ks)
 
 -- two headers say the same in every row that is not reserved
 abbrev pub SameButReserved : Kind → List ℕ → List ℕ → Type 0

@@ -9,7 +9,7 @@ use native.Mathlib.Decide.{ℕ-discrete}
 use borrow.Author.Tests.{ltb-true, lt-ltb}
 use lib.Dec.{ltb}
 use lib.ListN.{length}
-use Rattle.header.specs.Demands.{Among, here, there}
+use Rattle.slices.specs.Slices.{Among, here, there}
 use Rattle.places.specs.Order.{picked, insert, sorted, Rising, none, more}
 
 -- ---- members

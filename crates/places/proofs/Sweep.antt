@@ -10,7 +10,7 @@ use borrow.Author.Tests.{ltb-true, lt-ltb, eq-eqb, eqb-true}
 use lib.Dec.{ltb, eqb}
 use lib.ListN.{getD}
 use Rattle.slices.proofs.Any.{both}
-use Rattle.header.specs.Demands.{Among}
+use Rattle.slices.specs.Slices.{Among}
 use Rattle.places.specs.Order.{Place, comesBefore, Framed, picked, sorted, Rising, framePackets}
 use Rattle.places.specs.Walk.{lastCarrier, twelfths, placeAt, framesBefore, packetAt, isStop}
 use Rattle.places.proofs.Frames.{frames-within}

@@ -5,7 +5,7 @@ use mathlib.Core.Logic.{_⊎_}
 use mathlib.Core.Bool.{Bool, true, cond, _&&_, _||_}
 use mathlib.Core.List.{List, [], _∷_, _++_}
 use lib.Dec.{ltb, eqb}
-use Rattle.header.specs.Demands.{Among}
+use Rattle.slices.specs.Slices.{Among}
 use Rattle.counters.specs.Counters.{firstSlot, lastSlot, firstPosition}
 
 -- the packets of a frame: slot 0, which is the header, and slots 1 to 52

@@ -1,7 +1,7 @@
 -- Slices of bytes: copied, filled, tested.
 use Prim.Native.Nat.{ℕ, zero, suc, _+_}
 use mathlib.Core.Bool.{Bool, false, _||_}
-use mathlib.Core.List.{List, _++_}
+use mathlib.Core.List.{List, _∷_, _++_}
 use lib.Dec.{leb}
 use lib.ListN.{length, getD, take, drop}
 
@@ -21,3 +21,8 @@ anyBelow (suc n) test = anyBelow n test || test n
 -- whether some element is `limit` or more
 unfoldable pub someAtLeast : ℕ → List ℕ → Bool
 someAtLeast limit xs = anyBelow (length xs) (λ i. leb limit (getD xs i 0))
+
+-- whether k is among the numbers
+pub data Among (k : ℕ) : List ℕ → Type 0 where
+  here : {ks : List ℕ} → Among k (k ∷ ks)
+  there : {j : ℕ} {ks : List ℕ} → Among k ks → Among k (j ∷ ks)
