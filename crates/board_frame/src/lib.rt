@@ -44,7 +44,7 @@ pub extern "C" fn niranbok_composer_begin(state: &mut [u8], frame: &mut [u8], se
         return 1;
     }
     let run = states::composer_of(state);
-    let begun = run.begin(frame, coding::setting_of(setting));
+    let begun = run.begin(frame, decoding::setting_of(setting));
     if begun.refusal != 0 {
         return begun.refusal;
     }

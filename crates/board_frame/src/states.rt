@@ -78,8 +78,8 @@ pub(crate) fn composer_of(bytes: &[u8]) -> Composer
     if !is_coded(bytes) {
         counter = 255;
     }
-    let last = coding::announced_of(&bytes[LAST..OPEN]);
-    let setting = coding::setting_of(&bytes[SETTING..FILLED]);
+    let last = decoding::announced_of(&bytes[LAST..OPEN]);
+    let setting = decoding::setting_of(&bytes[SETTING..FILLED]);
     let mut filled = [false; SLOTS];
     read_marks(&mut filled, &bytes[FILLED..COMPOSER_BYTES]);
     Composer {
@@ -112,10 +112,10 @@ pub(crate) fn write_composer(bytes: &mut [u8], c: Composer)
 {
     write_front(&mut bytes[0..LAST], c);
     let last = c.last;
-    coding::write_announced(&mut bytes[LAST..OPEN], last);
+    encoding::write_announced(&mut bytes[LAST..OPEN], last);
     bytes[OPEN] = mark_byte(c.is_open);
     let setting = c.setting;
-    coding::write_setting(&mut bytes[SETTING..FILLED], setting);
+    encoding::write_setting(&mut bytes[SETTING..FILLED], setting);
     let filled = c.filled;
     write_marks(&mut bytes[FILLED..COMPOSER_BYTES], &filled);
 }

@@ -46,7 +46,7 @@ pub extern "C" fn niranbok_header_write(packet: &mut [u8], pid: u16, kind: u8, s
         packet,
         pid,
         words::kind_of(kind),
-        coding::setting_of(setting),
+        decoding::setting_of(setting),
     )
 }
 
@@ -64,6 +64,6 @@ pub extern "C" fn niranbok_header_read(packet: &[u8], pid: u16, kind: u8, settin
     if reading.refusal != 0 {
         return reading.refusal;
     }
-    coding::write_setting(setting, reading.setting);
+    encoding::write_setting(setting, reading.setting);
     0
 }

@@ -92,7 +92,7 @@ pub extern "C" fn niranbok_setting_blank(setting: &mut [u8]) -> u8
     if call != 0 {
         return call;
     }
-    coding::write_setting(setting, Setting::blank());
+    encoding::write_setting(setting, Setting::blank());
     0
 }
 
@@ -105,7 +105,7 @@ pub extern "C" fn niranbok_setting_widths(setting: &[u8], kind: u8) -> u8
     if call != 0 {
         return call;
     }
-    widths::width_refusal(words::kind_of(kind), coding::setting_of(setting))
+    widths::width_refusal(words::kind_of(kind), decoding::setting_of(setting))
 }
 
 // Whether a setting obeys the rules of a header.
@@ -117,5 +117,5 @@ pub extern "C" fn niranbok_setting_rules(setting: &[u8], kind: u8) -> u8
     if call != 0 {
         return call;
     }
-    setting_rules::rule_refusal(words::kind_of(kind), coding::setting_of(setting))
+    setting_rules::rule_refusal(words::kind_of(kind), decoding::setting_of(setting))
 }

@@ -5,11 +5,11 @@ use borrow.Author.Tests.{eq-eqb, ne-eqb}
 use lib.ListN.{length}
 use Rattle.counters.specs.Counters.{lastSlot}
 use Rattle.setting.specs.Setting.{privateBytes, auxiliaryBytes}
 use Rattle.coding.specs.Settings.{settingLength, settingOf}
 use Rattle.coding.proofs.Parts.{copied-part}
 use borrow.Author.Needs.{needs}
-use Rattle.coding.proofs.setting_of.Statement.{statement}
-use Rattle.coding.proofs.setting_of.Tie as tie
+use Rattle.decoding.proofs.setting_of.Statement.{statement}
+use Rattle.decoding.proofs.setting_of.Tie as tie
 
 blank-requires : tie.Need-blank-requires
 blank-requires c κs = search needs

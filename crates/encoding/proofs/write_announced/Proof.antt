@@ -7,11 +7,11 @@ use borrow.Author.Tests.{eq-eqb, ne-eqb}
 use borrow.Rule.Slice.PartMut.{same-len-mid, mid-len}
 use lib.ListN.{length, take, drop, length-set}
 use Rattle.slices.proofs.Front.{put, copied-over}
 use Rattle.coding.specs.Settings.{announcedLength}
 use Rattle.coding.proofs.Parts.{Streams, announced-parts}
 use borrow.Author.Needs.{needs}
-use Rattle.coding.proofs.write_announced.Statement.{statement}
-use Rattle.coding.proofs.write_announced.Tie as tie
+use Rattle.encoding.proofs.write_announced.Statement.{statement}
+use Rattle.encoding.proofs.write_announced.Tie as tie
 
 -- what arrays have, which their types say
 streams : (c : tie.Start) → Streams (c .args .a)

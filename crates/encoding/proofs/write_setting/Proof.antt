@@ -8,11 +8,11 @@ use borrow.Rule.Slice.PartMut.{same-len-mid, mid-len}
 use lib.ListN.{length, take, drop}
 use Rattle.slices.proofs.Front.{put, copied-over}
 use Rattle.announced.specs.Announcing.{announced}
 use Rattle.coding.specs.Settings.{announcedLength, announcedBytes, settingLength}
 use Rattle.coding.proofs.Parts.{Long, setting-parts}
 use borrow.Author.Needs.{needs}
-use Rattle.coding.proofs.write_setting.Statement.{statement}
-use Rattle.coding.proofs.write_setting.Tie as tie
+use Rattle.encoding.proofs.write_setting.Statement.{statement}
+use Rattle.encoding.proofs.write_setting.Tie as tie
 
 -- what arrays have, which their types say
 long : (c : tie.Start) → Long (c .args .s)

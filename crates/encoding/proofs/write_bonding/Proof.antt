@@ -4,8 +4,8 @@ use native.Mathlib.Omega.{arith}
 use lib.ListN.{length-set}
 use borrow.Author.Needs.{needs}
 use Rattle.slices.proofs.Front.{stored}
-use Rattle.coding.proofs.write_bonding.Statement.{statement}
-use Rattle.coding.proofs.write_bonding.Tie as tie
+use Rattle.encoding.proofs.write_bonding.Statement.{statement}
+use Rattle.encoding.proofs.write_bonding.Tie as tie
 
 slice-write-part : tie.Need-slice-write-part
 slice-write-part c = search needs

@@ -6,11 +6,11 @@ use lib.ListN.{length, replicate}
 use Rattle.slices.proofs.Front.{copied-over}
 use Rattle.setting.specs.Setting.{blank}
 use Rattle.announced.specs.Announcing.{announced}
 use Rattle.coding.specs.Settings.{announcedLength, announcedOf, part}
 use Rattle.coding.proofs.Parts.{length-part}
 use borrow.Author.Needs.{needs}
-use Rattle.coding.proofs.announced_of.Statement.{statement}
-use Rattle.coding.proofs.announced_of.Tie as tie
+use Rattle.decoding.proofs.announced_of.Statement.{statement}
+use Rattle.decoding.proofs.announced_of.Tie as tie
 
 returns : tie.Need-returns
 unfolding announcedOf announced blank

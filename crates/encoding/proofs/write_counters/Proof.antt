@@ -2,8 +2,8 @@
 use mathlib.Core.List.{[], _∷_}
 use Rattle.slices.proofs.Front.{stored}
 use borrow.Author.Needs.{needs}
-use Rattle.coding.proofs.write_counters.Statement.{statement}
-use Rattle.coding.proofs.write_counters.Tie as tie
+use Rattle.encoding.proofs.write_counters.Statement.{statement}
+use Rattle.encoding.proofs.write_counters.Tie as tie
 
 slice-write-part : tie.Need-slice-write-part
 slice-write-part c = search needs

@@ -7,8 +7,8 @@ use lib.ListN.{length, take, length-set}
 use lib.Seq.{take-all}
 use Rattle.words.specs.Words.{wordBytes}
 use Rattle.words.proofs.Numbers.{word-written}
-use Rattle.coding.proofs.write_words.Statement.{statement}
-use Rattle.coding.proofs.write_words.Tie as tie
+use Rattle.encoding.proofs.write_words.Statement.{statement}
+use Rattle.encoding.proofs.write_words.Tie as tie
 
 abbrev Inv-loop : tie.InvT-loop
 Inv-loop part₀ words k₀ part k =

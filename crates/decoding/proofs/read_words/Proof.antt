@@ -7,8 +7,8 @@ use lib.ListN.{length, take, length-set}
 use lib.Seq.{take-all}
 use Rattle.words.specs.Words.{wordsOf}
 use Rattle.words.proofs.Numbers.{word-read}
-use Rattle.coding.proofs.read_words.Statement.{statement}
-use Rattle.coding.proofs.read_words.Tie as tie
+use Rattle.decoding.proofs.read_words.Statement.{statement}
+use Rattle.decoding.proofs.read_words.Tie as tie
 
 abbrev Inv-loop : tie.InvT-loop
 Inv-loop words₀ part k₀ words k =
