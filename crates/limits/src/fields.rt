@@ -49,6 +49,10 @@ pub(crate) fn print_header_fields() {
         limits::LAST_FRAME_TYPE as u64,
         8,
     );
+}
+
+// What a header says of its streams and slots.
+pub(crate) fn print_stream_fields() {
     print_values(b"availability", limits::AVAILABILITIES as u64);
     print(b"ts_id", 0, 0xFFFF, 0);
     print(b"original_network_id", 0, 0xFFFF, 0);

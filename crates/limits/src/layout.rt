@@ -38,6 +38,10 @@ pub(crate) fn print_places() {
     print_place(b"slot_allocation_type", coding::ANNOUNCED as u64, 1);
     print_place(b"frame_type", coding::ANNOUNCED as u64 + 1, 1);
     print_place(b"availability", coding::ANNOUNCED as u64 + 2, 2);
+}
+
+// What a setting has for each stream and for each slot.
+pub(crate) fn print_stream_places() {
     print_place(
         b"ts_id",
         (coding::ANNOUNCED + coding::TS_ID) as u64,

@@ -9,11 +9,15 @@ mod refusals;
 
 fn main() {
     fields::print_header_fields();
+    fields::print_stream_fields();
     fields::print_bonding_fields();
     fields::print_numbers();
+    refusals::print_lent_refusals();
     refusals::print_header_refusals();
+    refusals::print_setting_refusals();
     refusals::print_call_refusals();
     layout::print_lengths();
     layout::print_places();
+    layout::print_stream_places();
     layout::print_extended_places();
 }

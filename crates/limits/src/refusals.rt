@@ -9,17 +9,25 @@ fn print(number: u64, name: &[u8]) {
     io::write_all(STDOUT_FILENO, b"\n");
 }
 
-// What a call asks of what it is lent, and of a header.
-pub(crate) fn print_header_refusals() {
+// What a call asks of what it is lent.
+pub(crate) fn print_lent_refusals() {
     print(1, b"length");
     print(2, b"header_pid");
     print(17, b"out_of_range");
     print(16, b"no_frame");
+}
+
+// What is asked of a header.
+pub(crate) fn print_header_refusals() {
     print(3, b"sync_byte");
     print(4, b"other_pid");
     print(5, b"fixed_bits");
     print(6, b"sync_bits");
     print(7, b"crc");
+}
+
+// What is asked of its setting.
+pub(crate) fn print_setting_refusals() {
     print(8, b"frame_type");
     print(9, b"unavailable_number");
     print(10, b"equal_identifiers");
