@@ -5,7 +5,7 @@ use draws::below;
 use draws::byte_below;
 use draws::settings;
 use draws::streams;
-use frame::composer::Composer;
+use frame::Composer;
 use packet::PACKET_BYTES;
 use setting::Setting;
 
@@ -35,7 +35,7 @@ pub(crate) fn next_setting(f: u64, state: &mut u32, last: Setting) -> Setting {
 
 // Puts a stream for r, and prints what came of it.
 fn put_stream(f: u64, run: Composer, frame: &mut [u8], stream: &[u8], r: u8) -> Composer {
-    let placed = run.put(frame, stream, RelativeNumber(r));
+    let placed = frame::put(run, frame, stream, RelativeNumber(r));
     let left = packet::rest(stream, placed.placed).len() / PACKET_BYTES;
     lines::print_put(f, r, placed.refusal, placed.placed, left);
     placed.state
@@ -78,10 +78,10 @@ pub(crate) fn compose(
     frame: &mut [u8],
     setting: Setting,
 ) -> Composer {
-    let begun = run.begin(frame, setting);
+    let begun = frame::begin(run, frame, setting);
     lines::print_begin(f, begun.refusal);
     let filled = put_streams(f, state, begun.state, frame);
-    let closed = filled.close(frame);
+    let closed = frame::close(filled, frame);
     lines::print_close(f, closed.refusal, crc::register(frame));
     closed.state
 }

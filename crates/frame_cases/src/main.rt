@@ -1,7 +1,7 @@
 // Composes a run of 56 frames, loses and spoils some of it, receives the rest, and prints what came of it.
 // compare/FRAME-CASES.md says how; the steps of composing are numbered as there.
 use crate::receiving::Link;
-use frame::composer::Composer;
+use frame::Composer;
 use packet::FRAME_BYTES;
 use receiver::Receiver;
 use receiver::STORE_BYTES;
@@ -21,7 +21,7 @@ const PID: u16 = 0x1FF0;
 
 fn main() {
     let mut state = SEED;
-    let mut run = Composer::start(PID, Kind::Plain).state;
+    let mut run = frame::start(PID, Kind::Plain).state;
     let receiver = Receiver::start(PID, Kind::Plain).state;
     let mut link = Link {
         received: 0,
