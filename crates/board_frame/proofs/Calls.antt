@@ -4,9 +4,9 @@ use mathlib.Core.Path.{_≡_, refl, sym, ap, _∙_}
 use mathlib.Core.List.{List}
 use borrow.Author.Tests.{eq-eqb, ne-eqb}
 use lib.ListN.{length}
-use Rattle.frame.specs.declared.composer.Answer.{Answer}
-use Rattle.frame.specs.declared.composer.Placed.{Placed}
-use Rattle.frame.specs.Composing.{beginOf, begunFrame, putOf, putFrame, closeOf, closedFrame}
+use Rattle.composer_state.specs.declared.Answer.{Answer}
+use Rattle.composer_state.specs.declared.Placed.{Placed}
+use Rattle.composer_state.specs.Composing.{beginOf, begunFrame, putOf, putFrame, closeOf, closedFrame}
 use Rattle.refusal_table.specs.Refusal.{leaves}
 use Rattle.coding.specs.Settings.{settingLength, settingOf}
 use Rattle.board_frame.specs.States.{composerLength, composerBytes, composerOf}

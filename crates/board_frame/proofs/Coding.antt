@@ -14,8 +14,8 @@ use Rattle.refusal_table.specs.Refusal.{Check, firstOf}
 use Rattle.setting.specs.declared.Kind.{Kind}
 use Rattle.refusal_table.proofs.Refusals.{answers, passed}
 use Rattle.packet.specs.Packets.{packetLength, frameLength}
-use Rattle.frame.specs.Composing.{stateChecks, answer, beginOf, putOf, closeOf, beginRefusal, putRefusal, closeRefusal}
-use Rattle.frame.specs.declared.composer.Composer.{Composer}
+use Rattle.composer_state.specs.Composing.{stateChecks, answer, beginOf, putOf, closeOf, beginRefusal, putRefusal, closeRefusal}
+use Rattle.composer_state.specs.declared.Composer.{Composer}
 use Rattle.words.specs.Words.{wordBytes, wordAt}
 use Rattle.words.specs.Kinds.{isKind, kindNumber}
 use Rattle.coding.specs.Settings.{part, announcedBytes, settingLength, settingBytes, settingOf}

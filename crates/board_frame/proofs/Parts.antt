@@ -11,7 +11,7 @@ use Rattle.words.specs.Kinds.{kindNumber}
 use Rattle.coding.specs.Settings.{announcedBytes, settingBytes}
 use Rattle.coding.proofs.Parts.{Streams, Long, length-announced}
 use Rattle.coding.proofs.Back.{length-setting}
-use Rattle.frame.specs.declared.composer.Composer.{Composer}
+use Rattle.composer_state.specs.declared.Composer.{Composer}
 use Rattle.board_frame.specs.States.{composerLength, markByte, composerBytes}
 
 -- PID, kind, counter and version: the first five bytes

@@ -6,7 +6,7 @@ use lib.Dec.{eqb}
 use lib.ListN.{length}
 use Rattle.refusal_table.specs.Refusal.{firstOf, leaves}
 use Rattle.rules.specs.Rules.{pidAllowed}
-use Rattle.frame.specs.Composing.{startOf, beginOf, begunFrame, putOf, putFrame, closeOf, closedFrame}
+use Rattle.composer_state.specs.Composing.{startOf, beginOf, begunFrame, putOf, putFrame, closeOf, closedFrame}
 use Rattle.words.specs.Kinds.{isKind, kindOf}
 use Rattle.coding.specs.Settings.{settingLength, settingOf}
 use Rattle.board_frame.specs.States.{composerLength, composerBytes, composerOf}

@@ -6,7 +6,7 @@ use mathlib.Core.List.{List}
 use lib.ListN.{length}
 use Rattle.rules.specs.Rules.{pidAllowed}
 use Rattle.packet.specs.Packets.{packetLength, frameLength}
-use Rattle.frame.specs.declared.composer.Composer.{Composer}
+use Rattle.composer_state.specs.declared.Composer.{Composer}
 use Rattle.words.specs.Words.{wordAt}
 use Rattle.coding.specs.Settings.{settingLength}
 use Rattle.board_frame.specs.States.{composerLength, composerBytes, composerOf, isCoded, OfItsTypes}

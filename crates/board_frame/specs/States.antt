@@ -11,7 +11,7 @@ use Rattle.setting.specs.Setting.{Array, OfItsTypes as SettingOfItsTypes}
 use Rattle.words.specs.Words.{wordBytes, wordAt}
 use Rattle.words.specs.Kinds.{isKind, kindOf, kindNumber}
 use Rattle.coding.specs.Settings.{part, announcedBytes, announcedOf, settingBytes, settingOf}
-use Rattle.frame.specs.declared.composer.Composer.{Composer}
+use Rattle.composer_state.specs.declared.Composer.{Composer}
 
 abbrev pub composerLength : ℕ
 composerLength = 390

@@ -2,7 +2,7 @@
 // its setting, its filled slots.
 use coding::ANNOUNCED_BYTES;
 use coding::SETTING_BYTES;
-use frame::composer::Composer;
+use frame::Composer;
 use setting::SLOTS;
 ghost use mathlib.Core.Path.{_≡_};
 ghost use mathlib.Core.List.{[], _∷_, _++_, map};

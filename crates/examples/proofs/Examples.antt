@@ -14,7 +14,7 @@ use Rattle.layout.specs.Layout.{startRows, identifierRows, controlRows, numberR
 use Rattle.layout.specs.Header.{paired, startContent, identifierContent, controlContent, numberContent, privateContent, content, body, header}
 use Rattle.setting.specs.Setting.{blank}
 use Rattle.announced.specs.Announcing.{someDiffer, announced, differ}
-use Rattle.frame.specs.Composing.{nextCounter, nextVersion}
+use Rattle.composer_state.specs.Composing.{nextCounter, nextVersion}
 use Rattle.receiver_table.specs.Table.{openRow, rowOf}
 use Rattle.examples.specs.Examples.{Example, beyond, placeOfPair, examples, ExamplesHold}
 use Rattle.examples.proofs.Pair.{first-places}

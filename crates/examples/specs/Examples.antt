@@ -10,9 +10,9 @@ use Rattle.setting.specs.declared.Setting.{Setting}
 use Rattle.counters.specs.Counters.{lastSlot, lastStream}
 use Rattle.setting.specs.Setting.{blank}
 use Rattle.layout.specs.Header.{header}
-use Rattle.frame.specs.declared.composer.Composer.{Composer}
+use Rattle.composer_state.specs.declared.Composer.{Composer}
 use Rattle.announced.specs.Announcing.{announced}
-use Rattle.frame.specs.Composing.{nextCounter, nextVersion}
+use Rattle.composer_state.specs.Composing.{nextCounter, nextVersion}
 use Rattle.receiver_table.specs.declared.Stage.{Stage}
 use Rattle.receiver_table.specs.declared.Row.{Row}
 use Rattle.places.specs.Order.{framePackets, Place, comesBefore, picked, sorted}

@@ -1,8 +1,1 @@
-pub mod Answers
-mod Closing
-pub mod Passed
-mod Placing
-pub mod Refusals
-mod Rest
 pub mod Said
-mod Walk

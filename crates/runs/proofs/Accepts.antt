@@ -20,13 +20,13 @@ use Rattle.rules.proofs.Checked.{width-none, rule-none}
 use Rattle.rules.proofs.Fields.{fit-some}
 use Rattle.layout.specs.Rows.{place, rowAt}
 use Rattle.layout.specs.Layout.{startRows}
-use Rattle.frame.specs.declared.composer.Composer.{Composer}
+use Rattle.composer_state.specs.declared.Composer.{Composer}
 use Rattle.packet.specs.Packets.{packetLength, frameLength, unfit}
-use Rattle.frame.specs.Slots.{marksAfter, someUnfit, someUnplanned}
+use Rattle.composer_state.specs.Slots.{marksAfter, someUnfit, someUnplanned}
 use Rattle.announced.specs.Announcing.{announced, differ, announcedChecks}
-use Rattle.frame.specs.Composing.{fresh, opened, marked, nextCounter, nextVersion, closedWith, closed, asked, inTurn, stateChecks, openRuleChecks, markChecks, openChecks, streamChecks, beginRefusal, putRefusal, closeRefusal}
-use Rattle.frame.proofs.Refusals.{ask-all, ask-none}
-use Rattle.frame.proofs.Said.{version-narrow}
+use Rattle.composer_state.specs.Composing.{fresh, opened, marked, nextCounter, nextVersion, closedWith, closed, asked, inTurn, stateChecks, openRuleChecks, markChecks, openChecks, streamChecks, beginRefusal, putRefusal, closeRefusal}
+use Rattle.composer_state.proofs.Refusals.{ask-all, ask-none}
+use Rattle.composer_close.proofs.Said.{version-narrow}
 use Rattle.runs.specs.Runs.{Call, begin, put, close, Each, none, more, OfTypes, Run, started, refusalOf, after}
 use Rattle.runs.specs.Work.{Work, added, workAfter, doneBy, worksOf, noWork, numbersFilled}
 use Rattle.runs.proofs.Carried.{length-slots}

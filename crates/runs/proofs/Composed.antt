@@ -25,14 +25,15 @@ use Rattle.layout.proofs.Whole.{length-header}
 use Rattle.announced.specs.declared.Announced.{Announced}
 use Rattle.packet.specs.Packets.{packetLength, frameLength, nullPacket, slot, unfit}
 use Rattle.announced.specs.Announcing.{announced, differ}
-use Rattle.frame.specs.Composing.{saying, fresh, answer, startOf}
+use Rattle.composer_state.specs.Composing.{saying, fresh, answer, startOf}
 use Rattle.receiver.specs.Store.{numbered, slotsFor}
 use Rattle.runs.specs.Runs.{Call, Each, none, more, OfTypes, started, framesOf}
 use Rattle.runs.specs.Work.{Work, noWork, worksOf, slotsFilled, numbersFilled, said, versionBehind, headedBehind, headed, frameOf}
 use Rattle.runs.specs.Composed.{headedBy, FramesHold, HeadersRead, FrontsPlaced, PacketsFit}
 use Rattle.runs.proofs.Filled.{marksFilled, length-null}
 use Rattle.runs.proofs.Carried.{numbers-filled, length-slots, length-marks, front-lent, slot-first, slot-next, each-fit}
-use Rattle.frame.proofs.Said.{version-narrow, said-meets, said-types}
+use Rattle.composer_close.proofs.Said.{version-narrow, said-meets}
+use Rattle.frame.proofs.Said.{said-types}
 use Rattle.runs.proofs.Held.{Sound, Done, holds, all-done}
 
 -- ---- the start

@@ -21,7 +21,7 @@ use Rattle.layout.proofs.Whole.{length-header}
 use Rattle.announced.specs.declared.Announced.{Announced}
 use Rattle.packet.specs.Packets.{packetLength, unfit}
 use Rattle.announced.specs.Announcing.{announced}
-use Rattle.frame.specs.Composing.{saying}
+use Rattle.composer_state.specs.Composing.{saying}
 use Rattle.receiver_table.specs.declared.Stage.{Stage}
 use Rattle.receiver.specs.Store.{storeLength, numbered, slotsFor}
 use Rattle.receiver.specs.Receiving.{waiting, startReceiverOf}

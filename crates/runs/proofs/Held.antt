@@ -16,12 +16,14 @@ use Rattle.refusal_table.specs.Refusal.{NoneHolds, leaves}
 use Rattle.rules.specs.Rules.{widthChecks, ruleChecks}
 use Rattle.layout.specs.Header.{header}
 use Rattle.announced.specs.declared.Announced.{Announced}
-use Rattle.frame.specs.declared.composer.Composer.{Composer}
+use Rattle.composer_state.specs.declared.Composer.{Composer}
 use Rattle.packet.specs.Packets.{packetLength, frameLength}
-use Rattle.frame.specs.Slots.{nulls, cleared, slotsAfter, marksAfter, someUnfit, frameAfter}
+use Rattle.composer_state.specs.Slots.{nulls, cleared, slotsAfter, marksAfter, someUnfit, frameAfter}
 use Rattle.announced.specs.Announcing.{announced}
-use Rattle.frame.specs.Composing.{opened, marked, nextCounter, nextVersion, closing, closedWith, closed, answer, beginOf, begunFrame, putOf, putFrame, closeOf, closedFrame}
-use Rattle.frame.proofs.Passed.{begin-passed, PutPassed, put-passed, ClosePassed, close-passed}
+use Rattle.composer_state.specs.Composing.{opened, marked, nextCounter, nextVersion, closing, closedWith, closed, answer, beginOf, begunFrame, putOf, putFrame, closeOf, closedFrame}
+use Rattle.composer_begin.proofs.Passed.{begin-passed}
+use Rattle.composer_put.proofs.Passed.{PutPassed, put-passed}
+use Rattle.composer_close.proofs.Passed.{ClosePassed, close-passed}
 use Rattle.runs.specs.Runs.{Call, begin, put, close, Each, none, more, OfTypes, Run, refusalOf, after, closedBy, framesOf}
 use Rattle.runs.specs.Work.{Work, added, workAfter, doneBy, worksOf, slotsFilled, said, versionBehind, headedBehind, frameOf}
 use Rattle.runs.proofs.Filled.{marksFilled, unfitFilled, EachWhole, whole-added, put-adds}

@@ -16,7 +16,7 @@ use Rattle.header_reader.specs.declared.Reading.{Reading}
 use Rattle.announced.specs.declared.Announced.{Announced}
 use Rattle.packet.specs.Packets.{packetLength, slot, unfit}
 use Rattle.announced.specs.Announcing.{announced}
-use Rattle.frame.specs.Composing.{saying}
+use Rattle.composer_state.specs.Composing.{saying}
 use Rattle.receiver.specs.declared.Receiver.{Receiver}
 use Rattle.receiver.specs.Store.{storeLength, numbered, slotsFor}
 use Rattle.receiver.specs.Receiving.{waiting}

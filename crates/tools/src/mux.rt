@@ -8,7 +8,7 @@ use crate::says;
 use crate::settings;
 use counters::RelativeNumber;
 use counters::Slot;
-use frame::composer::Composer;
+use frame::Composer;
 use libc::STDOUT_FILENO;
 use packet::FRAME_BYTES;
 use packet::PACKET_BYTES;
@@ -197,7 +197,7 @@ fn read_packets(fd: i32, bytes: &mut [u8], slots: u32, r: u8) -> usize
 }
 
 fn put_packets(run: Composer, frame: &mut [u8], packets: &[u8], r: u8) -> Filled {
-    let put = run.put(frame, packets, RelativeNumber(r));
+    let put = frame::put(run, frame, packets, RelativeNumber(r));
     let state = put.state;
     if put.refusal != 0 {
         says::about(b"stream ", r as u64);
@@ -269,7 +269,7 @@ fn close_frame(filled: Filled, frame: &mut [u8]) -> Made
     requires { ⌜ length (now frame) ≡ 9964 ⌝ }
 {
     let run = filled.state;
-    let closed = run.close(frame);
+    let closed = frame::close(run, frame);
     let state = closed.state;
     if closed.refusal != 0 {
         says::refusal(b"close", closed.refusal);
@@ -302,7 +302,7 @@ fn make_frame(
     requires { ⌜ (length (now fds) ≡ 15) × (length (now slots) ≡ 16) ⌝ }
     requires { ⌜ (streams ≤ 15) × (length (now frame) ≡ 9964) ⌝ }
 {
-    let begun = run.begin(frame, setting);
+    let begun = frame::begin(run, frame, setting);
     let state = begun.state;
     if begun.refusal != 0 {
         says::refusal(b"streams", begun.refusal);
@@ -333,7 +333,7 @@ fn make_frames(
     requires { ⌜ (length (now fds) ≡ 15) × (length (now slots) ≡ 16) ⌝ }
     requires { ⌜ (streams ≤ 15) × (length (now frame) ≡ 9964) ⌝ }
 {
-    let mut run = Composer::start(pid, Kind::Plain).state;
+    let mut run = frame::start(pid, Kind::Plain).state;
     let mut frames: u64 = 0;
     while frames < u64::MAX {
         let made = make_frame(run, frame, setting, fds, slots, streams);

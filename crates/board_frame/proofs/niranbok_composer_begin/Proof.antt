@@ -3,8 +3,8 @@ use mathlib.Core.Path.{_≡_, refl, ap₂, _∙_}
 use borrow.Author.Tests.{eq-eqb, ne-eqb}
 use lib.ListN.{length}
 use Rattle.setting.specs.declared.Setting.{Setting}
-use Rattle.frame.specs.declared.composer.Composer.{Composer}
-use Rattle.frame.specs.Composing.{beginOf, begunFrame}
+use Rattle.composer_state.specs.declared.Composer.{Composer}
+use Rattle.composer_state.specs.Composing.{beginOf, begunFrame}
 use Rattle.refusal_table.specs.Refusal.{leaves}
 use Rattle.coding.specs.Settings.{settingLength, settingOf}
 use Rattle.board_frame.specs.States.{composerLength, composerOf}

@@ -4,8 +4,8 @@ use native.Mathlib.Omega.{arith}
 use borrow.Author.Tests.{eq-eqb, ne-eqb, lt-ltb, le-ltb, not-true, not-false}
 use lib.ListN.{length}
 use Rattle.refusal_table.specs.Refusal.{firstOf, leaves}
-use Rattle.frame.specs.declared.composer.Answer.{Answer}
-use Rattle.frame.specs.Composing.{startOf}
+use Rattle.composer_state.specs.declared.Answer.{Answer}
+use Rattle.composer_state.specs.Composing.{startOf}
 use Rattle.board_frame.specs.States.{composerLength, composerBytes}
 use Rattle.board_frame.specs.Calls.{startRefused, startState}
 use borrow.Author.Needs.{needs}

@@ -1,0 +1,3 @@
+mod Nulls
+pub mod Passed
+mod Turns

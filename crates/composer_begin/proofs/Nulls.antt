@@ -1,0 +1,20 @@
+-- What each slot in turn does to null packets in all of them. Assumes nothing.
+use Prim.Native.Nat.{ℕ, suc, _+_, _-_, _≤_}
+use mathlib.Core.Path.{_≡_, ap}
+use mathlib.Core.List.{List, _++_}
+use native.Mathlib.Omega.{arith}
+use lib.ListN.{length, drop, drop-of-length-le}
+use Rattle.counters.specs.Counters.{lastSlot}
+use Rattle.packet.specs.Packets.{nullPacket}
+use Rattle.composer_state.specs.Slots.{nulls}
+
+-- null packets from slot i on, and behind the last
+pub nulls-from : (i : ℕ) → i ≤ lastSlot → nulls (lastSlot + 1 - i) ≡ nullPacket ++ nulls (lastSlot + 1 - (i + 1))
+unfolding nulls
+nulls-from i h =
+    let more : lastSlot + 1 - i ≡ suc (lastSlot + 1 - (i + 1)) = omega arith in
+    ap nulls more
+
+pub nulls-none : (l : List ℕ) (i n : ℕ) → length l ≤ i → n ≡ 0 → drop i l ≡ nulls n
+unfolding nulls
+nulls-none l i n h e = rw e (drop-of-length-le l h)

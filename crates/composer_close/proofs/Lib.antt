@@ -1,0 +1,4 @@
+mod Closing
+mod Numbers
+pub mod Passed
+pub mod Said

@@ -1,0 +1,4 @@
+pub mod Passed
+mod Placing
+mod Rest
+mod Walk

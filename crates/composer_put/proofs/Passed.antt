@@ -1,0 +1,57 @@
+-- What a put that was not refused had: the facts behind its checks. Assumes nothing.
+use Prim.Native.Nat.{ℕ, _%_}
+use mathlib.Core.Path.{_≡_, refl}
+use mathlib.Core.Bool.{true, false, not}
+use mathlib.Core.List.{List, _∷_, _++_}
+use native.Mathlib.Omega.{arith}
+use borrow.Author.Tests.{leb-true, eqb-true, not-false}
+use lib.Dec.{leb, eqb}
+use lib.ListN.{length}
+use Rattle.slices.proofs.Any.{both}
+use Rattle.counters.specs.Counters.{firstStream, lastStream, within}
+use Rattle.refusal_table.specs.Refusal.{Check, NoneHolds}
+use Rattle.refusal_table.proofs.Refusals.{none-first, none-at, none-before, none-behind, numbered-append}
+use Rattle.composer_state.specs.declared.Composer.{Composer}
+use Rattle.packet.specs.Packets.{packetLength, frameLength}
+use Rattle.composer_state.specs.Slots.{someUnfit}
+use Rattle.composer_state.specs.Composing.{stateChecks, lengthCheck, openChecks, streamChecks, putRefusal}
+use Rattle.composer_state.proofs.Answers.{frame-lent}
+use Rattle.composer_state.proofs.Refusals.{state-numbered, open-numbered}
+use Rattle.composer_state.proofs.Passed.{none-drop, Passes, passes}
+
+within-not-0 : (r : ℕ) → within firstStream lastStream r ≡ true → r ≡ 0 → ⊥
+within-not-0 r e z =
+    let l = leb-true firstStream r (both (leb firstStream r) (leb r lastStream) e .0) in
+    omega arith
+
+-- a put: the frame's length, whole packets, a stream's number, an open state, and fit packets
+pub record PutPassed (c : Composer) (r : ℕ) (stream : List ℕ) (lent : ℕ) : Type 0 where
+  pub long : lent ≡ frameLength
+  pub whole : length stream % packetLength ≡ 0
+  pub number : r ≡ 0 → ⊥
+  pub open-state : Passes c
+  pub fit : someUnfit (c .pid) r (c .setting .«relative_ts_number») (c .filled) stream ≡ false
+
+pub put-passed : (c : Composer) (r : ℕ) (stream : List ℕ) (lent : ℕ) → putRefusal c r stream lent ≡ 0 → PutPassed c r stream lent
+unfolding putRefusal streamChecks
+put-passed c r stream lent e =
+    record {
+      long = frame-lent lent _ e;
+      whole = eqb-true (length stream % packetLength) 0 (not-false _ (none-at h 1));
+      number = λ z. within-not-0 r (not-false _ (none-at behind 0)) z;
+      open-state = passes c (none-before (stateChecks c) (number ∷ rest) (none-drop h 2)) (none-before (openChecks c) (streamChecks c r stream) (none-drop behind 1));
+      fit = none-at (none-behind (openChecks c) (none-drop behind 1)) 1;
+    }
+  where
+    number : Check
+    number = (17, not (within firstStream lastStream r))
+
+    rest : List Check
+    rest = openChecks c ++ streamChecks c r stream
+
+    h : NoneHolds (lengthCheck lent ∷ (1, not (eqb (length stream % packetLength) 0)) ∷ (stateChecks c ++ (number ∷ rest)))
+    h = none-first (lengthCheck lent ∷ (1, not (eqb (length stream % packetLength) 0)) ∷ (stateChecks c ++ (number ∷ rest)))
+        (numbered-append (stateChecks c) (number ∷ rest) (state-numbered c) (numbered-append (openChecks c) (streamChecks c r stream) (open-numbered c) refl)) e
+
+    behind : NoneHolds (number ∷ rest)
+    behind = none-behind (stateChecks c) (none-drop h 2)

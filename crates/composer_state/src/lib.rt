@@ -1,0 +1,132 @@
+// A run of frames: the state that its calls hand on, what they answer, and what each asks of a state, in the table's order.
+use announced::Announced;
+use setting::Kind;
+use setting::SLOTS;
+use setting::Setting;
+use setting::limits;
+ghost use mathlib.Core.Path.{_≡_};
+ghost use lib.ListN.{length};
+ghost use Rattle.counters.specs.Counters.{lastSlot};
+ghost use Rattle.refusal_table.specs.Refusal.{firstOf};
+ghost use Rattle.rules.specs.Rules.{widthChecks};
+ghost use Rattle.composer_state.specs.Slots.{someUnplanned};
+ghost use Rattle.composer_state.specs.Composing.{asked, stateChecks, openRuleChecks, markChecks, openChecks};
+
+// A run's state. A saved one may hold anything: each call checks it.
+pub struct Composer {
+    pub pid: u16,
+    pub kind: Kind,
+    // Of the last closed header; before the first such that the first gets 0 and 0.
+    pub counter: u8,
+    pub version: u8,
+    pub last: Announced,
+    // Whether a frame is open, and if so its setting with the plan, and which slots are filled.
+    pub is_open: bool,
+    pub setting: Setting,
+    pub filled: [bool; SLOTS],
+}
+
+// What a call answers: refusal 0 and the new state, or the refusal's number and the state as it was.
+pub struct Answer {
+    pub refusal: u8,
+    pub state: Composer,
+}
+
+// What `put` answers: also how many packets were placed, 0 on a refusal.
+pub struct Placed {
+    pub refusal: u8,
+    pub placed: usize,
+    pub state: Composer,
+}
+
+// 17: the setting's fields while a frame is open.
+fn open_width_refusal(c: Composer) -> u8
+    ensures { λ r. ⌜ r ≡ firstOf (asked (c .«is_open») (widthChecks (c .kind) (c .setting))) ⌝ }
+{
+    if !c.is_open {
+        return 0;
+    }
+    let kind = c.kind;
+    let setting = c.setting;
+    widths::width_refusal(kind, setting)
+}
+
+// 2 and 17: the state's PID and numbers, and its setting's fields while a frame is open.
+pub fn state_refusal(c: Composer) -> u8
+    ensures { λ r. ⌜ r ≡ firstOf (stateChecks c) ⌝ }
+{
+    if !rules::pid_allowed(c.pid) {
+        return 2;
+    }
+    if limits::COUNTERS <= c.counter {
+        return 17;
+    }
+    if limits::VERSIONS <= c.version {
+        return 17;
+    }
+    let last = c.last;
+    let shown = announced::announced_refusal(last);
+    if shown != 0 {
+        return shown;
+    }
+    open_width_refusal(c)
+}
+
+// 8 to 11: the setting's rules while a frame is open.
+pub fn open_rule_refusal(c: Composer) -> u8
+    ensures { λ r. ⌜ r ≡ firstOf (openRuleChecks c) ⌝ }
+{
+    if !c.is_open {
+        return 0;
+    }
+    let kind = c.kind;
+    let setting = c.setting;
+    setting_rules::rule_refusal(kind, setting)
+}
+
+// 17: whether a slot that is planned for no stream is marked filled.
+fn has_unplanned(plan: &[u8], filled: &[bool]) -> bool
+    requires { ⌜ (length (now plan) ≡ lastSlot) × (length (now filled) ≡ lastSlot) ⌝ }
+    ensures { λ t. ⌜ t ≡ someUnplanned (now (plan .entry)) (now (filled .entry)) ⌝ }
+{
+    let mut i = 0;
+    while i < SLOTS {
+        if filled[i] {
+            if plan[i] == 0 {
+                return true;
+            }
+        }
+        i += 1;
+    }
+    false
+}
+
+// 17: a filled mark on a slot planned 0.
+pub fn mark_refusal(c: Composer) -> u8
+    ensures { λ r. ⌜ r ≡ firstOf (markChecks c) ⌝ }
+{
+    if !c.is_open {
+        return 0;
+    }
+    let setting = c.setting;
+    let plan = setting.relative_ts_number;
+    let filled = c.filled;
+    if has_unplanned(&plan, &filled) {
+        return 17;
+    }
+    0
+}
+
+// 16, and what is asked of an open frame.
+pub fn open_refusal(c: Composer) -> u8
+    ensures { λ r. ⌜ r ≡ firstOf (openChecks c) ⌝ }
+{
+    if !c.is_open {
+        return 16;
+    }
+    let rule = open_rule_refusal(c);
+    if rule != 0 {
+        return rule;
+    }
+    mark_refusal(c)
+}
