@@ -99,7 +99,7 @@ pub fn close(run: Composer, frame: &mut [u8]) -> Answer
     }
     let said = header_setting(run);
     let kind = run.kind;
-    let refusal = header::write(&mut frame[0..PACKET_BYTES], run.pid, kind, said);
+    let refusal = header_writer::write(&mut frame[0..PACKET_BYTES], run.pid, kind, said);
     Answer {
         refusal,
         state: ended(run, said.continuity_counter, said.version_number),
