@@ -3,7 +3,6 @@
 use crate::receiving::Link;
 use frame::composer::Composer;
 use packet::FRAME_BYTES;
-use receiver::Receiver;
 use receiver::STORE_BYTES;
 use setting::Kind;
 use setting::Setting;
@@ -22,7 +21,7 @@ const PID: u16 = 0x1FF0;
 fn main() {
     let mut state = SEED;
     let mut run = Composer::start(PID, Kind::Plain).state;
-    let receiver = Receiver::start(PID, Kind::Plain).state;
+    let receiver = receiver::start(PID, Kind::Plain).state;
     let mut link = Link {
         received: 0,
         receiver,

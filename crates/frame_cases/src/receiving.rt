@@ -15,7 +15,7 @@ pub(crate) struct Link {
 // Hands out what the ready frame has for r, and prints it where there is something.
 fn hand_out_stream(p: u64, receiver: Receiver, store: &[u8], r: u8) {
     let mut out = [0u8; STORE_BYTES];
-    let handed = receiver.hand_out(store, &mut out, RelativeNumber(r));
+    let handed = receiver::hand_out(receiver, store, &mut out, RelativeNumber(r));
     let packets = handed.packets;
     if packets != 0 {
         let register = crc::register(&out[0..PACKET_BYTES * packets]);
@@ -34,7 +34,7 @@ fn hand_out_frame(p: u64, receiver: Receiver, store: &[u8]) {
 pub(crate) fn receive_packet(link: Link, packet: &[u8], store: &mut [u8]) -> Link {
     let p = link.received;
     let before = link.receiver;
-    let got = before.receive(packet, store);
+    let got = receiver::receive(before, packet, store);
     let event = got.event;
     let receiver = got.state;
     lines::print_event(p, event);

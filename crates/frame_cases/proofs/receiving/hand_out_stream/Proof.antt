@@ -7,12 +7,12 @@ use borrow.Author.Needs.{needs}
 use borrow.Author.Tests.{eqb-true}
 use lib.Dec.{eqb}
 use lib.ListN.{length}
-use Rattle.receiver.specs.declared.HandedOut.{HandedOut}
-use Rattle.receiver.specs.declared.Receiver.{Receiver}
+use Rattle.receiver_in_place.specs.declared.HandedOut.{HandedOut}
+use Rattle.receiver_in_place.specs.declared.Receiver.{Receiver}
 use Rattle.packet.specs.Packets.{packetLength}
-use Rattle.receiver.specs.Store.{slotsFor}
-use Rattle.receiver.specs.Receiving.{handOutRefusal, handOutOf}
-use Rattle.receiver.proofs.ReceiverChecks.{handed-room}
+use Rattle.receiver_in_place.specs.Store.{slotsFor}
+use Rattle.receiver_in_place.specs.Receiving.{handOutRefusal, handOutOf}
+use Rattle.receiver_in_place.proofs.ReceiverChecks.{handed-room}
 use Rattle.frame_cases.proofs.receiving.hand_out_stream.Statement.{statement}
 use Rattle.frame_cases.proofs.receiving.hand_out_stream.Tie as tie
 
