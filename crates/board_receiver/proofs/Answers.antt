@@ -5,7 +5,7 @@ use mathlib.Core.Bool.{true, false, not}
 use mathlib.Core.List.{List, [], _∷_, _++_}
 use native.Mathlib.Omega.{arith}
 use borrow.Author.Tests.{eq-eqb, ne-eqb, lt-ltb, le-ltb}
-use lib.ListN.{length, drop}
+use lib.ListN.{length, drop, replicate}
 use Rattle.slices.specs.Slices.{over}
 use Rattle.slices.proofs.Front.{put}
 use Rattle.setting.specs.declared.Kind.{Kind}
@@ -15,13 +15,12 @@ use Rattle.refusal_table.proofs.Refusals.{answers, passed, first-none, kept, wr
 use Rattle.words.specs.Words.{wordBytes}
 use Rattle.words.specs.Kinds.{isKind, kindOf, kindNumber}
 use Rattle.receiver_table.specs.declared.Stage.{Stage}
-use Rattle.receiver.specs.declared.Started.{Started}
-use Rattle.receiver.specs.declared.Received.{Received}
-use Rattle.receiver.specs.declared.HandedOut.{HandedOut}
-use Rattle.receiver.specs.declared.Step.{Step}
-use Rattle.receiver.specs.Receiving.{startReceiverOf, receiveOf, handOutOf}
-use Rattle.receiver.specs.InPlace.{numbersLength, numbersOf, stepOf, receiveStep, receiveNumbers, receiveInto, handOutWith, handOutInto}
-use Rattle.receiver.proofs.Lent.{lent-step, lent-numbers, lent-store, lent-frame, lent-buffer, keeps, refused-keeps}
+use Rattle.receiver_in_place.specs.declared.Received.{Received}
+use Rattle.receiver_in_place.specs.declared.HandedOut.{HandedOut}
+use Rattle.receiver_in_place.specs.declared.Step.{Step}
+use Rattle.receiver_in_place.specs.Receiving.{waiting, startReceiverOf, receiveOf, handOutOf}
+use Rattle.receiver_in_place.specs.InPlace.{numbersLength, numbersOf, stepOf, receiveStep, receiveNumbers, receiveInto, handOutWith, handOutInto}
+use Rattle.receiver_in_place.proofs.Lent.{lent-step, lent-numbers, lent-store, lent-frame, lent-buffer, keeps, refused-keeps}
 use Rattle.board_receiver.specs.States.{receiverLength, stageBytes, receiverBytes, receiverOf, eventNumber}
 use Rattle.board_receiver.proofs.Parts.{renewed-bytes, put-back, lent, lent-length, said-whole, said-numbers}
 use Rattle.board_receiver.specs.Calls.{startRefused, startState, receiveRefused, receiveEvent, receiveState, receiveMemory, handOutRefused, handOutPackets, handOutMemory}
@@ -54,11 +53,19 @@ module _ (state : List ℕ) (pid kind : ℕ) where
       pub start-no-kind : 1 < kind → Starts 17 state
       start-no-kind k = refused (sym (by-kind ∙ answers 17 [] (ap not (le-ltb kind 2 (omega arith))))) (λ z. omega (arith, z))
 
-      pub starts : kind ≤ 1 → (s : Started) → s ≡ startReceiverOf (kindOf kind) pid → (after : List ℕ) → after ≡ receiverBytes (s .state) → Starts 0 after
-      unfolding startState
-      starts k s e after b =
+      fresh : startReceiverOf (kindOf kind) pid .state ≡ waiting (kindOf kind) pid
+      unfolding startReceiverOf
+      fresh = rw p refl
+
+      -- zeros for numbers, and before them PID, kind and stage
+      pub starts : kind ≤ 1 → {t : Kind} → t ≡ kindOf kind → {numbers : List ℕ} → numbers ≡ replicate (length (lent state l)) 0
+          → {after : List ℕ} → after ≡ over 0 ((wordBytes (pid ∷ []) ++ (kindNumber t ∷ [])) ++ stageBytes Stage.Waiting) (put 6 numbersLength state numbers)
+          → Starts 0 after
+      unfolding startState waiting numbersOf
+      starts h k {numbers} n b =
           let granted = sym (by-kind ∙ passed 17 [] (ap not (lt-ltb kind 2 (omega arith))) ∙ first-none none) in
-          (granted, b ∙ ap (λ (t : Started). receiverBytes (t .state)) e ∙ written granted _ state refl)
+          let zeros : numbers ≡ numbersOf (waiting (kindOf kind) pid) = n ∙ ap (λ (m : ℕ). replicate m 0) (lent-length state l) in
+          (granted, b ∙ renewed-bytes (waiting (kindOf kind) pid) state l refl (sym k) refl zeros ∙ ap receiverBytes (sym fresh) ∙ written granted _ state refl)
 
 -- ---- receive
 

@@ -7,15 +7,15 @@ use borrow.Author.Tests.{lt-ltb, le-ltb}
 use lib.ListN.{length, getD, take, drop, length-drop, drop-of-length-le, take-append-drop}
 use lib.Seq.{length-take-le, take-all, drop-at, drop-drop}
 use Rattle.slices.specs.Slices.{over}
-use Rattle.slices.proofs.Front.{Front, put, front-none, front-part, front-all, put-over}
+use Rattle.slices.proofs.Front.{put}
 use Rattle.counters.specs.Counters.{lastSlot}
 use Rattle.setting.specs.declared.Kind.{Kind}
 use Rattle.words.specs.Words.{wordBytes}
 use Rattle.words.specs.Kinds.{kindOf, kindNumber}
 use Rattle.receiver_table.specs.declared.Stage.{Stage}
-use Rattle.receiver.specs.declared.Receiver.{Receiver}
-use Rattle.receiver.specs.InPlace.{numbersLength, receiverWith, numbersOf}
-use Rattle.receiver.proofs.Lent.{numbers-with}
+use Rattle.receiver_in_place.specs.declared.Receiver.{Receiver}
+use Rattle.receiver_in_place.specs.InPlace.{numbersLength, receiverWith, numbersOf}
+use Rattle.receiver_in_place.proofs.Lent.{numbers-with}
 use Rattle.board_receiver.specs.States.{receiverLength, stageBytes, noStage, stageOf, receiverBytes, receiverOf}
 
 -- ---- written
@@ -25,28 +25,6 @@ unfolding wordBytes stageBytes
 front-length pid kind Stage.Waiting = refl
 front-length pid kind (Stage.Open from k) = refl
 front-length pid kind (Stage.Ready from) = refl
-
--- a part put behind those before it
-front-put : (d₀ done d p : List ℕ) (i k : ℕ) → Front d₀ done d i → length p ≡ k → {after : List ℕ} → after ≡ over i p d → Front d₀ (done ++ p) after (i + k)
-front-put d₀ done d p i k f l e =
-    let next = front-part d₀ done d p i k f l in
-    record { is = e ∙ sym (put-over i k d refl l) ∙ next .is; long = next .long }
-
--- the parts one behind the other
-pub whole : (c : Receiver) (bytes fronted numbered all : List ℕ) → length bytes ≡ receiverLength
-    → length (c .numbers) ≡ lastSlot → length (c .before) ≡ lastSlot
-    → fronted ≡ over 0 ((wordBytes (c .pid ∷ []) ++ (kindNumber (c .kind) ∷ [])) ++ stageBytes (c .stage)) bytes
-    → numbered ≡ over 6 (c .numbers) fronted → all ≡ over 58 (c .before) numbered
-    → all ≡ receiverBytes c
-unfolding receiverBytes
-whole c bytes fronted numbered all l n m p q r =
-    let front = (wordBytes (c .pid ∷ []) ++ (kindNumber (c .kind) ∷ [])) ++ stageBytes (c .stage) in
-    let f₁ = front-put bytes [] bytes front 0 6 (front-none bytes) (front-length (c .pid) (c .kind) (c .stage)) p in
-    let f₂ = front-put bytes front fronted (c .numbers) 6 lastSlot f₁ n q in
-    let f₃ = front-put bytes (front ++ c .numbers) numbered (c .before) 58 lastSlot f₂ m r in
-    front-all bytes ((front ++ c .numbers) ++ c .before) all 110 f₃ (omega arith)
-    ∙ append-assoc front (c .numbers) (c .before)
-    ∙ append-assoc (wordBytes (c .pid ∷ []) ++ (kindNumber (c .kind) ∷ [])) (stageBytes (c .stage)) (c .numbers ++ c .before)
 
 -- PID, kind and stage written before the numbers that were lent and came back
 pub renewed : (state after front : List ℕ) → length state ≡ receiverLength → length front ≡ 6 → over 0 front (put 6 numbersLength state after) ≡ front ++ after

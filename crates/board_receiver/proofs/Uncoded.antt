@@ -13,10 +13,10 @@ use Rattle.refusal_table.proofs.Refusals.{passed, at-once}
 use Rattle.packet.specs.Packets.{packetLength}
 use Rattle.words.specs.Kinds.{isKind}
 use Rattle.receiver_table.specs.declared.Stage.{Stage}
-use Rattle.receiver.specs.declared.Receiver.{Receiver}
-use Rattle.receiver.specs.Store.{storeLength}
+use Rattle.receiver_in_place.specs.declared.Receiver.{Receiver}
+use Rattle.receiver_in_place.specs.Store.{storeLength}
 use Rattle.receiver_table.specs.Table.{stageChecks}
-use Rattle.receiver.specs.Receiving.{receiverChecks, receiveRefusal, handOutRefusal, receiveOf, handOutOf}
+use Rattle.receiver_in_place.specs.Receiving.{receiverChecks, receiveRefusal, handOutRefusal, receiveOf, handOutOf}
 use Rattle.board_receiver.specs.States.{noStage, isStage, stageOf, isCoded, receiverOf}
 use Rattle.board_receiver.specs.Calls.{receiveRefused, handOutRefused}
 use Rattle.board_receiver.specs.Demands.{UncodedRefused}

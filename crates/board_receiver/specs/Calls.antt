@@ -7,7 +7,7 @@ use lib.ListN.{length}
 use Rattle.refusal_table.specs.Refusal.{firstOf, leaves}
 use Rattle.rules.specs.Rules.{pidAllowed}
 use Rattle.words.specs.Kinds.{isKind, kindOf}
-use Rattle.receiver.specs.Receiving.{startReceiverOf, receiveOf, receiveStore, handOutOf, handOutBuffer}
+use Rattle.receiver_in_place.specs.Receiving.{startReceiverOf, receiveOf, receiveStore, handOutOf, handOutBuffer}
 use Rattle.board_receiver.specs.States.{receiverLength, receiverBytes, receiverOf, eventNumber}
 
 -- start: 1, 2, and 17 for a number that is no kind

@@ -7,8 +7,8 @@ use lib.ListN.{length}
 use Rattle.rules.specs.Rules.{pidAllowed}
 use Rattle.packet.specs.Packets.{packetLength}
 use Rattle.words.specs.Words.{wordAt}
-use Rattle.receiver.specs.declared.Receiver.{Receiver}
-use Rattle.receiver.specs.Store.{storeLength}
+use Rattle.receiver_in_place.specs.declared.Receiver.{Receiver}
+use Rattle.receiver_in_place.specs.Store.{storeLength}
 use Rattle.board_receiver.specs.States.{receiverLength, receiverBytes, receiverOf, OfItsTypes, isCoded}
 use Rattle.board_receiver.specs.Calls.{receiveRefused, handOutRefused}
 

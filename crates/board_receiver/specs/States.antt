@@ -10,7 +10,7 @@ use Rattle.counters.specs.Counters.{lastSlot}
 use Rattle.setting.specs.Setting.{Array}
 use Rattle.receiver_table.specs.declared.Stage.{Stage}
 use Rattle.receiver_table.specs.declared.Event.{Event}
-use Rattle.receiver.specs.declared.Receiver.{Receiver}
+use Rattle.receiver_in_place.specs.declared.Receiver.{Receiver}
 
 abbrev pub receiverLength : ℕ
 receiverLength = 110

@@ -3,7 +3,7 @@
 mod states;
 
 use counters::RelativeNumber;
-use receiver::Receiver;
+use receiver_table::Stage;
 ghost use mathlib.Core.Path.{_≡_};
 ghost use Rattle.board_receiver.specs.Calls.{startRefused, startState, receiveRefused, receiveEvent, receiveState, receiveMemory, handOutRefused, handOutPackets, handOutMemory};
 
@@ -25,8 +25,8 @@ pub extern "C" fn niranbok_receiver_start(state: &mut [u8], pid: u16, kind: u8) 
     if 1 < kind {
         return 17;
     }
-    let started = Receiver::start(pid, words::kind_of(kind));
-    states::write_receiver(state, started.state);
+    slices::fill(&mut state[states::NUMBERS..RECEIVER_BYTES], 0);
+    states::write_front(state, pid, words::kind_of(kind), Stage::Waiting);
     0
 }
 
@@ -50,7 +50,7 @@ pub extern "C" fn niranbok_receiver_receive(
     let pid = words::word(state[0], state[1]);
     let kind = words::kind_of(state[2]);
     let stage = states::stage_in(state);
-    let step = receiver::receive_in_place(
+    let step = receiver_in_place::receive_in_place(
         pid,
         kind,
         stage,
@@ -85,7 +85,7 @@ pub extern "C" fn niranbok_receiver_hand_out(
         *packets = 0;
         return 1;
     }
-    let handed = receiver::hand_out_in_place(
+    let handed = receiver_in_place::hand_out_in_place(
         words::word(state[0], state[1]),
         states::stage_in(state),
         &state[states::NUMBERS..RECEIVER_BYTES],

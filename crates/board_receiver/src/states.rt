@@ -1,26 +1,22 @@
 // A receiver's state as bytes: PID, kind, stage, the slots' numbers by the open frame's header and by the one before.
-use receiver::Receiver;
 use receiver_table::Event;
 use receiver_table::Stage;
 use setting::Kind;
 use setting::SLOTS;
 ghost use mathlib.Core.Path.{_≡_};
-ghost use Prim.Native.Nat.{_+_, _≤_};
 ghost use mathlib.Core.List.{[], _∷_, _++_};
 ghost use lib.ListN.{length};
 ghost use Rattle.words.specs.Words.{wordBytes};
 ghost use Rattle.words.specs.Kinds.{kindNumber};
 ghost use Rattle.slices.specs.Slices.{over};
-ghost use Rattle.board_receiver.specs.States.{receiverLength, stageBytes, stageOf, receiverBytes, receiverOf, eventNumber};
+ghost use Rattle.board_receiver.specs.States.{receiverLength, stageBytes, stageOf, receiverOf, eventNumber};
 
-pub(crate) const RECEIVER_BYTES: usize = BEFORE + SLOTS;
+pub(crate) const RECEIVER_BYTES: usize = NUMBERS + SLOTS + SLOTS;
 
 // Where the parts start.
 const STAGE: usize = 3;
 
 pub(crate) const NUMBERS: usize = 6;
-
-const BEFORE: usize = NUMBERS + SLOTS;
 
 // A stage that every call refuses with 17: what bytes say that are no stage's.
 fn no_stage() -> Stage
@@ -75,34 +71,13 @@ pub(crate) fn stage_in(bytes: &[u8]) -> Stage
     stage_of(bytes[STAGE], bytes[STAGE + 1], bytes[STAGE + 2])
 }
 
-// Puts the part over the bytes, from a place on.
-fn put(bytes: &mut [u8], at: usize, part: &[u8])
-    requires { ⌜ at + length (now part) ≤ length (now bytes) ⌝ }
-    ensures { λ _. ⌜ now (bytes .exit) ≡ over at (now (part .entry)) (now (bytes .entry)) ⌝ }
-{
-    slices::copy(&mut bytes[at..at + part.len()], part);
-}
-
 // Writes PID, kind and stage, and leaves the numbers.
 pub(crate) fn write_front(bytes: &mut [u8], pid: u16, kind: Kind, stage: Stage)
     requires { ⌜ length (now bytes) ≡ receiverLength ⌝ }
     ensures { λ _. ⌜ now (bytes .exit) ≡ over 0 ((wordBytes (pid ∷ []) ++ (kindNumber kind ∷ [])) ++ stageBytes stage) (now (bytes .entry)) ⌝ }
 {
     let front = front_bytes(pid, kind, stage);
-    put(bytes, 0, &front);
-}
-
-pub(crate) fn write_receiver(bytes: &mut [u8], c: Receiver)
-    requires { ⌜ length (now bytes) ≡ receiverLength ⌝ }
-    ensures { λ _. ⌜ now (bytes .exit) ≡ receiverBytes c ⌝ }
-{
-    let kind = c.kind;
-    let stage = c.stage;
-    write_front(bytes, c.pid, kind, stage);
-    let numbers = c.numbers;
-    put(bytes, NUMBERS, &numbers);
-    let before = c.before;
-    put(bytes, BEFORE, &before);
+    slices::copy(bytes, &front);
 }
 
 pub(crate) fn event_number(event: Event) -> u8

@@ -10,7 +10,7 @@ use Rattle.setting.specs.declared.Kind.{Kind}
 use Rattle.rules.specs.Rules.{pidAllowed}
 use Rattle.slices.specs.Slices.{Among, here, there}
 use Rattle.packet.specs.Packets.{packetLength, frameLength, slot, unfit}
-use Rattle.receiver.specs.Store.{storeLength}
+use Rattle.receiver_in_place.specs.Store.{storeLength}
 use Rattle.runs.specs.Runs.{Each, none, more}
 use Rattle.runs.proofs.Demands.{From, stretch}
 use Rattle.group.specs.declared.Bond.{Bond}

@@ -8,7 +8,7 @@ use Rattle.setting.specs.declared.Kind.{Kind}
 use Rattle.packet.specs.Packets.{frameLength}
 use Rattle.receiver_table.specs.declared.Event.{Event}
 use Rattle.receiver_table.specs.Table.{makesReady}
-use Rattle.receiver.specs.Receiving.{receiveOf}
+use Rattle.receiver_in_place.specs.Receiving.{receiveOf}
 use Rattle.runs.specs.Runs.{Call, Each, OfTypes, started, framesOf}
 use Rattle.runs.specs.Losses.{Sent, arriving, Reception, freshWith, afterPacket}
 use Rattle.runs.specs.Demands.{whole, headerAlone}

@@ -26,7 +26,7 @@ fn print_place(name: &[u8], at: u64, bytes: u64) {
 pub(crate) fn print_lengths() {
     print_length(b"packet", packet::PACKET_BYTES as u64);
     print_length(b"frame", packet::FRAME_BYTES as u64);
-    print_length(b"store", receiver::STORE_BYTES as u64);
+    print_length(b"store", receiver_in_place::STORE_BYTES as u64);
     print_length(b"setting", coding::SETTING_BYTES as u64);
     print_length(b"composer", board_frame::COMPOSER_BYTES as u64);
     print_length(b"receiver", board_receiver::RECEIVER_BYTES as u64);

@@ -8,11 +8,11 @@ use lib.Seq.{take-at, drop-at, take-all}
 use Rattle.setting.specs.declared.Kind.{Kind}
 use Rattle.counters.specs.Counters.{lastSlot}
 use Rattle.receiver_table.specs.declared.Stage.{Stage}
-use Rattle.receiver.specs.declared.Receiver.{Receiver}
-use Rattle.receiver.specs.declared.Step.{Step}
-use Rattle.receiver.specs.Receiving.{receiveOf}
-use Rattle.receiver.specs.InPlace.{numbersLength, receiverWith, numbersOf, stepOf, receiveStep, receiveNumbers}
-use Rattle.receiver.proofs.Lent.{lent-step, lent-numbers, keeps}
+use Rattle.receiver_in_place.specs.declared.Receiver.{Receiver}
+use Rattle.receiver_in_place.specs.declared.Step.{Step}
+use Rattle.receiver_in_place.specs.Receiving.{receiveOf}
+use Rattle.receiver_in_place.specs.InPlace.{numbersLength, receiverWith, numbersOf, stepOf, receiveStep, receiveNumbers}
+use Rattle.receiver_in_place.proofs.Lent.{lent-step, lent-numbers, keeps}
 
 -- a state of which each part is known
 rebuilt : (s : Receiver) {pid : ℕ} {kind : Kind} {stage : Stage} {numbers before : List ℕ}

@@ -1,68 +1,23 @@
-// Frames received packet by packet: a frame is ready when the header behind it has vouched for it. The state goes in and comes
-// out by value, or its numbers are lent and changed in place; the packets stand in a lent store, slot i at 188 × (i − 1).
-mod checks;
-mod halves;
-mod numbered;
-
+// The receiver by value: its state goes in and comes out. A call joins the state's numbers and lends them to the call in place.
 use counters::RelativeNumber;
-use packet::PACKET_BYTES;
-use receiver_table::Event;
-use receiver_table::Row;
 use receiver_table::Stage;
 use setting::Kind;
 use setting::SLOTS;
 ghost use mathlib.Core.Path.{_≡_};
-ghost use mathlib.Core.Bool.{true};
-ghost use lib.ListN.{length};
-ghost use Rattle.packet.specs.Packets.{packetLength, unfit};
-ghost use Rattle.receiver.specs.Store.{storeLength};
-ghost use Rattle.receiver_table.specs.Table.{other};
-ghost use Rattle.receiver.specs.Arriving.{storeAfter};
-ghost use Rattle.receiver.specs.Receiving.{waiting, startReceiverOf, receiveRefusal, receiveOf, receiveStore, handOutOf, handOutBuffer};
-ghost use Rattle.receiver.specs.InPlace.{numbersLength, receiverWith, numbersOf, stepOf, receiveStep, receiveNumbers, receiveInto, handOutWith, handOutInto};
-
-// The bytes of the store: a packet for each slot but the header's.
-pub const STORE_BYTES: usize = PACKET_BYTES * SLOTS;
-
-// The slots' numbers by the header of the open frame and by the one before it.
-pub const NUMBERS_BYTES: usize = SLOTS + SLOTS;
-
-// A receiver's state. A saved one may hold anything: each call checks it.
-pub struct Receiver {
-    pub pid: u16,
-    pub kind: Kind,
-    pub stage: Stage,
-    // The slots' numbers by the header of the open frame, and by that of the frame before it.
-    pub numbers: [u8; SLOTS],
-    pub before: [u8; SLOTS],
-}
-
-// What a start answers: refusal 0 and the state, or the refusal's number and the fresh plain state of PID 0.
-pub struct Started {
-    pub refusal: u8,
-    pub state: Receiver,
-}
-
-// What a packet's receipt answers: refusal 0, the event and the new state, or the refusal's number and the state as it was.
-pub struct Received {
-    pub refusal: u8,
-    pub event: Event,
-    pub state: Receiver,
-}
-
-// What a packet's receipt answers beside the numbers: refusal 0, the event and where the receiver stands then, or the refusal's
-// number and the stage as it was.
-pub struct Step {
-    pub refusal: u8,
-    pub event: Event,
-    pub stage: Stage,
-}
-
-// What handing out answers: refusal 0 and how many packets, or the refusal's number and 0.
-pub struct HandedOut {
-    pub refusal: u8,
-    pub packets: usize,
-}
+ghost use Prim.Native.Nat.{_+_, _≤_};
+ghost use lib.ListN.{length, take, drop};
+ghost use Rattle.counters.specs.Counters.{lastSlot};
+ghost use Rattle.receiver_in_place.specs.Receiving.{waiting, startReceiverOf, receiveOf, receiveStore, handOutOf, handOutBuffer};
+ghost use Rattle.receiver_in_place.specs.InPlace.{numbersOf};
+pub use receiver_in_place::HandedOut;
+pub use receiver_in_place::NUMBERS_BYTES;
+pub use receiver_in_place::Received;
+pub use receiver_in_place::Receiver;
+pub use receiver_in_place::STORE_BYTES;
+pub use receiver_in_place::Started;
+pub use receiver_in_place::Step;
+pub use receiver_in_place::hand_out_in_place;
+pub use receiver_in_place::receive_in_place;
 
 fn new_receiver(pid: u16, kind: Kind) -> Receiver
     ensures { λ r. ⌜ r ≡ waiting kind pid ⌝ }
@@ -76,153 +31,75 @@ fn new_receiver(pid: u16, kind: Kind) -> Receiver
     }
 }
 
-// Puts the packet into the slot behind those that are stored, if there is one.
-fn store_packet(stage: Stage, packet: &[u8], store: &mut [u8])
-    requires { ⌜ (length (now packet) ≡ packetLength) × (length (now store) ≡ storeLength) ⌝ }
-    ensures { λ _. ⌜ now (store .exit) ≡ storeAfter stage other (now (packet .entry)) (now (store .entry)) ⌝ }
+// The numbers by two headers as one: the open frame's, and behind them those of the frame before it.
+fn numbers_of(c: Receiver) -> [u8; NUMBERS_BYTES]
+    ensures { λ r. ⌜ r ≡ numbersOf c ⌝ }
 {
-    let k = receiver_table::stored(stage);
-    if k < SLOTS {
-        let at = PACKET_BYTES * k;
-        slices::copy(&mut store[at..at + PACKET_BYTES], packet);
+    let mut numbers = [0u8; NUMBERS_BYTES];
+    let opened = c.numbers;
+    let before = c.before;
+    slices::copy(&mut numbers[0..SLOTS], &opened);
+    slices::copy(&mut numbers[SLOTS..NUMBERS_BYTES], &before);
+    numbers
+}
+
+// The slots' numbers from a place on.
+fn half(numbers: &[u8], at: usize) -> [u8; SLOTS]
+    requires { ⌜ at + lastSlot ≤ length (now numbers) ⌝ }
+    ensures { λ r. ⌜ r ≡ take lastSlot (drop at (now (numbers .entry))) ⌝ }
+{
+    let mut part = [0u8; SLOTS];
+    slices::copy(&mut part, &numbers[at..at + SLOTS]);
+    part
+}
+
+// A receiver for this header PID and kind; refused, the fresh plain state of PID 0.
+pub fn start(pid: u16, kind: Kind) -> Started
+    ensures { λ r. ⌜ r ≡ startReceiverOf kind pid ⌝ }
+{
+    if !rules::pid_allowed(pid) {
+        return Started {
+            refusal: 2,
+            state: new_receiver(0, Kind::Plain),
+        };
+    }
+    Started {
+        refusal: 0,
+        state: new_receiver(pid, kind),
     }
 }
 
-// What a packet answers that takes this row.
-fn accepted(row: Row) -> Step
-    ensures { λ r. ⌜ r ≡ record { refusal = 0; event = row .event; stage = row .stage } ⌝ }
+// Takes one packet. Only a packet that is stored changes the store, in its slot.
+pub fn receive(receiver: Receiver, packet: &[u8], store: &mut [u8]) -> Received
+    ensures { λ r. ⌜ r ≡ receiveOf receiver (now (packet .entry)) (length (now (store .entry))) ⌝ }
+    ensures { λ _. ⌜ now (store .exit) ≡ receiveStore receiver (now (packet .entry)) (now (store .entry)) ⌝ }
 {
-    let event = row.event;
-    let stage = row.stage;
-    Step {
-        refusal: 0,
+    let kind = receiver.kind;
+    let stage = receiver.stage;
+    let mut numbers = numbers_of(receiver);
+    let step = receive_in_place(receiver.pid, kind, stage, &mut numbers, packet, store);
+    let event = step.event;
+    let after = step.stage;
+    let state = Receiver {
+        pid: receiver.pid,
+        kind,
+        stage: after,
+        numbers: half(&numbers, 0),
+        before: half(&numbers, SLOTS),
+    };
+    Received {
+        refusal: step.refusal,
         event,
-        stage,
+        state,
     }
 }
 
-// Takes a packet that may stand in no slot: a header, whose numbers are the open frame's now, or a broken one.
-fn take_header(pid: u16, kind: Kind, stage: Stage, numbers: &mut [u8], packet: &[u8]) -> Step
-    requires { ⌜ (length (now numbers) ≡ numbersLength) × (unfit pid (now packet) ≡ true) ⌝ }
-    requires { ⌜ receiveRefusal (receiverWith pid kind stage (now numbers)) (length (now packet)) storeLength ≡ 0 ⌝ }
-    ensures { λ r. ⌜ r ≡ stepOf (receiveOf (receiverWith pid kind stage (now (numbers .entry))) (now (packet .entry)) storeLength) ⌝ }
-    ensures { λ _. ⌜ now (numbers .exit) ≡ numbersOf (receiveOf (receiverWith pid kind stage (now (numbers .entry))) (now (packet .entry)) storeLength .state) ⌝ }
+// Copies the ready frame's packets with number r, in slot order, to the front of the lent buffer.
+pub fn hand_out(receiver: Receiver, store: &[u8], out: &mut [u8], r: RelativeNumber) -> HandedOut
+    ensures { λ t. ⌜ t ≡ handOutOf receiver (r .0) (length (now (store .entry))) (length (now (out .entry))) ⌝ }
+    ensures { λ _. ⌜ now (out .exit) ≡ handOutBuffer receiver (r .0) (now (store .entry)) (now (out .entry)) ⌝ }
 {
-    let reading = header::read(packet, pid, kind);
-    if reading.refusal != 0 {
-        return accepted(receiver_table::broken_row(stage));
-    }
-    let said = reading.setting;
-    let opened = said.relative_ts_number;
-    let before = halves::half(numbers, 0);
-    halves::join(numbers, &opened, &before);
-    accepted(receiver_table::header_row(stage, said.continuity_counter))
-}
-
-// Takes one packet, of a receiver whose numbers are lent. Only a good header changes them.
-pub fn receive_in_place(
-    pid: u16,
-    kind: Kind,
-    stage: Stage,
-    numbers: &mut [u8],
-    packet: &[u8],
-    store: &mut [u8],
-) -> Step
-    ensures { λ r. ⌜ r ≡ receiveStep pid kind stage (now (numbers .entry)) (now (packet .entry)) (length (now (store .entry))) ⌝ }
-    ensures { λ _. ⌜ now (numbers .exit) ≡ receiveNumbers pid kind stage (now (numbers .entry)) (now (packet .entry)) (length (now (store .entry))) ⌝ }
-    ensures { λ _. ⌜ now (store .exit) ≡ receiveInto pid kind stage (now (numbers .entry)) (now (packet .entry)) (now (store .entry)) ⌝ }
-{
-    let refusal = checks::receive_refusal(pid, stage, numbers, packet.len(), store.len());
-    if refusal != 0 {
-        return Step {
-            refusal,
-            event: Event::Nothing,
-            stage,
-        };
-    }
-    if packet::place_refusal(packet, pid) == 0 {
-        store_packet(stage, packet, store);
-        return accepted(receiver_table::other_row(stage));
-    }
-    take_header(pid, kind, stage, numbers, packet)
-}
-
-// Copies the ready frame's packets with number r, in slot order, to the front of the lent buffer; the receiver's numbers are lent.
-pub fn hand_out_in_place(
-    pid: u16,
-    stage: Stage,
-    numbers: &[u8],
-    store: &[u8],
-    out: &mut [u8],
-    r: RelativeNumber,
-) -> HandedOut
-    ensures { λ t. ⌜ t ≡ handOutWith pid stage (now (numbers .entry)) (r .0) (length (now (store .entry))) (length (now (out .entry))) ⌝ }
-    ensures { λ _. ⌜ now (out .exit) ≡ handOutInto pid stage (now (numbers .entry)) (r .0) (now (store .entry)) (now (out .entry)) ⌝ }
-{
-    let refusal = checks::hand_out_refusal(pid, stage, numbers, r, store.len(), out.len());
-    if refusal != 0 {
-        return HandedOut {
-            refusal,
-            packets: 0,
-        };
-    }
-    let before = &numbers[SLOTS..NUMBERS_BYTES];
-    numbered::copy_numbered(out, store, before, r.0);
-    HandedOut {
-        refusal: 0,
-        packets: numbered::count(before, r.0),
-    }
-}
-
-impl Receiver {
-    // A receiver for this header PID and kind; refused, the fresh plain state of PID 0.
-    pub fn start(pid: u16, kind: Kind) -> Started
-        ensures { λ r. ⌜ r ≡ startReceiverOf kind pid ⌝ }
-    {
-        if !rules::pid_allowed(pid) {
-            return Started {
-                refusal: 2,
-                state: new_receiver(0, Kind::Plain),
-            };
-        }
-        Started {
-            refusal: 0,
-            state: new_receiver(pid, kind),
-        }
-    }
-
-    // Takes one packet. Only a packet that is stored changes the store, in its slot.
-    pub fn receive(self, packet: &[u8], store: &mut [u8]) -> Received
-        ensures { λ r. ⌜ r ≡ receiveOf self (now (packet .entry)) (length (now (store .entry))) ⌝ }
-        ensures { λ _. ⌜ now (store .exit) ≡ receiveStore self (now (packet .entry)) (now (store .entry)) ⌝ }
-    {
-        let kind = self.kind;
-        let stage = self.stage;
-        let mut numbers = halves::numbers_of(self);
-        let step = receive_in_place(self.pid, kind, stage, &mut numbers, packet, store);
-        let event = step.event;
-        let after = step.stage;
-        let state = Receiver {
-            pid: self.pid,
-            kind,
-            stage: after,
-            numbers: halves::half(&numbers, 0),
-            before: halves::half(&numbers, SLOTS),
-        };
-        Received {
-            refusal: step.refusal,
-            event,
-            state,
-        }
-    }
-
-    // Copies the ready frame's packets with number r, in slot order, to the front of the lent buffer.
-    pub fn hand_out(self, store: &[u8], out: &mut [u8], r: RelativeNumber) -> HandedOut
-        ensures { λ t. ⌜ t ≡ handOutOf self (r .0) (length (now (store .entry))) (length (now (out .entry))) ⌝ }
-        ensures { λ _. ⌜ now (out .exit) ≡ handOutBuffer self (r .0) (now (store .entry)) (now (out .entry)) ⌝ }
-    {
-        let stage = self.stage;
-        let numbers = halves::numbers_of(self);
-        hand_out_in_place(self.pid, stage, &numbers, store, out, r)
-    }
+    let stage = receiver.stage;
+    let numbers = numbers_of(receiver);
+    hand_out_in_place(receiver.pid, stage, &numbers, store, out, r)
 }

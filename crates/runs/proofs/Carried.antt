@@ -15,7 +15,7 @@ use Rattle.layout.specs.Rows.{place, rowAt}
 use Rattle.layout.specs.Layout.{startRows}
 use Rattle.packet.specs.Packets.{packetLength, nullPacket, slot, unfit}
 use Rattle.composer_state.specs.Slots.{nulls, numbersOf}
-use Rattle.receiver.specs.Store.{numbered, slotsFor}
+use Rattle.receiver_in_place.specs.Store.{numbered, slotsFor}
 use Rattle.runs.specs.Work.{carries, taken, slotsFilled, numbersFilled}
 use Rattle.runs.proofs.Filled.{marksFilled, unfitFilled, EachWhole, whole-none, whole-taken, Slot, carried, idle}
 

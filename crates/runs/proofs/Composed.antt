@@ -26,7 +26,7 @@ use Rattle.announced.specs.declared.Announced.{Announced}
 use Rattle.packet.specs.Packets.{packetLength, frameLength, nullPacket, slot, unfit}
 use Rattle.announced.specs.Announcing.{announced, differ}
 use Rattle.composer_state.specs.Composing.{saying, fresh, answer, startOf}
-use Rattle.receiver.specs.Store.{numbered, slotsFor}
+use Rattle.receiver_in_place.specs.Store.{numbered, slotsFor}
 use Rattle.runs.specs.Runs.{Call, Each, none, more, OfTypes, started, framesOf}
 use Rattle.runs.specs.Work.{Work, noWork, worksOf, slotsFilled, numbersFilled, said, versionBehind, headedBehind, headed, frameOf}
 use Rattle.runs.specs.Composed.{headedBy, FramesHold, HeadersRead, FrontsPlaced, PacketsFit}

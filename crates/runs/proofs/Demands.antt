@@ -23,8 +23,8 @@ use Rattle.packet.specs.Packets.{packetLength, unfit}
 use Rattle.announced.specs.Announcing.{announced}
 use Rattle.composer_state.specs.Composing.{saying}
 use Rattle.receiver_table.specs.declared.Stage.{Stage}
-use Rattle.receiver.specs.Store.{storeLength, numbered, slotsFor}
-use Rattle.receiver.specs.Receiving.{waiting, startReceiverOf}
+use Rattle.receiver_in_place.specs.Store.{storeLength, numbered, slotsFor}
+use Rattle.receiver_in_place.specs.Receiving.{waiting, startReceiverOf}
 use Rattle.runs.specs.Runs.{Call, Each, none, more, OfTypes, started, framesOf}
 use Rattle.runs.specs.Work.{Work, noWork, worksOf, slotsFilled, said, versionBehind, headedBehind, headed, frameOf}
 use Rattle.runs.specs.Composed.{headedBy}

@@ -185,7 +185,7 @@ fn write_packets(out: &[u8], packets: usize) -> bool
 // did not take them.
 fn hand_out(receiver: Receiver, store: &[u8], number: u8) -> usize {
     let mut out = [0u8; STORE_BYTES];
-    let handed = receiver.hand_out(store, &mut out, RelativeNumber(number));
+    let handed = receiver::hand_out(receiver, store, &mut out, RelativeNumber(number));
     if write_packets(&out, handed.packets) {
         return handed.packets;
     }
@@ -222,7 +222,7 @@ fn after_event(link: Link, event: Event, store: &[u8]) -> Link {
 // Takes one packet.
 fn take(link: Link, packet: &[u8], store: &mut [u8], pid: u16, choice: Choice) -> Link {
     let receiver = link.receiver;
-    let got = receiver.receive(packet, store);
+    let got = receiver::receive(receiver, packet, store);
     let event = got.event;
     let state = got.state;
     let before = link.tally;
@@ -254,7 +254,7 @@ fn take_block(link: Link, block: &[u8], store: &mut [u8], pid: u16, choice: Choi
 }
 
 fn start(pid: u16) -> Link {
-    let receiver = Receiver::start(pid, Kind::Plain).state;
+    let receiver = receiver::start(pid, Kind::Plain).state;
     Link {
         receiver,
         number: 0,

@@ -1,12 +1,10 @@
 -- `niranbok_receiver_start` meets its contract, check by check. Assumes nothing.
-use mathlib.Core.Path.{_≡_, sym, ap, _∙_}
+use mathlib.Core.Path.{_≡_, sym, _∙_}
 use mathlib.Core.Bool.{true}
 use native.Mathlib.Omega.{arith}
 use borrow.Author.Needs.{needs}
 use borrow.Author.Tests.{not-true, not-false}
-use Rattle.setting.specs.declared.Kind.{Kind}
 use Rattle.rules.specs.Rules.{pidAllowed}
-use Rattle.receiver.specs.Receiving.{startReceiverOf}
 use Rattle.board_receiver.proofs.Answers.{start-no-state, start-no-pid, start-no-kind, starts}
 use Rattle.board_receiver.proofs.niranbok_receiver_start.Statement.{statement}
 use Rattle.board_receiver.proofs.niranbok_receiver_start.Tie as tie
@@ -37,28 +35,37 @@ returns-3 c =
     let a = start k .args in
     start-no-kind (a .state .now) (a .pid) (a .kind) (k .before .before .if1 .left) (allowed k) (omega (arith, c .if3 .taken))
 
+sub-fill : tie.Need-sub-fill
+sub-fill c = search needs
+
+part-fill-start : tie.Need-part-fill-start
+part-fill-start c = search needs
+
+part-fill-end : tie.Need-part-fill-end
+part-fill-end c = search needs
+
+fill-requires : tie.Need-fill-requires
+fill-requires c κs = search needs
+
 kind-of-requires : tie.Need-kind-of-requires
 kind-of-requires c κs = search needs
 
-start-requires : tie.Need-start-requires
-start-requires c κs = search needs
-
-write-receiver-requires : tie.Need-write-receiver-requires
-write-receiver-requires c κs = search needs
+write-front-requires : tie.Need-write-front-requires
+write-front-requires c κs = search needs
 
 same-length : tie.Need-same-length
 same-length c = search needs
 
 returns-4 : tie.Need-returns-4
 returns-4 c =
-    let written = c .before .before in
-    let started = written .before .before in
-    let kind = started .before in
-    let k = kind .before .before in
+    let front = c .before .before in
+    let kind = front .before in
+    let fill = kind .before .before .before .before in
+    let known = fill .before .before in
+    let k = known .before in
     let a = start k .args in
-    starts (a .state .now) (a .pid) (a .kind) (k .before .before .if1 .left) (allowed k) (kind .before .if3 .left)
-    (started .start .result) (started .start .ensures ∙ ap (λ (t : Kind). startReceiverOf t (a .pid)) (kind .kind-of .ensures))
-    (written .write-receiver .last .0) (written .write-receiver .ensures)
+    starts (a .state .now) (a .pid) (a .kind) (k .before .before .if1 .left) (allowed k) (known .if3 .left)
+    (kind .kind-of .ensures) (fill .fill .ensures) (front .write-front .ensures)
 
 pub niranbok-receiver-start-spec : {M : Type 1} → statement M
 niranbok-receiver-start-spec =
@@ -68,8 +75,11 @@ niranbok-receiver-start-spec =
     pid-allowed-requires
     returns-2
     returns-3
+    sub-fill
+    part-fill-start
+    part-fill-end
+    fill-requires
     kind-of-requires
-    start-requires
-    write-receiver-requires
+    write-front-requires
     same-length
     returns-4)

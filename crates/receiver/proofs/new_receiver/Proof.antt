@@ -1,6 +1,6 @@
 -- `new_receiver` meets its contract. Assumes nothing.
 use mathlib.Core.Path.{refl}
-use Rattle.receiver.specs.Receiving.{waiting}
+use Rattle.receiver_in_place.specs.Receiving.{waiting}
 use Rattle.receiver.proofs.new_receiver.Statement.{statement}
 use Rattle.receiver.proofs.new_receiver.Tie as tie
 
