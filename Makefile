@@ -19,6 +19,8 @@ CROSS_CC = x86_64-linux-gnu-gcc
 CROSS_CARGO = RUSTC=/usr/bin/rustc CARGO_BUILD_TARGET=x86_64-unknown-linux-gnu CARGO_TARGET_X86_64_UNKNOWN_LINUX_GNU_LINKER=$(CROSS_CC) \
 	CARGO_TARGET_X86_64_UNKNOWN_LINUX_GNU_RUNNER=$(EMULATOR) cargo
 export NIRANBOK_EMULATOR = $(EMULATOR)
+# A quarter of the comparison's rounds are a million calls, and the emulator takes its time.
+export NIRANBOK_PART ?= 4
 endif
 
 # Installs the emulator and the cross compilers where they are needed and lack.
@@ -76,7 +78,7 @@ board-test: board x86-64
 	compare/limits.sh $(EMULATOR) target/bin/limits
 	$(CROSS_CC) -std=c99 -Wall -Wextra -Werror -Iinclude examples/board.c target/board/libniranbok.a -o target/board/board
 	$(EMULATOR) target/board/board
-	cd compare && $(CROSS_CARGO) test --quiet -p board
+	cd compare && $(CROSS_CARGO) test --quiet -p board --tests
 
 # A time under the emulator says nothing.
 natively:
