@@ -182,10 +182,3 @@ pub(crate) fn open(i: usize) -> i32 {
     let n = word(i, &mut name);
     open_named(&name[0..n])
 }
-
-// Says the name of a file, and what is wrong with it.
-pub(crate) fn say_file(i: usize) {
-    let mut name = io::buffer();
-    let n = word(i, &mut name);
-    says::text(&name[0..n]);
-}

@@ -247,24 +247,32 @@ fn make_all(
     }
 }
 
+fn bond_with(
+    fd: i32,
+    fds: &[i32],
+    group: &mut [u8],
+    stream: &mut [u8],
+    b: Bonded,
+    frames: &[u8],
+    slots: &[u8],
+    n: usize,
+)
+    requires { ⌜ (length (now frames) ≡ 8) × (length (now slots) ≡ 8) ⌝ }
+    requires { ⌜ (length (now group) ≡ 318848) × (n ≤ 8) ⌝ }
+    requires { ⌜ (length (now fds) ≡ 8) × (length (now stream) ≡ 312832) ⌝ }
+{
+    nulls::write_nulls(group);
+    let end = PACKET_BYTES * packets_of(frames, slots, n);
+    make_all(fd, fds, group, &mut stream[0..end], b, frames, slots, n);
+}
+
 fn bond_files(fd: i32, fds: &[i32], b: Bonded, frames: &[u8], slots: &[u8], n: usize)
     requires { ⌜ (length (now frames) ≡ 8) × (length (now slots) ≡ 8) ⌝ }
     requires { ⌜ (length (now fds) ≡ 8) × (n ≤ 8) ⌝ }
 {
     let mut group = [0u8; GROUP_BYTES];
-    nulls::write_nulls(&mut group);
     let mut stream = [0u8; STREAM_BYTES];
-    let packets = packets_of(frames, slots, n);
-    make_all(
-        fd,
-        fds,
-        &mut group,
-        &mut stream[0..PACKET_BYTES * packets],
-        b,
-        frames,
-        slots,
-        n,
-    );
+    bond_with(fd, fds, &mut group, &mut stream, b, frames, slots, n);
 }
 
 fn run_carriers(b: Bonded, input: usize, n: usize)

@@ -1,9 +1,11 @@
 // One carrier of a group, read packet by packet. A run's first header has counter 0, and never more than fifteen headers in a row are
 // lost: so a header's counter tells its frame's place in the run, and with that the super frame that it belongs to.
+use crate::carriers::SUPER_BYTES;
 use crate::input;
 use crate::says;
 use crate::tally;
 use crate::tally::Tally;
+use board_receiver::RECEIVER_BYTES;
 use packet::FRAME_BYTES;
 use packet::PACKET_BYTES;
 use receiver_table::Event;
@@ -17,7 +19,15 @@ ghost use lib.ListN.{length};
 // The packets that are read at once.
 const BLOCK_PACKETS: usize = 53;
 
-pub(crate) const BLOCK_BYTES: usize = PACKET_BYTES * BLOCK_PACKETS;
+const BLOCK_BYTES: usize = PACKET_BYTES * BLOCK_PACKETS;
+
+// A carrier has two lent parts of memory, since two parts of one cannot be lent at once. In the first stands the frame that is open, its
+// header and its packets; in the second the receiver's state, then the block, then the super frame asked for.
+const BLOCK_AT: usize = RECEIVER_BYTES;
+
+pub(crate) const SUPER_AT: usize = BLOCK_AT + BLOCK_BYTES;
+
+pub(crate) const PART_BYTES: usize = SUPER_AT + SUPER_BYTES;
 
 pub(crate) struct Carrier {
     pub(crate) fd: i32,
@@ -140,44 +150,34 @@ fn with_header(c: Carrier, packet: &[u8], pid: u16) -> Carrier {
     next
 }
 
-// Puts a frame that became ready, its header and its packets, to its position in the super frame.
-fn put_frame(part: &mut [u8], position: u8, held: &[u8], store: &[u8])
-    requires { ⌜ (length (now part) ≡ 39856) × (length (now held) ≡ 188) ⌝ }
-    requires { ⌜ (length (now store) ≡ 9776) × (position < 4) ⌝ }
+// Puts a frame that became ready to its position in the super frame.
+fn put_frame(part: &mut [u8], position: u8, frame: &[u8])
+    requires { ⌜ (length (now part) ≡ 49930) × (length (now frame) ≡ 9964) ⌝ }
+    requires { ⌜ position < 4 ⌝ }
 {
-    let at = FRAME_BYTES * position as usize;
-    slices::copy(&mut part[at..at + PACKET_BYTES], held);
-    slices::copy(&mut part[at + PACKET_BYTES..at + FRAME_BYTES], store);
+    let at = SUPER_AT + FRAME_BYTES * position as usize;
+    slices::copy(&mut part[at..at + FRAME_BYTES], frame);
 }
 
 // Keeps a frame that became ready, if it is of the super frame asked for.
-fn keep(c: Carrier, want: u64, part: &mut [u8], held: &[u8], store: &[u8]) -> Carrier
-    requires { ⌜ (length (now part) ≡ 39856) × (length (now held) ≡ 188) ⌝ }
-    requires { ⌜ length (now store) ≡ 9776 ⌝ }
+fn keep(c: Carrier, want: u64, part: &mut [u8], frame: &[u8]) -> Carrier
+    requires { ⌜ (length (now part) ≡ 49930) × (length (now frame) ≡ 9964) ⌝ }
 {
     if super_of(c.place, c.frames) != want {
         return c;
     }
     let position = position_of(c.place, c.frames);
-    put_frame(part, position, held, store);
+    put_frame(part, position, frame);
     let mut next = c;
     next.have = c.have | (1u8 << (position as u32));
     next
 }
 
-fn keep_ready(
-    c: Carrier,
-    event: Event,
-    want: u64,
-    part: &mut [u8],
-    held: &[u8],
-    store: &[u8],
-) -> Carrier
-    requires { ⌜ (length (now part) ≡ 39856) × (length (now held) ≡ 188) ⌝ }
-    requires { ⌜ length (now store) ≡ 9776 ⌝ }
+fn keep_ready(c: Carrier, event: Event, want: u64, part: &mut [u8], frame: &[u8]) -> Carrier
+    requires { ⌜ (length (now part) ≡ 49930) × (length (now frame) ≡ 9964) ⌝ }
 {
     if let Event::Ready = event {
-        return keep(c, want, part, held, store);
+        return keep(c, want, part, frame);
     }
     c
 }
@@ -196,16 +196,25 @@ fn event_of(n: u8) -> Event {
     }
 }
 
-fn receive(state: &mut [u8], packet: &[u8], store: &mut [u8]) -> Event {
+fn receive(frame: &mut [u8], part: &mut [u8], packet: &[u8]) -> Event
+    requires { ⌜ (length (now frame) ≡ 9964) × (length (now part) ≡ 49930) ⌝ }
+{
     let mut event = 0u8;
-    board_receiver::niranbok_receiver_receive(state, packet, store, &mut event);
+    board_receiver::niranbok_receiver_receive(
+        &mut part[0..BLOCK_AT],
+        packet,
+        &mut frame[PACKET_BYTES..],
+        &mut event,
+    );
     event_of(event)
 }
 
 // The header of the frame that is open now.
-fn hold(c: Carrier, event: Event, packet: &[u8], held: &mut [u8], pid: u16) -> Carrier {
+fn hold(c: Carrier, event: Event, packet: &[u8], frame: &mut [u8], pid: u16) -> Carrier
+    requires { ⌜ length (now frame) ≡ 9964 ⌝ }
+{
     if tally::opens(event) {
-        slices::copy(held, packet);
+        slices::copy(&mut frame[0..PACKET_BYTES], packet);
         return with_header(c, packet, pid);
     }
     c
@@ -226,22 +235,21 @@ fn take(
     packet: &[u8],
     want: u64,
     pid: u16,
-    state: &mut [u8],
-    store: &mut [u8],
-    held: &mut [u8],
+    frame: &mut [u8],
     part: &mut [u8],
 ) -> Carrier
-    requires { ⌜ (length (now part) ≡ 39856) × (length (now held) ≡ 188) ⌝ }
-    requires { ⌜ length (now store) ≡ 9776 ⌝ }
+    requires { ⌜ (length (now frame) ≡ 9964) × (length (now part) ≡ 49930) ⌝ }
 {
-    let event = receive(state, packet, store);
-    let one = keep_ready(counted(c, event), event, want, part, held, store);
-    hold(one, event, packet, held, pid)
+    let event = receive(frame, part, packet);
+    let one = keep_ready(counted(c, event), event, want, part, frame);
+    hold(one, event, packet, frame, pid)
 }
 
 // Reads the next block.
-fn refill(c: Carrier, block: &mut [u8]) -> Carrier {
-    let got = input::read_block(c.fd, block);
+fn refill(c: Carrier, part: &mut [u8]) -> Carrier
+    requires { ⌜ length (now part) ≡ 49930 ⌝ }
+{
+    let got = input::read_block(c.fd, &mut part[BLOCK_AT..SUPER_AT]);
     input::say_part(got);
     let mut next = c;
     next.packets = got / PACKET_BYTES;
@@ -252,74 +260,38 @@ fn refill(c: Carrier, block: &mut [u8]) -> Carrier {
 
 // Where the next packet of a block stands, if it has one.
 fn next_at(c: Carrier) -> usize
-    ensures { λ r. ⌜ r ≤ 9776 ⌝ }
+    ensures { λ r. ⌜ (110 ≤ r) × (r ≤ 9886) ⌝ }
 {
     let taken = c.taken;
     if taken < BLOCK_PACKETS {
-        return PACKET_BYTES * taken;
+        return BLOCK_AT + PACKET_BYTES * taken;
     }
-    0
+    BLOCK_AT
 }
 
-fn take_next(
-    c: Carrier,
-    want: u64,
-    pid: u16,
-    state: &mut [u8],
-    store: &mut [u8],
-    held: &mut [u8],
-    block: &[u8],
-    part: &mut [u8],
-) -> Carrier
-    requires { ⌜ (length (now part) ≡ 39856) × (length (now held) ≡ 188) ⌝ }
-    requires { ⌜ (length (now store) ≡ 9776) × (length (now block) ≡ 9964) ⌝ }
+// Takes the next packet of the block. It is copied, since the state stands beside the block and is written.
+fn take_next(c: Carrier, want: u64, pid: u16, frame: &mut [u8], part: &mut [u8]) -> Carrier
+    requires { ⌜ (length (now frame) ≡ 9964) × (length (now part) ≡ 49930) ⌝ }
 {
     let at = next_at(c);
-    take(
-        c,
-        &block[at..at + PACKET_BYTES],
-        want,
-        pid,
-        state,
-        store,
-        held,
-        part,
-    )
+    let mut packet = [0u8; PACKET_BYTES];
+    slices::copy(&mut packet, &part[at..at + PACKET_BYTES]);
+    take(c, &packet, want, pid, frame, part)
 }
 
 // Takes the next packet of the block, or reads another block where it has none.
-fn step(
-    c: Carrier,
-    want: u64,
-    pid: u16,
-    state: &mut [u8],
-    store: &mut [u8],
-    held: &mut [u8],
-    block: &mut [u8],
-    part: &mut [u8],
-) -> Carrier
-    requires { ⌜ (length (now part) ≡ 39856) × (length (now held) ≡ 188) ⌝ }
-    requires { ⌜ (length (now store) ≡ 9776) × (length (now block) ≡ 9964) ⌝ }
+fn step(c: Carrier, want: u64, pid: u16, frame: &mut [u8], part: &mut [u8]) -> Carrier
+    requires { ⌜ (length (now frame) ≡ 9964) × (length (now part) ≡ 49930) ⌝ }
 {
     if c.taken < c.packets {
-        return take_next(c, want, pid, state, store, held, block, part);
+        return take_next(c, want, pid, frame, part);
     }
-    refill(c, block)
+    refill(c, part)
 }
 
 // Reads on until the super frame with this number is whole, or a later one has begun, or the input has ended.
-pub(crate) fn read_on(
-    c: Carrier,
-    want: u64,
-    pid: u16,
-    state: &mut [u8],
-    store: &mut [u8],
-    held: &mut [u8],
-    block: &mut [u8],
-    part: &mut [u8],
-) -> Carrier
-    requires { ⌜ (length (now part) ≡ 39856) × (length (now held) ≡ 188) ⌝ }
-    requires { ⌜ (length (now store) ≡ 9776) × (length (now block) ≡ 9964) ⌝ }
+pub(crate) fn read_on(c: Carrier, want: u64, pid: u16, frame: &mut [u8], part: &mut [u8]) -> Carrier
+    requires { ⌜ (length (now frame) ≡ 9964) × (length (now part) ≡ 49930) ⌝ }
 {
     let mut next = c;
     next.have = 0;
@@ -328,7 +300,7 @@ pub(crate) fn read_on(
         if is_past(next, want) {
             return next;
         }
-        next = step(next, want, pid, state, store, held, block, part);
+        next = step(next, want, pid, frame, part);
         if next.ended {
             return next;
         }

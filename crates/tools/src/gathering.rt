@@ -1,14 +1,18 @@
 // Super frames of all carriers gathered, one after another, and what became of them.
 use crate::carrier;
 use crate::carrier::Carrier;
+use crate::carrier::PART_BYTES;
+use crate::carrier::SUPER_AT;
 use crate::carriers;
 use crate::carriers::CARRIERS;
 use crate::carriers::GROUP_BYTES;
 use crate::carriers::STREAM_BYTES;
 use crate::carriers::SUPER_BYTES;
 use crate::says;
+use bond::Moved;
 use group::Bond;
 use libc::STDOUT_FILENO;
+use packet::FRAME_BYTES;
 use packet::PACKET_BYTES;
 ghost use mathlib.Core.Path.{_≡_};
 ghost use Prim.Native.Nat.{_≤_, _<_};
@@ -18,6 +22,12 @@ ghost use lib.ListN.{length};
 pub(crate) struct Group {
     pub(crate) carriers: [Carrier; CARRIERS],
 }
+
+// The lent memory: in front of the carriers' first parts the group's super frames, one behind another; in front of their second parts the
+// stream.
+pub(crate) const FRAMES_BYTES: usize = GROUP_BYTES + FRAME_BYTES * CARRIERS;
+
+pub(crate) const PARTS_BYTES: usize = STREAM_BYTES + PART_BYTES * CARRIERS;
 
 // What became of the super frames.
 pub(crate) struct Count {
@@ -30,9 +40,10 @@ pub(crate) struct Count {
     pub(crate) ended: bool,
 }
 
-// What holds of the carriers: all have a file; some have a part of the super frame; the input of some has ended.
+// What holds of the carriers: all have a file; all have the whole super frame; some have a part of it; the input of some has ended.
 pub(crate) struct Standing {
     pub(crate) open: bool,
+    pub(crate) whole: bool,
     pub(crate) part: bool,
     pub(crate) ended: bool,
 }
@@ -40,6 +51,7 @@ pub(crate) struct Standing {
 fn with_carrier(s: Standing, one: Carrier) -> Standing {
     Standing {
         open: s.open && one.fd >= 0,
+        whole: s.whole && carrier::frames_whole(one) != 0,
         part: s.part || one.have != 0,
         ended: s.ended || one.ended,
     }
@@ -50,6 +62,7 @@ pub(crate) fn standing_of(g: Group, n: usize) -> Standing
 {
     let mut all = Standing {
         open: true,
+        whole: true,
         part: false,
         ended: false,
     };
@@ -77,42 +90,39 @@ fn frames_of(g: Group, n: usize) -> [u8; CARRIERS]
     frames
 }
 
-// Whether all carriers have their super frame.
-fn all_whole(frames: &[u8], n: usize) -> bool
-    requires { ⌜ n ≤ length (now frames) ⌝ }
+// Puts the super frame of carrier c, which has so many frames, behind so many bytes of the group.
+fn put_super(frames: &mut [u8], before: usize, parts: &[u8], c: usize, size: u8)
+    requires { ⌜ (length (now frames) ≡ 398560) × (length (now parts) ≡ 712272) ⌝ }
+    requires { ⌜ (before ≤ 318848) × (c < 8) ⌝ }
 {
-    let mut c = 0;
-    while c < n {
-        if frames[c] == 0 {
-            return false;
-        }
-        c += 1;
-    }
-    true
+    let left = carriers::at_most(SUPER_BYTES, GROUP_BYTES - before);
+    let bytes = carriers::bytes_of(size, left);
+    let from = STREAM_BYTES + SUPER_AT + PART_BYTES * c;
+    slices::copy(
+        &mut frames[before..before + bytes],
+        &parts[from..from + bytes],
+    );
 }
 
 // Puts the carriers' super frames one behind another.
-fn join(group: &mut [u8], supers: &[u8], frames: &[u8], n: usize)
-    requires { ⌜ (length (now frames) ≡ 8) × (length (now supers) ≡ 318848) ⌝ }
-    requires { ⌜ (length (now group) ≡ 318848) × (n ≤ 8) ⌝ }
+fn join(frames: &mut [u8], parts: &[u8], sizes: &[u8], n: usize)
+    requires { ⌜ (length (now frames) ≡ 398560) × (length (now parts) ≡ 712272) ⌝ }
+    requires { ⌜ (length (now sizes) ≡ 8) × (n ≤ 8) ⌝ }
 {
     let mut c = 0;
     while c < n {
-        let at = carriers::bytes_before(frames, c);
-        let left = carriers::at_most(SUPER_BYTES, GROUP_BYTES - at);
-        let bytes = carriers::bytes_of(frames[c], left);
-        let from = SUPER_BYTES * c;
-        slices::copy(&mut group[at..at + bytes], &supers[from..from + bytes]);
+        let before = carriers::bytes_before(sizes, c);
+        put_super(frames, before, parts, c, sizes[c]);
         c += 1;
     }
 }
 
-// Writes so many packets. Answers whether they were taken.
-fn write(out: &[u8], packets: usize) -> bool
-    requires { ⌜ length (now out) ≡ 312832 ⌝ }
+// Writes so many packets of the stream. Answers whether they were taken.
+fn write(parts: &[u8], packets: usize) -> bool
+    requires { ⌜ length (now parts) ≡ 712272 ⌝ }
 {
     let end = carriers::at_most(packets, STREAM_BYTES / PACKET_BYTES);
-    if !io::write_all(STDOUT_FILENO, &out[0..PACKET_BYTES * end]) {
+    if !io::write_all(STDOUT_FILENO, &parts[0..PACKET_BYTES * end]) {
         os::fail(b"standard output");
         return false;
     }
@@ -149,15 +159,29 @@ fn say_progress(out: u64) {
     }
 }
 
-// Gathers the group and writes the stream.
-fn gather(group: &[u8], out: &mut [u8], bond: Bond, count: Count) -> Count
-    requires { ⌜ length (now out) ≡ 312832 ⌝ }
+// Gathers a group. Of all that is promised of it the programs rest on no more than that it ends.
+fn gather_into(out: &mut [u8], group: &[u8], bond: Bond) -> Moved {
+    bond::gather(group, out, bond)
+}
+
+// Gathers the group, which has so many bytes.
+fn gather_group(frames: &[u8], bytes: usize, parts: &mut [u8], bond: Bond) -> Moved
+    requires { ⌜ (length (now frames) ≡ 398560) × (length (now parts) ≡ 712272) ⌝ }
+    requires { ⌜ bytes ≤ 318848 ⌝ }
 {
-    let moved = bond::gather(group, out, bond);
+    gather_into(&mut parts[0..STREAM_BYTES], &frames[0..bytes], bond)
+}
+
+// Gathers the group and writes the stream.
+fn gather(frames: &[u8], bytes: usize, parts: &mut [u8], bond: Bond, count: Count) -> Count
+    requires { ⌜ (length (now frames) ≡ 398560) × (length (now parts) ≡ 712272) ⌝ }
+    requires { ⌜ bytes ≤ 318848 ⌝ }
+{
+    let moved = gather_group(frames, bytes, parts, bond);
     if moved.refusal != 0 {
         return with_refusal(count, moved.refusal);
     }
-    if !write(out, moved.packets) {
+    if !write(parts, moved.packets) {
         let mut last = count;
         last.ended = true;
         return last;
@@ -174,10 +198,7 @@ fn gather(group: &[u8], out: &mut [u8], bond: Bond, count: Count) -> Count
 }
 
 // What comes of a super frame of which some carrier has not all.
-fn not_whole(g: Group, n: usize, count: Count) -> Count
-    requires { ⌜ n ≤ 8 ⌝ }
-{
-    let now = standing_of(g, n);
+fn not_whole(now: Standing, count: Count) -> Count {
     let mut next = count;
     next.ended = now.ended;
     if now.part || !now.ended {
@@ -189,22 +210,22 @@ fn not_whole(g: Group, n: usize, count: Count) -> Count
 pub(crate) fn one_super(
     g: Group,
     n: usize,
-    supers: &[u8],
-    group: &mut [u8],
-    out: &mut [u8],
+    frames: &mut [u8],
+    parts: &mut [u8],
     bond: Bond,
     count: Count,
 ) -> Count
-    requires { ⌜ (length (now supers) ≡ 318848) × (length (now group) ≡ 318848) ⌝ }
-    requires { ⌜ (length (now out) ≡ 312832) × (n ≤ 8) ⌝ }
+    requires { ⌜ (length (now frames) ≡ 398560) × (length (now parts) ≡ 712272) ⌝ }
+    requires { ⌜ n ≤ 8 ⌝ }
 {
-    let frames = frames_of(g, n);
-    if !all_whole(&frames, n) {
-        return not_whole(g, n, count);
+    let now = standing_of(g, n);
+    if !now.whole {
+        return not_whole(now, count);
     }
-    join(group, supers, &frames, n);
-    let end = carriers::bytes_before(&frames, n);
-    gather(&group[0..end], out, bond, count)
+    let sizes = frames_of(g, n);
+    join(frames, parts, &sizes, n);
+    let bytes = carriers::bytes_before(&sizes, n);
+    gather(frames, bytes, parts, bond, count)
 }
 
 pub(crate) fn say(count: Count) {

@@ -1,6 +1,7 @@
 // mux: transport streams in, frames out.
 use crate::arguments;
 use crate::arguments::Number;
+use crate::carriers;
 use crate::input;
 use crate::plan;
 use crate::plan::SHARES;
@@ -165,20 +166,11 @@ fn open_all(fds: &mut [i32], first: usize, streams: usize) -> bool
     true
 }
 
-// What a frame's streams brought: refusal 0 and how many packets, or the refusal's number.
+// What a frame's streams brought so far: refusal 0 and how many packets, or the refusal's number.
 struct Filled {
     refusal: u8,
     packets: usize,
     state: Composer,
-}
-
-fn at_most(slots: u32) -> usize
-    ensures { λ r. ⌜ r ≤ 52 ⌝ }
-{
-    if slots < SLOTS as u32 {
-        return slots as usize;
-    }
-    SLOTS
 }
 
 // Reads as many packets as there are slots, or as are left. Answers the bytes of whole packets.
@@ -186,7 +178,7 @@ fn read_packets(fd: i32, bytes: &mut [u8], slots: u32, r: u8) -> usize
     requires { ⌜ length (now bytes) ≡ 9776 ⌝ }
     ensures { λ t. ⌜ Counts t (now (bytes .exit)) ⌝ }
 {
-    let most = at_most(slots);
+    let most = carriers::at_most(slots as usize, SLOTS);
     let got = input::read_block(fd, &mut bytes[0..PACKET_BYTES * most]);
     let tail = got % PACKET_BYTES;
     if tail != 0 {
@@ -196,7 +188,8 @@ fn read_packets(fd: i32, bytes: &mut [u8], slots: u32, r: u8) -> usize
     got - tail
 }
 
-fn put_packets(run: Composer, frame: &mut [u8], packets: &[u8], r: u8) -> Filled {
+fn put_packets(filled: Filled, frame: &mut [u8], packets: &[u8], r: u8) -> Filled {
+    let run = filled.state;
     let put = frame::put(run, frame, packets, RelativeNumber(r));
     let state = put.state;
     if put.refusal != 0 {
@@ -205,39 +198,32 @@ fn put_packets(run: Composer, frame: &mut [u8], packets: &[u8], r: u8) -> Filled
     }
     Filled {
         refusal: put.refusal,
-        packets: put.placed,
+        packets: std::num::wrapping_add_usize(filled.packets, put.placed),
         state,
     }
 }
 
-fn put_stream(run: Composer, frame: &mut [u8], fd: i32, slots: u32, r: u8) -> Filled {
+fn put_stream(filled: Filled, frame: &mut [u8], fd: i32, slots: u32, r: u8) -> Filled {
     let mut bytes = [0u8; STORE_BYTES];
     let n = read_packets(fd, &mut bytes, slots, r);
-    put_packets(run, frame, &bytes[0..n], r)
+    put_packets(filled, frame, &bytes[0..n], r)
 }
 
 // Puts one stream after another.
-fn fill(run: Composer, frame: &mut [u8], fds: &[i32], slots: &[u32], streams: usize) -> Filled
+fn fill(start: Filled, frame: &mut [u8], fds: &[i32], slots: &[u32], streams: usize) -> Filled
     requires { ⌜ (length (now fds) ≡ 15) × (length (now slots) ≡ 16) ⌝ }
     requires { ⌜ streams ≤ 15 ⌝ }
 {
-    let mut state = run;
-    let mut packets = 0;
+    let mut filled = start;
     let mut k = 0;
     while k < streams {
-        let put = put_stream(state, frame, fds[k], slots[k + 1], (k + 1) as u8);
-        state = put.state;
-        packets = std::num::wrapping_add_usize(packets, put.packets);
-        if put.refusal != 0 {
-            return put;
+        filled = put_stream(filled, frame, fds[k], slots[k + 1], (k + 1) as u8);
+        if filled.refusal != 0 {
+            return filled;
         }
         k += 1;
     }
-    Filled {
-        refusal: 0,
-        packets,
-        state,
-    }
+    filled
 }
 
 // The run behind a frame, and whether it goes on.
@@ -283,7 +269,12 @@ fn finish_frame(run: Composer, frame: &mut [u8], fds: &[i32], slots: &[u32], str
     requires { ⌜ (length (now fds) ≡ 15) × (length (now slots) ≡ 16) ⌝ }
     requires { ⌜ (streams ≤ 15) × (length (now frame) ≡ 9964) ⌝ }
 {
-    let filled = fill(run, frame, fds, slots, streams);
+    let empty = Filled {
+        refusal: 0,
+        packets: 0,
+        state: run,
+    };
+    let filled = fill(empty, frame, fds, slots, streams);
     if filled.refusal != 0 {
         let state = filled.state;
         return Made { more: false, state };

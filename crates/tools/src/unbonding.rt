@@ -2,21 +2,21 @@
 use crate::arguments;
 use crate::arguments::Number;
 use crate::carrier;
-use crate::carrier::BLOCK_BYTES;
 use crate::carrier::Carrier;
+use crate::carrier::PART_BYTES;
 use crate::carriers::CARRIERS;
 use crate::carriers::GROUP_BYTES;
 use crate::carriers::STREAM_BYTES;
-use crate::carriers::SUPER_BYTES;
 use crate::gathering;
 use crate::gathering::Count;
+use crate::gathering::FRAMES_BYTES;
 use crate::gathering::Group;
+use crate::gathering::PARTS_BYTES;
 use crate::says;
 use crate::tally;
 use board_receiver::RECEIVER_BYTES;
 use group::Bond;
-use packet::PACKET_BYTES;
-use receiver::STORE_BYTES;
+use packet::FRAME_BYTES;
 ghost use mathlib.Core.Path.{_≡_};
 ghost use Prim.Native.Nat.{_≤_, _<_};
 ghost use lib.ListN.{length};
@@ -44,13 +44,13 @@ fn open_all(g: Group, first: usize, n: usize) -> Group
 }
 
 // Starts the receivers of all carriers.
-fn start_receivers(states: &mut [u8], pid: u16)
-    requires { ⌜ length (now states) ≡ 880 ⌝ }
+fn start_receivers(parts: &mut [u8], pid: u16)
+    requires { ⌜ length (now parts) ≡ 712272 ⌝ }
 {
     let mut c = 0;
     while c < CARRIERS {
-        let at = RECEIVER_BYTES * c;
-        board_receiver::niranbok_receiver_start(&mut states[at..at + RECEIVER_BYTES], pid, 1);
+        let at = STREAM_BYTES + PART_BYTES * c;
+        board_receiver::niranbok_receiver_start(&mut parts[at..at + RECEIVER_BYTES], pid, 1);
         c += 1;
     }
 }
@@ -61,57 +61,33 @@ fn read_one(
     c: usize,
     want: u64,
     pid: u16,
-    states: &mut [u8],
-    stores: &mut [u8],
-    held: &mut [u8],
-    blocks: &mut [u8],
-    supers: &mut [u8],
+    frames: &mut [u8],
+    parts: &mut [u8],
 ) -> Carrier
-    requires { ⌜ (length (now states) ≡ 880) × (length (now stores) ≡ 78208) ⌝ }
-    requires { ⌜ (length (now held) ≡ 1504) × (length (now blocks) ≡ 79712) ⌝ }
-    requires { ⌜ (length (now supers) ≡ 318848) × (c < 8) ⌝ }
+    requires { ⌜ (length (now frames) ≡ 398560) × (length (now parts) ≡ 712272) ⌝ }
+    requires { ⌜ c < 8 ⌝ }
 {
-    let state = RECEIVER_BYTES * c;
-    let store = STORE_BYTES * c;
-    let header = PACKET_BYTES * c;
-    let block = BLOCK_BYTES * c;
-    let part = SUPER_BYTES * c;
+    let frame = GROUP_BYTES + FRAME_BYTES * c;
+    let part = STREAM_BYTES + PART_BYTES * c;
     carrier::read_on(
         one,
         want,
         pid,
-        &mut states[state..state + RECEIVER_BYTES],
-        &mut stores[store..store + STORE_BYTES],
-        &mut held[header..header + PACKET_BYTES],
-        &mut blocks[block..block + BLOCK_BYTES],
-        &mut supers[part..part + SUPER_BYTES],
+        &mut frames[frame..frame + FRAME_BYTES],
+        &mut parts[part..part + PART_BYTES],
     )
 }
 
 // Reads each carrier on to there.
-fn read_on(
-    g: Group,
-    want: u64,
-    pid: u16,
-    n: usize,
-    states: &mut [u8],
-    stores: &mut [u8],
-    held: &mut [u8],
-    blocks: &mut [u8],
-    supers: &mut [u8],
-) -> Group
-    requires { ⌜ (length (now states) ≡ 880) × (length (now stores) ≡ 78208) ⌝ }
-    requires { ⌜ (length (now held) ≡ 1504) × (length (now blocks) ≡ 79712) ⌝ }
-    requires { ⌜ (length (now supers) ≡ 318848) × (n ≤ 8) ⌝ }
+fn read_on(g: Group, want: u64, pid: u16, n: usize, frames: &mut [u8], parts: &mut [u8]) -> Group
+    requires { ⌜ (length (now frames) ≡ 398560) × (length (now parts) ≡ 712272) ⌝ }
+    requires { ⌜ n ≤ 8 ⌝ }
 {
     let mut next = g;
     let mut c = 0;
-    while c < CARRIERS {
-        if n <= c {
-            return next;
-        }
+    while c < n {
         let one = next.carriers[c];
-        next.carriers[c] = read_one(one, c, want, pid, states, stores, held, blocks, supers);
+        next.carriers[c] = read_one(one, c, want, pid, frames, parts);
         c += 1;
     }
     next
@@ -136,72 +112,74 @@ struct State {
     count: Count,
 }
 
-// Reads and gathers until the input ends. A loop that is proved has to end: the super frames' numbers do.
-fn unbond(g: Group, n: usize, bond: Bond) -> State
-    requires { ⌜ n ≤ 8 ⌝ }
-{
-    let mut states = [0u8; RECEIVER_BYTES * CARRIERS];
-    start_receivers(&mut states, bond.pid);
-    let mut stores = [0u8; STORE_BYTES * CARRIERS];
-    let mut held = [0u8; PACKET_BYTES * CARRIERS];
-    let mut blocks = [0u8; BLOCK_BYTES * CARRIERS];
-    let mut supers = [0u8; GROUP_BYTES];
-    unbond_with(
-        g,
-        n,
-        bond,
-        &mut states,
-        &mut stores,
-        &mut held,
-        &mut blocks,
-        &mut supers,
-    )
-}
-
-fn unbond_with(
-    g: Group,
+// Reads the super frame with this number, and gathers it.
+fn next_super(
+    s: State,
+    want: u64,
     n: usize,
     bond: Bond,
-    states: &mut [u8],
-    stores: &mut [u8],
-    held: &mut [u8],
-    blocks: &mut [u8],
-    supers: &mut [u8],
+    frames: &mut [u8],
+    parts: &mut [u8],
 ) -> State
-    requires { ⌜ (length (now states) ≡ 880) × (length (now stores) ≡ 78208) ⌝ }
-    requires { ⌜ (length (now held) ≡ 1504) × (length (now blocks) ≡ 79712) ⌝ }
-    requires { ⌜ (length (now supers) ≡ 318848) × (n ≤ 8) ⌝ }
+    requires { ⌜ (length (now frames) ≡ 398560) × (length (now parts) ≡ 712272) ⌝ }
+    requires { ⌜ n ≤ 8 ⌝ }
 {
-    let mut group = [0u8; GROUP_BYTES];
-    let mut out = [0u8; STREAM_BYTES];
-    let mut next = g;
-    let mut count = Count {
+    let before = s.count;
+    let group = read_on(s.group, want, bond.pid, n, frames, parts);
+    let count = gathering::one_super(group, n, frames, parts, bond, before);
+    State { group, count }
+}
+
+// Reads and gathers until the input ends. A loop that is proved has to end: the super frames' numbers do.
+fn unbond_with(start: State, n: usize, bond: Bond, frames: &mut [u8], parts: &mut [u8]) -> State
+    requires { ⌜ (length (now frames) ≡ 398560) × (length (now parts) ≡ 712272) ⌝ }
+    requires { ⌜ n ≤ 8 ⌝ }
+{
+    let mut s = start;
+    let mut want: u64 = 0;
+    while want < u64::MAX {
+        s = next_super(s, want, n, bond, frames, parts);
+        let count = s.count;
+        if count.ended {
+            return s;
+        }
+        want += 1;
+    }
+    s
+}
+
+fn start_and_unbond(
+    start: State,
+    n: usize,
+    bond: Bond,
+    frames: &mut [u8],
+    parts: &mut [u8],
+) -> State
+    requires { ⌜ (length (now frames) ≡ 398560) × (length (now parts) ≡ 712272) ⌝ }
+    requires { ⌜ n ≤ 8 ⌝ }
+{
+    start_receivers(parts, bond.pid);
+    unbond_with(start, n, bond, frames, parts)
+}
+
+// What is copied goes from one of the two to the other: a frame, then a super frame, then the group, then the stream.
+fn unbond(start: State, n: usize, bond: Bond) -> State
+    requires { ⌜ n ≤ 8 ⌝ }
+{
+    let mut frames = [0u8; FRAMES_BYTES];
+    let mut parts = [0u8; PARTS_BYTES];
+    start_and_unbond(start, n, bond, &mut frames, &mut parts)
+}
+
+// Nothing became of any super frame yet.
+fn no_count() -> Count {
+    Count {
         out: 0,
         dropped: 0,
         packets: 0,
         said: false,
         ended: false,
-    };
-    let mut want: u64 = 0;
-    while want < u64::MAX {
-        next = read_on(
-            next,
-            want,
-            bond.pid,
-            n,
-            states,
-            stores,
-            held,
-            blocks,
-            supers,
-        );
-        count = gathering::one_super(next, n, supers, &mut group, &mut out, bond, count);
-        if count.ended {
-            return State { group: next, count };
-        }
-        want += 1;
     }
-    State { group: next, count }
 }
 
 fn run_files(bond: Bond, first: usize, n: usize)
@@ -219,7 +197,11 @@ fn run_files(bond: Bond, first: usize, n: usize)
     if !opened.open {
         return;
     }
-    let end = unbond(g, n, bond);
+    let start = State {
+        group: g,
+        count: no_count(),
+    };
+    let end = unbond(start, n, bond);
     let group = end.group;
     let count = end.count;
     say_carriers(group, bond.pid, n);

@@ -7,10 +7,10 @@ use Rattle.tools.proofs.mux.fill.Statement.{statement}
 use Rattle.tools.proofs.mux.fill.Tie as tie
 
 abbrev Inv-loop : tie.InvT-loop
-Inv-loop frame₀ fds slots streams state₀ packets₀ k₀ frame state packets k = length frame ≡ length frame₀
+Inv-loop frame₀ fds slots streams filled₀ k₀ frame filled k = length frame ≡ length frame₀
 
 abbrev μ-loop : tie.MeasureT-loop
-μ-loop frame₀ fds slots streams state₀ packets₀ k₀ frame state packets k = streams - k
+μ-loop frame₀ fds slots streams filled₀ k₀ frame filled k = streams - k
 
 loop-holds : tie.Need-loop-holds Inv-loop μ-loop
 loop-holds c = refl
@@ -38,9 +38,6 @@ cast-put-stream c = search needs
 
 put-stream-requires : tie.Need-put-stream-requires Inv-loop μ-loop
 put-stream-requires c κs = search needs
-
-wrapping-add-usize-requires : tie.Need-wrapping-add-usize-requires Inv-loop μ-loop
-wrapping-add-usize-requires c κs = search needs
 
 same-length : tie.Need-same-length Inv-loop μ-loop
 same-length c = search needs
@@ -78,7 +75,6 @@ fill-spec =
     add-put-stream-2
     cast-put-stream
     put-stream-requires
-    wrapping-add-usize-requires
     same-length
     returns
     add-k

@@ -7,16 +7,19 @@ use Rattle.tools.proofs.unbonding.start_receivers.Statement.{statement}
 use Rattle.tools.proofs.unbonding.start_receivers.Tie as tie
 
 abbrev Inv-loop : tie.InvT-loop
-Inv-loop states₀ pid c₀ states c = length states ≡ length states₀
+Inv-loop parts₀ pid c₀ parts c = length parts ≡ length parts₀
 
 abbrev μ-loop : tie.MeasureT-loop
-μ-loop states₀ pid c₀ states c = 8 - c
+μ-loop parts₀ pid c₀ parts c = 8 - c
 
 loop-holds : tie.Need-loop-holds Inv-loop μ-loop
 loop-holds c = refl
 
 mul-at : tie.Need-mul-at Inv-loop μ-loop
 mul-at c = search needs
+
+add-at : tie.Need-add-at Inv-loop μ-loop
+add-at c = search needs
 
 add-niranbok-receiver-start : tie.Need-add-niranbok-receiver-start Inv-loop μ-loop
 add-niranbok-receiver-start c = search needs
@@ -56,6 +59,7 @@ start-receivers-spec =
     μ-loop
     loop-holds
     mul-at
+    add-at
     add-niranbok-receiver-start
     sub-niranbok-receiver-start
     part-niranbok-receiver-start-start
