@@ -2,8 +2,8 @@
 mod states;
 
 use coding::SETTING_BYTES;
+use composer_state::Composer;
 use counters::RelativeNumber;
-use frame::Composer;
 ghost use mathlib.Core.Path.{_≡_};
 ghost use Rattle.board_frame.specs.Calls.{startRefused, startState, beginRefused, beginState, beginMemory, putRefused, putPlaced, putState, putMemory, closeRefused, closeState, closeMemory};
 
@@ -25,7 +25,7 @@ pub extern "C" fn niranbok_composer_start(state: &mut [u8], pid: u16, kind: u8) 
     if 1 < kind {
         return 17;
     }
-    let started = frame::start(pid, words::kind_of(kind));
+    let started = composer_begin::start(pid, words::kind_of(kind));
     states::write_composer(state, started.state);
     0
 }
@@ -44,7 +44,7 @@ pub extern "C" fn niranbok_composer_begin(state: &mut [u8], frame: &mut [u8], se
         return 1;
     }
     let run = states::composer_of(state);
-    let begun = frame::begin(run, frame, decoding::setting_of(setting));
+    let begun = composer_begin::begin(run, frame, setting_bytes::setting_of(setting));
     if begun.refusal != 0 {
         return begun.refusal;
     }
@@ -71,7 +71,7 @@ pub extern "C" fn niranbok_composer_put(
         return 1;
     }
     let run = states::composer_of(state);
-    let answer = frame::put(run, frame, stream, RelativeNumber(r));
+    let answer = composer_put::put(run, frame, stream, RelativeNumber(r));
     *placed = answer.placed;
     if answer.refusal != 0 {
         return answer.refusal;
@@ -91,7 +91,7 @@ pub extern "C" fn niranbok_composer_close(state: &mut [u8], frame: &mut [u8]) ->
         return 1;
     }
     let run = states::composer_of(state);
-    let closed = frame::close(run, frame);
+    let closed = composer_close::close(run, frame);
     if closed.refusal != 0 {
         return closed.refusal;
     }

@@ -2,7 +2,7 @@
 // its setting, its filled slots.
 use coding::ANNOUNCED_BYTES;
 use coding::SETTING_BYTES;
-use frame::Composer;
+use composer_state::Composer;
 use setting::SLOTS;
 ghost use mathlib.Core.Path.{_≡_};
 ghost use mathlib.Core.List.{[], _∷_, _++_, map};
@@ -78,8 +78,8 @@ pub(crate) fn composer_of(bytes: &[u8]) -> Composer
     if !is_coded(bytes) {
         counter = 255;
     }
-    let last = decoding::announced_of(&bytes[LAST..OPEN]);
-    let setting = decoding::setting_of(&bytes[SETTING..FILLED]);
+    let last = announced_bytes::announced_of(&bytes[LAST..OPEN]);
+    let setting = setting_bytes::setting_of(&bytes[SETTING..FILLED]);
     let mut filled = [false; SLOTS];
     read_marks(&mut filled, &bytes[FILLED..COMPOSER_BYTES]);
     Composer {
@@ -112,10 +112,10 @@ pub(crate) fn write_composer(bytes: &mut [u8], c: Composer)
 {
     write_front(&mut bytes[0..LAST], c);
     let last = c.last;
-    encoding::write_announced(&mut bytes[LAST..OPEN], last);
+    announced_bytes::write_announced(&mut bytes[LAST..OPEN], last);
     bytes[OPEN] = mark_byte(c.is_open);
     let setting = c.setting;
-    encoding::write_setting(&mut bytes[SETTING..FILLED], setting);
+    setting_bytes::write_setting(&mut bytes[SETTING..FILLED], setting);
     let filled = c.filled;
     write_marks(&mut bytes[FILLED..COMPOSER_BYTES], &filled);
 }

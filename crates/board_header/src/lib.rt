@@ -42,11 +42,11 @@ pub extern "C" fn niranbok_header_write(packet: &mut [u8], pid: u16, kind: u8, s
     if call != 0 {
         return call;
     }
-    header::write(
+    header_writer::write(
         packet,
         pid,
         words::kind_of(kind),
-        decoding::setting_of(setting),
+        setting_bytes::setting_of(setting),
     )
 }
 
@@ -60,10 +60,10 @@ pub extern "C" fn niranbok_header_read(packet: &[u8], pid: u16, kind: u8, settin
     if call != 0 {
         return call;
     }
-    let reading = header::read(packet, pid, words::kind_of(kind));
+    let reading = header_reader::read(packet, pid, words::kind_of(kind));
     if reading.refusal != 0 {
         return reading.refusal;
     }
-    encoding::write_setting(setting, reading.setting);
+    setting_bytes::write_setting(setting, reading.setting);
     0
 }

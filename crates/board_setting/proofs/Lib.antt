@@ -1,2 +1,1 @@
-mod Numbers
 mod Settled
