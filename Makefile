@@ -1,7 +1,7 @@
 # `make tools` proves and builds mux, demux, bond and unbond; `make run` the lister, and lists the sample; `make test` is the gate;
 # `make board` makes the archive for C; `make bench` measures; `make memory` runs the comparison under valgrind; `make real` takes real
 # streams through the tools.
-.PHONY: tools rust-test real run test board board-test bench memory vectors x86-64 natively
+.PHONY: tools rust-test tools-test proofs real run test board board-test bench memory vectors x86-64 natively
 SHELL = /bin/bash
 .SHELLFLAGS = -o pipefail -c
 
@@ -42,10 +42,14 @@ else
 	for name in mux demux bond unbond; do ln -sf ../bin/tools target/tools/$$name; done
 endif
 
-# The independent programs' own tests; the tools on good and bad input, held to what the independent Rust makes of the same. What it runs is
-# there before, so that no second rt writes into target/ beside board-test's.
+# The independent programs' own tests, and the tests of the tools made ready.
 rust-test:
-	cd compare && cargo test --quiet && cargo test --quiet -p tools
+	cd compare && nice -n 19 cargo test --quiet && nice -n 19 cargo test --quiet -p tools --no-run
+
+# The tools on good and bad input, held to what the independent Rust makes of the same. They are there before, so that no second rt writes
+# into target/ beside board-test's.
+tools-test:
+	cd compare && cargo test --quiet -p tools
 
 # Two streams by ffmpeg, multiplexed, taken apart and compared, whole and with packets lost.
 real: tools
@@ -56,13 +60,18 @@ run: x86-64
 	rt check lister
 	$(EMULATOR) target/bin/lister < samples/recording.ts
 
-# The proofs, the wrong programs and the programs (`rt ci`, which starts from nothing); then what is linked with the archive, the independent
-# programs and the tools. The last line printed is rt's. Many at a time keep two cores busy where checks take unequal times.
-test: x86-64
+# The proofs, the wrong programs and the programs (`rt ci`, which starts from nothing); many at a time keep two cores busy where checks take
+# unequal times.
+proofs:
 	mkdir -p $(dir $(GATE))
 	RT_JOBS=16 rt ci | tee $(GATE)
+
+# The proofs, and the independent programs' own tests while a core is idle; then what is linked with the archive, and the tools. The last
+# line printed is rt's.
+test: x86-64
+	$(MAKE) --no-print-directory -j 2 proofs rust-test
 	$(MAKE) --no-print-directory tools
-	$(MAKE) --no-print-directory -j 2 board-test rust-test
+	$(MAKE) --no-print-directory -j 2 board-test tools-test
 	@tail -n 1 $(GATE)
 
 # The board interface as one archive, target/board/libniranbok.a, for include/niranbok.h.
