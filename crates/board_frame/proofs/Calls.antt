@@ -9,7 +9,7 @@ use Rattle.composer_state.specs.declared.Placed.{Placed}
 use Rattle.composer_state.specs.Composing.{beginOf, begunFrame, putOf, putFrame, closeOf, closedFrame}
 use Rattle.refusal_table.specs.Refusal.{leaves}
 use Rattle.coding.specs.Settings.{settingLength, settingOf}
-use Rattle.board_frame.specs.States.{composerLength, composerBytes, composerOf}
+use Rattle.composer_bytes.specs.States.{composerLength, composerBytes, composerOf}
 use Rattle.board_frame.specs.Calls.{beginRefused, beginState, beginMemory, putRefused, putPlaced, putState, putMemory, closeRefused, closeState, closeMemory}
 
 -- a refused call leaves memory as it was; another leaves what it made

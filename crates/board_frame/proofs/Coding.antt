@@ -21,10 +21,10 @@ use Rattle.words.specs.Kinds.{isKind, kindNumber}
 use Rattle.coding.specs.Settings.{part, announcedBytes, settingLength, settingBytes, settingOf}
 use Rattle.coding.proofs.Parts.{length-announced}
 use Rattle.coding.proofs.Back.{part-behind, part-first, byte-behind, long, announced-back, length-setting, setting-back, kind-back}
-use Rattle.board_frame.specs.States.{composerLength, markByte, composerBytes, isCoded, noCounter, composerOf}
+use Rattle.composer_bytes.specs.States.{composerLength, markByte, composerBytes, isCoded, noCounter, composerOf}
 use Rattle.board_frame.specs.Calls.{beginRefused, putRefused, closeRefused}
 use Rattle.board_frame.specs.Demands.{StateBack, Uncoded, UncodedRefused}
-use Rattle.board_frame.proofs.Parts.{frontBytes, length-front, Long-state}
+use Rattle.composer_bytes.proofs.Parts.{frontBytes, length-front, Long-state}
 
 -- ---- marks
 

@@ -1,4 +1,2 @@
-pub mod Marks
-pub mod Parts
 pub mod Calls
 pub mod Coding

@@ -9,7 +9,7 @@ use Rattle.rules.specs.Rules.{pidAllowed}
 use Rattle.composer_state.specs.Composing.{startOf, beginOf, begunFrame, putOf, putFrame, closeOf, closedFrame}
 use Rattle.words.specs.Kinds.{isKind, kindOf}
 use Rattle.coding.specs.Settings.{settingLength, settingOf}
-use Rattle.board_frame.specs.States.{composerLength, composerBytes, composerOf}
+use Rattle.composer_bytes.specs.States.{composerLength, composerBytes, composerOf}
 
 -- start: 1, 2, and 17 for a number that is no kind
 unfoldable pub startRefused : List ℕ → ℕ → ℕ → ℕ

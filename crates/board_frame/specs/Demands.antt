@@ -9,7 +9,7 @@ use Rattle.packet.specs.Packets.{packetLength, frameLength}
 use Rattle.composer_state.specs.declared.Composer.{Composer}
 use Rattle.words.specs.Words.{wordAt}
 use Rattle.coding.specs.Settings.{settingLength}
-use Rattle.board_frame.specs.States.{composerLength, composerBytes, composerOf, isCoded, OfItsTypes}
+use Rattle.composer_bytes.specs.States.{composerLength, composerBytes, composerOf, isCoded, OfItsTypes}
 use Rattle.board_frame.specs.Calls.{beginRefused, putRefused, closeRefused}
 
 -- 'Decoding what was encoded gives the value back.'

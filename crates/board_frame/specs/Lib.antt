@@ -1,4 +1,3 @@
 -- The composer for callers in other languages: its state as bytes, and its calls over them.
-pub mod States
 pub mod Calls
 pub mod Demands

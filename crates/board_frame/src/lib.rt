@@ -1,14 +1,9 @@
 // The composer for callers in other languages: its state is lent bytes, and each call is the composer's own under their coding.
-mod states;
-
 use coding::SETTING_BYTES;
-use composer_state::Composer;
+pub use composer_bytes::COMPOSER_BYTES;
 use counters::RelativeNumber;
 ghost use mathlib.Core.Path.{_≡_};
 ghost use Rattle.board_frame.specs.Calls.{startRefused, startState, beginRefused, beginState, beginMemory, putRefused, putPlaced, putState, putMemory, closeRefused, closeState, closeMemory};
-
-// How many bytes a composer's state takes.
-pub const COMPOSER_BYTES: usize = states::COMPOSER_BYTES;
 
 // Starts a run: writes its state.
 #[no_mangle]
@@ -26,7 +21,7 @@ pub extern "C" fn niranbok_composer_start(state: &mut [u8], pid: u16, kind: u8) 
         return 17;
     }
     let started = composer_begin::start(pid, words::kind_of(kind));
-    states::write_composer(state, started.state);
+    composer_bytes::write_composer(state, started.state);
     0
 }
 
@@ -43,12 +38,12 @@ pub extern "C" fn niranbok_composer_begin(state: &mut [u8], frame: &mut [u8], se
     if setting.len() != SETTING_BYTES {
         return 1;
     }
-    let run = states::composer_of(state);
+    let run = composer_bytes::composer_of(state);
     let begun = composer_begin::begin(run, frame, setting_bytes::setting_of(setting));
     if begun.refusal != 0 {
         return begun.refusal;
     }
-    states::write_composer(state, begun.state);
+    composer_bytes::write_composer(state, begun.state);
     0
 }
 
@@ -70,13 +65,13 @@ pub extern "C" fn niranbok_composer_put(
         *placed = 0;
         return 1;
     }
-    let run = states::composer_of(state);
+    let run = composer_bytes::composer_of(state);
     let answer = composer_put::put(run, frame, stream, RelativeNumber(r));
     *placed = answer.placed;
     if answer.refusal != 0 {
         return answer.refusal;
     }
-    states::write_composer(state, answer.state);
+    composer_bytes::write_composer(state, answer.state);
     0
 }
 
@@ -90,11 +85,11 @@ pub extern "C" fn niranbok_composer_close(state: &mut [u8], frame: &mut [u8]) ->
     if state.len() != COMPOSER_BYTES {
         return 1;
     }
-    let run = states::composer_of(state);
+    let run = composer_bytes::composer_of(state);
     let closed = composer_close::close(run, frame);
     if closed.refusal != 0 {
         return closed.refusal;
     }
-    states::write_composer(state, closed.state);
+    composer_bytes::write_composer(state, closed.state);
     0
 }

@@ -1,5 +1,5 @@
 -- `niranbok_composer_begin` meets its contract. Assumes nothing.
-use mathlib.Core.Path.{_≡_, refl, ap₂, _∙_}
+use mathlib.Core.Path.{_≡_, refl, ap, ap₂, _∙_}
 use borrow.Author.Tests.{eq-eqb, ne-eqb}
 use lib.ListN.{length}
 use Rattle.setting.specs.declared.Setting.{Setting}
@@ -7,8 +7,9 @@ use Rattle.composer_state.specs.declared.Composer.{Composer}
 use Rattle.composer_state.specs.Composing.{beginOf, begunFrame}
 use Rattle.refusal_table.specs.Refusal.{leaves}
 use Rattle.coding.specs.Settings.{settingLength, settingOf}
-use Rattle.board_frame.specs.States.{composerLength, composerOf}
+use Rattle.composer_bytes.specs.States.{composerLength, composerOf}
 use Rattle.board_frame.specs.Calls.{beginRefused, beginState, beginMemory}
+use Rattle.composer_bytes.proofs.Parts.{whole-same}
 use Rattle.board_frame.proofs.Calls.{begin-refused, begin-done}
 use borrow.Author.Needs.{needs}
 use Rattle.board_frame.proofs.niranbok_composer_begin.Statement.{statement}
@@ -21,17 +22,21 @@ decoded c = c .before .before .before
 abbrev start : tie.After-begin → tie.Start
 start c = decoded c .before .before .before .before .before .before .before
 
+decoded-state : (c : tie.After-begin) → decoded c .composer-of .result ≡ composerOf (start c .args .state .now)
+decoded-state c =
+    decoded c .composer-of .ensures ∙ ap composerOf (whole-same (start c .args .state .now) (decoded c .before .before .before .if1 .left))
+
 answered : (c : tie.After-begin)
     → c .begin .result ≡ beginOf (composerOf (start c .args .state .now)) (settingOf (start c .args .setting .now)) (length (start c .args .frame .now))
 answered c =
     c .begin .ensures .0
-    ∙ ap₂ (λ (k : Composer) (s : Setting). beginOf k s (length (start c .args .frame .now))) (decoded c .composer-of .ensures) (c .before .setting-of .ensures)
+    ∙ ap₂ (λ (k : Composer) (s : Setting). beginOf k s (length (start c .args .frame .now))) (decoded-state c) (c .before .setting-of .ensures)
 
 left : (c : tie.After-begin)
     → c .begin .last .1 .0 ≡ begunFrame (composerOf (start c .args .state .now)) (settingOf (start c .args .setting .now)) (start c .args .frame .now)
 left c =
     c .begin .ensures .1
-    ∙ ap₂ (λ (k : Composer) (s : Setting). begunFrame k s (start c .args .frame .now)) (decoded c .composer-of .ensures) (c .before .setting-of .ensures)
+    ∙ ap₂ (λ (k : Composer) (s : Setting). begunFrame k s (start c .args .frame .now)) (decoded-state c) (c .before .setting-of .ensures)
 
 returns : tie.Need-returns
 unfolding beginRefused beginState beginMemory leaves
@@ -81,7 +86,8 @@ returns-4 c =
     let begun = done .before .before .before .before in
     let args = start begun .args in
     let lent = decoded begun .before .before in
-    begin-done (args .state .now) (args .setting .now) (args .frame .now) (lent .before .if1 .left) (lent .if2 .left) (answered begun) (left begun) (done .if3 .left) (written .write-composer .ensures)
+    begin-done (args .state .now) (args .setting .now) (args .frame .now) (lent .before .if1 .left) (lent .if2 .left) (answered begun) (left begun) (done .if3 .left)
+    (rw (eq-eqb (length (args .state .now)) composerLength (lent .before .if1 .left)) at (written .write-composer .ensures))
 
 pub niranbok-composer-begin-spec : {M : Type 1} → statement M
 niranbok-composer-begin-spec =

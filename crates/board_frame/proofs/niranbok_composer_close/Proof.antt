@@ -1,12 +1,13 @@
 -- `niranbok_composer_close` meets its contract. Assumes nothing.
 use mathlib.Core.Path.{_≡_, refl, ap, _∙_}
-use borrow.Author.Tests.{ne-eqb}
+use borrow.Author.Tests.{eq-eqb, ne-eqb}
 use lib.ListN.{length}
 use Rattle.composer_state.specs.declared.Composer.{Composer}
 use Rattle.composer_state.specs.Composing.{closeOf, closedFrame}
 use Rattle.refusal_table.specs.Refusal.{leaves}
-use Rattle.board_frame.specs.States.{composerLength, composerOf}
+use Rattle.composer_bytes.specs.States.{composerLength, composerOf}
 use Rattle.board_frame.specs.Calls.{closeRefused, closeState, closeMemory}
+use Rattle.composer_bytes.proofs.Parts.{whole-same}
 use Rattle.board_frame.proofs.Calls.{close-refused, close-done}
 use borrow.Author.Needs.{needs}
 use Rattle.board_frame.proofs.niranbok_composer_close.Statement.{statement}
@@ -19,11 +20,14 @@ decoded c = c .before .before
 abbrev start : tie.After-close → tie.Start
 start c = decoded c .before .before .before .before .before
 
+decoded-state : (c : tie.After-close) → decoded c .composer-of .result ≡ composerOf (start c .args .state .now)
+decoded-state c = decoded c .composer-of .ensures ∙ ap composerOf (whole-same (start c .args .state .now) (decoded c .before .before .if1 .left))
+
 answered : (c : tie.After-close) → c .close .result ≡ closeOf (composerOf (start c .args .state .now)) (length (start c .args .frame .now))
-answered c = c .close .ensures .0 ∙ ap (λ (k : Composer). closeOf k (length (start c .args .frame .now))) (decoded c .composer-of .ensures)
+answered c = c .close .ensures .0 ∙ ap (λ (k : Composer). closeOf k (length (start c .args .frame .now))) (decoded-state c)
 
 left : (c : tie.After-close) → c .close .last .1 .0 ≡ closedFrame (composerOf (start c .args .state .now)) (start c .args .frame .now)
-left c = c .close .ensures .1 ∙ ap (λ (k : Composer). closedFrame k (start c .args .frame .now)) (decoded c .composer-of .ensures)
+left c = c .close .ensures .1 ∙ ap (λ (k : Composer). closedFrame k (start c .args .frame .now)) (decoded-state c)
 
 returns : tie.Need-returns
 unfolding closeRefused closeState closeMemory leaves
@@ -62,7 +66,8 @@ returns-3 c =
     let done = written .before .before in
     let closed = done .before .before .before .before in
     let args = start closed .args in
-    close-done (args .state .now) (args .frame .now) (decoded closed .before .before .if1 .left) (answered closed) (left closed) (done .if2 .left) (written .write-composer .ensures)
+    close-done (args .state .now) (args .frame .now) (decoded closed .before .before .if1 .left) (answered closed) (left closed) (done .if2 .left)
+    (rw (eq-eqb (length (args .state .now)) composerLength (decoded closed .before .before .if1 .left)) at (written .write-composer .ensures))
 
 pub niranbok-composer-close-spec : {M : Type 1} → statement M
 niranbok-composer-close-spec =

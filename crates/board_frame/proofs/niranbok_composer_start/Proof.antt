@@ -6,7 +6,7 @@ use lib.ListN.{length}
 use Rattle.refusal_table.specs.Refusal.{firstOf, leaves}
 use Rattle.composer_state.specs.declared.Answer.{Answer}
 use Rattle.composer_state.specs.Composing.{startOf}
-use Rattle.board_frame.specs.States.{composerLength, composerBytes}
+use Rattle.composer_bytes.specs.States.{composerLength, composerBytes}
 use Rattle.board_frame.specs.Calls.{startRefused, startState}
 use borrow.Author.Needs.{needs}
 use Rattle.board_frame.proofs.niranbok_composer_start.Statement.{statement}
@@ -62,7 +62,7 @@ returns-4 c =
     let args = start .args in
     let kind = numbered .if3 .left in
     rw (eq-eqb (length (args .state .now)) composerLength (tested .if1 .left), sym (allowed .pid-allowed .ensures) ∙ not-false _ (checked .if2 .left), lt-ltb (args .kind) 2 (omega (arith, kind)))
-    (refl, written .write-composer .ensures ∙ ap (λ (a : Answer). composerBytes (a .state)) (started .start .ensures ∙ ap (λ k. startOf k (args .pid)) (kinds .kind-of .ensures)))
+    (refl, rw (eq-eqb (length (args .state .now)) composerLength (tested .if1 .left)) at (written .write-composer .ensures) ∙ ap (λ (a : Answer). composerBytes (a .state)) (started .start .ensures ∙ ap (λ k. startOf k (args .pid)) (kinds .kind-of .ensures)))
 
 pub niranbok-composer-start-spec : {M : Type 1} → statement M
 niranbok-composer-start-spec =

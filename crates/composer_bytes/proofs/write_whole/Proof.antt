@@ -1,4 +1,4 @@
--- `write_composer` meets its contract: five parts, one behind the other. Assumes nothing.
+-- `write_whole` meets its contract: five parts, one behind the other. Assumes nothing.
 use Prim.Native.Nat.{ℕ}
 use mathlib.Core.Path.{_≡_, sym, _∙_}
 use mathlib.Core.List.{List}
@@ -8,11 +8,11 @@ use borrow.Rule.Slice.PartMut.{same-len-mid, mid-len}
 use lib.ListN.{length, take, drop, set, length-set}
 use Rattle.slices.proofs.Front.{put}
 use Rattle.coding.specs.Settings.{announcedLength, announcedBytes, settingLength, settingBytes}
-use Rattle.board_frame.specs.States.{composerLength}
-use Rattle.board_frame.proofs.Parts.{Long-state, composer-parts}
+use Rattle.composer_bytes.specs.States.{composerLength}
+use Rattle.composer_bytes.proofs.Parts.{Long-state, composer-parts}
 use borrow.Author.Needs.{needs}
-use Rattle.board_frame.proofs.states.write_composer.Statement.{statement}
-use Rattle.board_frame.proofs.states.write_composer.Tie as tie
+use Rattle.composer_bytes.proofs.write_whole.Statement.{statement}
+use Rattle.composer_bytes.proofs.write_whole.Tie as tie
 
 -- what arrays have, which their types say
 long : (c : tie.Start) → Long-state (c .args .c)
@@ -165,8 +165,8 @@ returns c =
     (opened .mark-byte .result) (start .pre) (long start)
     (front .write-front .ensures) (told-bytes announced) (opened .mark-byte .ensures) (setting-bytes setting) (marks .write-marks .ensures)
 
-pub write-composer-spec : {M : Type 1} → statement M
-write-composer-spec =
+pub write-whole-spec : {M : Type 1} → statement M
+write-whole-spec =
     tie.close
     (tie.spec
     sub-write-front

@@ -7,9 +7,9 @@ use borrow.Author.Needs.{needs}
 use lib.Dec.{eqb}
 use lib.ListN.{length, take, length-set}
 use lib.Seq.{take-all}
-use Rattle.board_frame.proofs.Marks.{mapped}
-use Rattle.board_frame.proofs.states.read_marks.Statement.{statement}
-use Rattle.board_frame.proofs.states.read_marks.Tie as tie
+use Rattle.composer_bytes.proofs.Marks.{mapped}
+use Rattle.composer_bytes.proofs.read_marks.Statement.{statement}
+use Rattle.composer_bytes.proofs.read_marks.Tie as tie
 
 abbrev Inv-loop : tie.InvT-loop
 Inv-loop marks₀ part k₀ marks k =

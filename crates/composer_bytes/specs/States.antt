@@ -4,7 +4,7 @@ use mathlib.Core.Path.{_≡_}
 use mathlib.Core.Bool.{Bool, cond, not, _&&_}
 use mathlib.Core.List.{List, [], _∷_, _++_, map}
 use lib.Dec.{eqb, ltb}
-use lib.ListN.{length, getD}
+use lib.ListN.{length, getD, replicate}
 use Rattle.slices.specs.Slices.{someAtLeast}
 use Rattle.counters.specs.Counters.{lastSlot, lastStream}
 use Rattle.setting.specs.Setting.{Array, OfItsTypes as SettingOfItsTypes}
@@ -57,3 +57,7 @@ composerOf b =
       setting = settingOf (part 86 252 b);
       filled = map (λ (n : ℕ). eqb n 1) (part 338 52 b);
     }
+
+-- bytes of a state's length are taken as they are, any others for zeros
+unfoldable pub whole : List ℕ → List ℕ
+whole b = cond (eqb (length b) composerLength) b (replicate composerLength 0)

@@ -3,6 +3,7 @@ use Prim.Native.Nat.{ℕ}
 use mathlib.Core.Path.{_≡_, refl, ap, _∙_}
 use mathlib.Core.List.{List, [], _∷_, _++_, map, append-assoc}
 use native.Mathlib.Omega.{arith}
+use borrow.Author.Tests.{eq-eqb}
 use lib.ListN.{length, set, length-map}
 use Rattle.slices.proofs.Front.{put, front-none, front-part, front-more, front-all}
 use Rattle.counters.specs.Counters.{lastSlot}
@@ -12,7 +13,12 @@ use Rattle.coding.specs.Settings.{announcedBytes, settingBytes}
 use Rattle.coding.proofs.Parts.{Streams, Long, length-announced}
 use Rattle.coding.proofs.Back.{length-setting}
 use Rattle.composer_state.specs.declared.Composer.{Composer}
-use Rattle.board_frame.specs.States.{composerLength, markByte, composerBytes}
+use Rattle.composer_bytes.specs.States.{composerLength, markByte, composerBytes, whole}
+
+-- bytes of a state's length are taken as they are
+pub whole-same : (b : List ℕ) → length b ≡ composerLength → whole b ≡ b
+unfolding whole
+whole-same b l = rw (eq-eqb (length b) composerLength l) refl
 
 -- PID, kind, counter and version: the first five bytes
 abbrev pub frontBytes : Composer → List ℕ

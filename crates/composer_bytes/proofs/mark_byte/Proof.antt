@@ -1,7 +1,7 @@
 -- `mark_byte` meets its contract. Assumes nothing.
-use Rattle.board_frame.specs.States.{markByte}
-use Rattle.board_frame.proofs.states.mark_byte.Statement.{statement}
-use Rattle.board_frame.proofs.states.mark_byte.Tie as tie
+use Rattle.composer_bytes.specs.States.{markByte}
+use Rattle.composer_bytes.proofs.mark_byte.Statement.{statement}
+use Rattle.composer_bytes.proofs.mark_byte.Tie as tie
 
 returns : tie.Need-returns
 unfolding markByte

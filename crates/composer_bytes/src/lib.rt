@@ -5,13 +5,14 @@ use coding::SETTING_BYTES;
 use composer_state::Composer;
 use setting::SLOTS;
 ghost use mathlib.Core.Path.{_≡_};
+ghost use mathlib.Core.Bool.{cond};
 ghost use mathlib.Core.List.{[], _∷_, _++_, map};
 ghost use Prim.Native.Nat.{ℕ};
 ghost use lib.Dec.{eqb};
 ghost use lib.ListN.{length};
 ghost use Rattle.words.specs.Words.{wordBytes};
 ghost use Rattle.words.specs.Kinds.{kindNumber};
-ghost use Rattle.board_frame.specs.States.{composerLength, markByte, composerBytes, isCoded, composerOf};
+ghost use Rattle.composer_bytes.specs.States.{composerLength, markByte, composerBytes, isCoded, composerOf, whole};
 
 // Where the parts start.
 const LAST: usize = 5;
@@ -22,7 +23,8 @@ const SETTING: usize = OPEN + 1;
 
 const FILLED: usize = SETTING + SETTING_BYTES;
 
-pub(crate) const COMPOSER_BYTES: usize = FILLED + SLOTS;
+// How many bytes a state takes.
+pub const COMPOSER_BYTES: usize = FILLED + SLOTS;
 
 // Whether bytes are a state's, whatever its numbers.
 fn is_coded(bytes: &[u8]) -> bool
@@ -70,7 +72,7 @@ fn write_marks(part: &mut [u8], marks: &[bool])
 }
 
 // A counter that no header has stands for bytes that are no state's: every call refuses it with 17.
-pub(crate) fn composer_of(bytes: &[u8]) -> Composer
+fn composer_in(bytes: &[u8]) -> Composer
     requires { ⌜ length (now bytes) ≡ composerLength ⌝ }
     ensures { λ r. ⌜ r ≡ composerOf (now (bytes .entry)) ⌝ }
 {
@@ -94,6 +96,17 @@ pub(crate) fn composer_of(bytes: &[u8]) -> Composer
     }
 }
 
+// What bytes say as a state; of any other length than 390, what zeros say.
+pub fn composer_of(bytes: &[u8]) -> Composer
+    ensures { λ r. ⌜ r ≡ composerOf (whole (now (bytes .entry))) ⌝ }
+{
+    if bytes.len() != COMPOSER_BYTES {
+        let zeros = [0u8; COMPOSER_BYTES];
+        return composer_in(&zeros);
+    }
+    composer_in(bytes)
+}
+
 fn write_front(part: &mut [u8], c: Composer)
     requires { ⌜ length (now part) ≡ 5 ⌝ }
     ensures { λ _. ⌜ now (part .exit) ≡ wordBytes (c .pid ∷ []) ++ (kindNumber (c .kind) ∷ c .counter ∷ c .version ∷ []) ⌝ }
@@ -106,7 +119,7 @@ fn write_front(part: &mut [u8], c: Composer)
     part[4] = c.version;
 }
 
-pub(crate) fn write_composer(bytes: &mut [u8], c: Composer)
+fn write_whole(bytes: &mut [u8], c: Composer)
     requires { ⌜ length (now bytes) ≡ composerLength ⌝ }
     ensures { λ _. ⌜ now (bytes .exit) ≡ composerBytes c ⌝ }
 {
@@ -118,4 +131,14 @@ pub(crate) fn write_composer(bytes: &mut [u8], c: Composer)
     setting_bytes::write_setting(&mut bytes[SETTING..FILLED], setting);
     let filled = c.filled;
     write_marks(&mut bytes[FILLED..COMPOSER_BYTES], &filled);
+}
+
+// Writes a state into the lent 390 bytes; bytes of any other length stay.
+pub fn write_composer(bytes: &mut [u8], c: Composer)
+    ensures { λ _. ⌜ now (bytes .exit) ≡ cond (eqb (length (now (bytes .entry))) composerLength) (composerBytes c) (now (bytes .entry)) ⌝ }
+{
+    if bytes.len() != COMPOSER_BYTES {
+        return;
+    }
+    write_whole(bytes, c);
 }

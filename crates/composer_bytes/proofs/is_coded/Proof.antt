@@ -2,10 +2,10 @@
 use native.Mathlib.Omega.{arith}
 use borrow.Author.Tests.{lt-ltb, le-ltb}
 use lib.ListN.{getD}
-use Rattle.board_frame.specs.States.{isCoded}
+use Rattle.composer_bytes.specs.States.{isCoded}
 use borrow.Author.Needs.{needs}
-use Rattle.board_frame.proofs.states.is_coded.Statement.{statement}
-use Rattle.board_frame.proofs.states.is_coded.Tie as tie
+use Rattle.composer_bytes.proofs.is_coded.Statement.{statement}
+use Rattle.composer_bytes.proofs.is_coded.Tie as tie
 
 shared-slice-read-if1 : tie.Need-shared-slice-read-if1
 shared-slice-read-if1 c = search needs

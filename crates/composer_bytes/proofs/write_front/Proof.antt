@@ -7,8 +7,8 @@ use Rattle.words.specs.Words.{wordBytes}
 use Rattle.words.specs.Kinds.{kindNumber}
 use Rattle.slices.proofs.Front.{stored}
 use borrow.Author.Needs.{needs}
-use Rattle.board_frame.proofs.states.write_front.Statement.{statement}
-use Rattle.board_frame.proofs.states.write_front.Tie as tie
+use Rattle.composer_bytes.proofs.write_front.Statement.{statement}
+use Rattle.composer_bytes.proofs.write_front.Tie as tie
 
 cast-part : tie.Need-cast-part
 cast-part c = search needs

@@ -1,13 +1,13 @@
--- `composer_of` meets its contract. Assumes nothing.
+-- `composer_in` meets its contract. Assumes nothing.
 use mathlib.Core.Path.{_≡_, refl, sym, ap, _∙_}
 use mathlib.Core.Bool.{Bool, cond}
 use mathlib.Core.Logic.{⊎-elim}
 use borrow.Author.Tests.{not-true, not-false}
 use lib.ListN.{getD}
-use Rattle.board_frame.specs.States.{isCoded, noCounter, composerOf}
+use Rattle.composer_bytes.specs.States.{isCoded, noCounter, composerOf}
 use borrow.Author.Needs.{needs}
-use Rattle.board_frame.proofs.states.composer_of.Statement.{statement}
-use Rattle.board_frame.proofs.states.composer_of.Tie as tie
+use Rattle.composer_bytes.proofs.composer_in.Statement.{statement}
+use Rattle.composer_bytes.proofs.composer_in.Tie as tie
 
 shared-slice-read-counter : tie.Need-shared-slice-read-counter
 shared-slice-read-counter c = search needs
@@ -93,8 +93,8 @@ returns c =
     (branch .if1 .came) in
     rw (word .word .ensures, kind .kind-of .ensures, counted, last .announced-of .ensures, setting .setting-of .ensures, marks .read-marks .ensures) refl
 
-pub composer-of-spec : {M : Type 1} → statement M
-composer-of-spec =
+pub composer-in-spec : {M : Type 1} → statement M
+composer-in-spec =
     tie.close
     (tie.spec
     shared-slice-read-counter

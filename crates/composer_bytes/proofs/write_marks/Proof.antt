@@ -7,10 +7,10 @@ use native.Mathlib.Omega.{arith}
 use borrow.Author.Needs.{needs}
 use lib.ListN.{length, take, length-set}
 use lib.Seq.{take-all}
-use Rattle.board_frame.specs.States.{markByte}
-use Rattle.board_frame.proofs.Marks.{mapped}
-use Rattle.board_frame.proofs.states.write_marks.Statement.{statement}
-use Rattle.board_frame.proofs.states.write_marks.Tie as tie
+use Rattle.composer_bytes.specs.States.{markByte}
+use Rattle.composer_bytes.proofs.Marks.{mapped}
+use Rattle.composer_bytes.proofs.write_marks.Statement.{statement}
+use Rattle.composer_bytes.proofs.write_marks.Tie as tie
 
 abbrev Inv-loop : tie.InvT-loop
 Inv-loop part₀ marks k₀ part k =

@@ -1,0 +1,2 @@
+-- A composer's state as bytes.
+pub mod States
