@@ -26,7 +26,7 @@ endif
 # Installs the emulator and the cross compilers where they are needed and lack.
 x86-64:
 ifdef EMULATOR
-	command -v $(EMULATOR) $(CROSS_CC) /usr/bin/rustc >/dev/null && [ -d /usr/lib/rustlib/x86_64-unknown-linux-gnu ] || \
+	@command -v $(EMULATOR) $(CROSS_CC) /usr/bin/rustc >/dev/null && [ -d /usr/lib/rustlib/x86_64-unknown-linux-gnu ] || \
 	{ dpkg --add-architecture amd64 && apt-get -q update && DEBIAN_FRONTEND=noninteractive apt-get -q install -y --no-install-recommends \
 	qemu-user gcc-x86-64-linux-gnu libc6-dev-amd64-cross rustc-web libstd-rust-web-dev:amd64; } >/dev/null
 endif
