@@ -1,25 +1,16 @@
 -- What the exported calls answer and leave where the composer's own call is refused, and where it is not. Assumes nothing.
 use Prim.Native.Nat.{ℕ}
-use mathlib.Core.Path.{_≡_, refl, sym, ap, _∙_}
+use mathlib.Core.Path.{_≡_, sym, ap, _∙_}
 use mathlib.Core.List.{List}
-use borrow.Author.Tests.{eq-eqb, ne-eqb}
+use borrow.Author.Tests.{eq-eqb}
 use lib.ListN.{length}
 use Rattle.composer_state.specs.declared.Answer.{Answer}
 use Rattle.composer_state.specs.declared.Placed.{Placed}
 use Rattle.composer_state.specs.Composing.{beginOf, begunFrame, putOf, putFrame, closeOf, closedFrame}
-use Rattle.refusal_table.specs.Refusal.{leaves}
+use Rattle.refusal_table.proofs.Refusals.{kept, written}
 use Rattle.coding.specs.Settings.{settingLength, settingOf}
 use Rattle.composer_bytes.specs.States.{composerLength, composerBytes, composerOf}
 use Rattle.board_frame.specs.Calls.{beginRefused, beginState, beginMemory, putRefused, putPlaced, putState, putMemory, closeRefused, closeState, closeMemory}
-
--- a refused call leaves memory as it was; another leaves what it made
-pub kept : {n m : ℕ} (new old : List ℕ) → n ≡ m → (n ≡ 0 → ⊥) → old ≡ leaves m new old
-unfolding leaves
-kept {n} {m} new old e h = rw (ne-eqb m 0 (λ z. h (e ∙ z))) refl
-
-pub made : {n m : ℕ} {memory new : List ℕ} (old : List ℕ) → n ≡ m → n ≡ 0 → memory ≡ new → memory ≡ leaves m new old
-unfolding leaves
-made {n} {m} old e z p = rw (eq-eqb m 0 (sym e ∙ z)) p
 
 module _ (state setting frame : List ℕ) (l : length state ≡ composerLength) (t : length setting ≡ settingLength) {r : Answer} {memory : List ℕ}
     (p : r ≡ beginOf (composerOf state) (settingOf setting) (length frame)) (f : memory ≡ begunFrame (composerOf state) (settingOf setting) frame) where
@@ -34,12 +25,12 @@ module _ (state setting frame : List ℕ) (l : length state ≡ composerLength) 
   pub begin-refused : (r .refusal ≡ 0 → ⊥)
       → (r .refusal ≡ beginRefused state setting frame) × ((state ≡ beginState state setting frame) × (memory ≡ beginMemory state setting frame))
   unfolding beginState
-  begin-refused h = (begin-answer, (kept _ state begin-answer h, begin-memory))
+  begin-refused h = (begin-answer, (kept begin-answer _ state h, begin-memory))
 
   pub begin-done : {bytes : List ℕ} → r .refusal ≡ 0 → bytes ≡ composerBytes (r .state)
       → (0 ≡ beginRefused state setting frame) × ((bytes ≡ beginState state setting frame) × (memory ≡ beginMemory state setting frame))
   unfolding beginState
-  begin-done z b = (sym z ∙ begin-answer, (made state begin-answer z (b ∙ ap (λ (a : Answer). composerBytes (a .state)) p), begin-memory))
+  begin-done z b = (sym z ∙ begin-answer, (b ∙ ap (λ (a : Answer). composerBytes (a .state)) p ∙ written begin-answer _ state z, begin-memory))
 
 module _ (state : List ℕ) (n : ℕ) (stream frame : List ℕ) (l : length state ≡ composerLength) {r : Placed} {memory : List ℕ}
     (p : r ≡ putOf (composerOf state) n stream (length frame)) (f : memory ≡ putFrame (composerOf state) n stream frame) where
@@ -59,13 +50,13 @@ module _ (state : List ℕ) (n : ℕ) (stream frame : List ℕ) (l : length stat
       → (r .refusal ≡ putRefused state n stream frame)
       × ((r .placed ≡ putPlaced state n stream frame) × ((state ≡ putState state n stream frame) × (memory ≡ putMemory state n stream frame)))
   unfolding putState
-  put-refused h = (put-answer, (put-count, (kept _ state put-answer h, put-memory)))
+  put-refused h = (put-answer, (put-count, (kept put-answer _ state h, put-memory)))
 
   pub put-done : {bytes : List ℕ} → r .refusal ≡ 0 → bytes ≡ composerBytes (r .state)
       → (0 ≡ putRefused state n stream frame)
       × ((r .placed ≡ putPlaced state n stream frame) × ((bytes ≡ putState state n stream frame) × (memory ≡ putMemory state n stream frame)))
   unfolding putState
-  put-done z b = (sym z ∙ put-answer, (put-count, (made state put-answer z (b ∙ ap (λ (a : Placed). composerBytes (a .state)) p), put-memory)))
+  put-done z b = (sym z ∙ put-answer, (put-count, (b ∙ ap (λ (a : Placed). composerBytes (a .state)) p ∙ written put-answer _ state z, put-memory)))
 
 module _ (state frame : List ℕ) (l : length state ≡ composerLength) {r : Answer} {memory : List ℕ}
     (p : r ≡ closeOf (composerOf state) (length frame)) (f : memory ≡ closedFrame (composerOf state) frame) where
@@ -80,9 +71,9 @@ module _ (state frame : List ℕ) (l : length state ≡ composerLength) {r : Ans
   pub close-refused : (r .refusal ≡ 0 → ⊥)
       → (r .refusal ≡ closeRefused state frame) × ((state ≡ closeState state frame) × (memory ≡ closeMemory state frame))
   unfolding closeState
-  close-refused h = (close-answer, (kept _ state close-answer h, close-memory))
+  close-refused h = (close-answer, (kept close-answer _ state h, close-memory))
 
   pub close-done : {bytes : List ℕ} → r .refusal ≡ 0 → bytes ≡ composerBytes (r .state)
       → (0 ≡ closeRefused state frame) × ((bytes ≡ closeState state frame) × (memory ≡ closeMemory state frame))
   unfolding closeState
-  close-done z b = (sym z ∙ close-answer, (made state close-answer z (b ∙ ap (λ (a : Answer). composerBytes (a .state)) p), close-memory))
+  close-done z b = (sym z ∙ close-answer, (b ∙ ap (λ (a : Answer). composerBytes (a .state)) p ∙ written close-answer _ state z, close-memory))

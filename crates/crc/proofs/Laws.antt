@@ -4,17 +4,14 @@ use Prim.Native.Nat.{ℕ, zero, suc, _+_, _-_, _*_, _/_, _%_, _^_, _≤_, _<_}
 use mathlib.Core.Path.{_≡_, refl, sym, ap, ap₂, _∙_, subst}
 use mathlib.Core.List.{List, [], _∷_, _++_}
 use native.Mathlib.Omega.{arith}
-use native.Mathlib.Nat.{add-mul, add-suc, suc-add, zero-add, lt-of-lt-of-le, pow-le-pow-right, pow-succ', mul-assoc, mod-lt, mod-eq-of-lt, mod-one, div-eq-of-lt, pow-suc, zero-mul, mul-mod-left, mul-one, le-of-eq, suc-inj}
+use native.Mathlib.Nat.{add-mul, add-suc, suc-add, zero-add, lt-of-lt-of-le, pow-le-pow-right, pow-succ', mul-assoc, mod-lt, mod-eq-of-lt, mod-one, div-eq-of-lt, pow-suc, zero-mul, mul-mod-left, mul-one, suc-inj}
 use native.Mathlib.Numerals.{one-add}
 use lib.Dec.{lit<}
 use lib.Bits.{bitXor, xor-lt, xor-mod, xor-self, xor-shifted, xor-shr, xor-zero-r}
 use lib.ListN.{length}
 use lib.Pow.{pow-add, pow-pos, mod-mod-pow, mod-pow-add, shl-lt, shr-mod}
-use lib.Seq.{take-all}
-use Rattle.bits.specs.Fields.{bitsOf, run, cut}
-use Rattle.bits.specs.Fields.{Fit, none, more}
-use Rattle.bits.proofs.Laws.{bits-bitsOf, fit-run, length-bitsOf, run-append, run-cut}
-use Rattle.crc.specs.Crc.{poly, shift, bitIn, registerFrom, registerOf, shifts, xorWith}
+use Rattle.bits.specs.Fields.{bitsOf, Fit, none, more}
+use Rattle.crc.specs.Crc.{poly, shift, bitIn, registerFrom, shifts, xorWith}
 use Rattle.crc.proofs.Xor.{bit-cases, xor-assoc, xor-injective, xor-shl, xor-swap, xor-times}
 
 -- ---- the shift
@@ -106,10 +103,6 @@ unfolding registerFrom bitIn
 registerFrom-lt s [] h none = h
 registerFrom-lt s (b ∷ bs) h (more l f) = registerFrom-lt (bitIn s b) bs (shift-lt (bitXor s (b * 2 ^ 31))) f
 
-pub registerOf-lt : (m : List ℕ) → registerOf m < 2 ^ 32
-unfolding registerOf
-registerOf-lt m = registerFrom-lt (2 ^ 32 - 1) (run 8 m) (lit< tt) (fit-run 8 m)
-
 -- ---- a field of bits at once
 
 -- the highest of a field's bits, and the others
@@ -155,20 +148,6 @@ pub own-bits-only : (s v : ℕ) → s < 2 ^ 32 → v < 2 ^ 32 → registerFrom s
 own-bits-only s v hs hv e =
     xor-injective s (shifts-injective 32 (bitXor s v) (bitXor s s) (xor-lt 32 s v hs hv) (xor-lt 32 s s hs hs)
     (sym (word-in s v hv) ∙ e ∙ sym (own-bits s hs) ∙ word-in s s hs))
-
--- the same of bytes
-pub own-bytes : (m : List ℕ) → registerOf (m ++ cut 8 4 (bitsOf 32 (registerOf m))) ≡ 0
-unfolding registerOf
-own-bytes m =
-    ap (registerFrom (2 ^ 32 - 1)) (run-append 8 m (cut 8 4 bits)) ∙ registerFrom-append (2 ^ 32 - 1) (run 8 m) (run 8 (cut 8 4 bits))
-    ∙ ap (registerFrom (registerOf m)) (run-cut 8 4 bits (bits-bitsOf 32 (registerOf m)) (le-of-eq (sym long)) ∙ take-all 32 bits (le-of-eq long))
-    ∙ own-bits (registerOf m) (registerOf-lt m)
-  where
-    bits : List ℕ
-    bits = bitsOf 32 (registerOf m)
-
-    long : length bits ≡ 32
-    long = length-bitsOf 32 (registerOf m)
 
 -- ---- linearity
 
