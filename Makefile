@@ -1,12 +1,11 @@
 # `make tools` proves and builds mux, demux, bond and unbond; `make run` the lister, and lists the sample; `make test` is the gate;
 # `make board` makes the archive for C; `make bench` measures; `make memory` runs the comparison under valgrind; `make real` takes real
 # streams through the tools.
-.PHONY: tools rust-test tools-test proofs real run test board board-test bench memory vectors x86-64 natively
+.PHONY: tools rust-test tools-test real run test board archive archive-test limits-test board-test bench memory vectors x86-64 natively
 SHELL = /bin/bash
 .SHELLFLAGS = -o pipefail -c
 
 BOARD = board_numbers board_setting board_header board_packet board_frame board_receiver board_bond
-GATE = compare/target/gate.log
 
 # The archive and the programs are for x86-64. On another processor an emulator runs them, and Debian's cross compilers make what is
 # linked with the archive.
@@ -44,11 +43,10 @@ endif
 
 # The independent programs' own tests, and the tests of the tools made ready.
 rust-test:
-	cd compare && nice -n 19 cargo test --quiet && nice -n 19 cargo test --quiet -p tools --no-run
+	cd compare && cargo test --quiet && cargo test --quiet -p tools --no-run
 
-# The tools on good and bad input, held to what the independent Rust makes of the same. They are there before, so that no second rt writes
-# into target/ beside board-test's.
-tools-test:
+# The tools on good and bad input, held to what the independent Rust makes of the same.
+tools-test: tools
 	cd compare && cargo test --quiet -p tools
 
 # Two streams by ffmpeg, multiplexed, taken apart and compared, whole and with packets lost.
@@ -60,34 +58,35 @@ run: x86-64
 	rt check lister
 	$(EMULATOR) target/bin/lister < samples/recording.ts
 
-# The proofs, the wrong programs and the programs (`rt ci`, which starts from nothing). Two at a time on two cores: more take a tenth longer
-# in all. rt waits for both before the next two, so crates.txt has crates of one height in the order of their checks' times.
-proofs:
-	mkdir -p $(dir $(GATE))
-	RT_JOBS=2 rt ci | tee $(GATE)
-
-# The proofs, and the independent programs' own tests while a core is idle; then what is linked with the archive, and the tools. The last
-# line printed is rt's.
-test: x86-64
-	$(MAKE) --no-print-directory -j 2 proofs rust-test
-	$(MAKE) --no-print-directory tools
-	$(MAKE) --no-print-directory -j 2 board-test tools-test
-	@tail -n 1 $(GATE)
+# The proofs, the wrong programs and the programs (`rt ci`, from nothing), and all the tests. The last line printed is rt's.
+test:
+	@compare/gate.sh $(BOARD)
 
 # The board interface as one archive, target/board/libniranbok.a, for include/niranbok.h.
 board:
-	set -e; for crate in $(BOARD); do rt staticlib $$crate | tail -n 1; done
-	rm -rf target/board
-	mkdir -p target/board/objects
-	set -e; cd target/board/objects; for crate in $(BOARD); do ar x ../../staticlib/lib$$crate.a; done; ar rcs ../libniranbok.a *.o
+	rt check $(BOARD) | tail -n 1
+	$(MAKE) --no-print-directory archive
 
-# The header's constants, the example in C, and both implementations over the same inputs.
-board-test: board x86-64
-	rt check limits | tail -n 1
-	compare/limits.sh $(EMULATOR) target/bin/limits
+# The same where its crates are proved.
+archive:
+	rm -rf target/board
+	mkdir -p target/board
+	printf '%s\n' $(BOARD) | xargs -P 2 -n 1 compare/staticlib.sh
+	ar rcs target/board/libniranbok.a target/board/roots/*/*.o
+
+# The example in C, and both implementations over the same inputs, with the archive that is there.
+archive-test: x86-64
 	$(CROSS_CC) -std=c99 -Wall -Wextra -Werror -Iinclude examples/board.c target/board/libniranbok.a -o target/board/board
 	$(EMULATOR) target/board/board
 	cd compare && $(CROSS_CARGO) test --quiet -p board --tests
+
+# The header's constants.
+limits-test: x86-64
+	rt check limits | tail -n 1
+	compare/limits.sh $(EMULATOR) target/bin/limits
+
+# All of the board interface's.
+board-test: board archive-test limits-test
 
 # A time under the emulator says nothing.
 natively:

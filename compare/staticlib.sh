@@ -1,0 +1,11 @@
+#!/bin/sh
+# Compiles one crate of the archive, in a root of its own that shares what is proved: two rt in one root overwrite each other's files.
+#   compare/staticlib.sh CRATE
+set -e
+cd "$(dirname "$0")/.."
+root=target/board/roots/$1
+mkdir -p "$root/target"
+for shared in crates.txt crates target/rlib target/stamp; do ln -sfn "$PWD/$shared" "$root/$shared"; done
+cd "$root"
+rt staticlib "$1" >log 2>&1 || { cat log; exit 1; }
+ar x "target/staticlib/lib$1.a"
