@@ -9,9 +9,10 @@ use counters::RelativeNumber;
 use libc::STDIN_FILENO;
 use libc::STDOUT_FILENO;
 use packet::PACKET_BYTES;
-use receiver::Receiver;
+use receiver::NUMBERS_BYTES;
 use receiver::STORE_BYTES;
 use receiver_table::Event;
+use receiver_table::Stage;
 use setting::Kind;
 use setting::SLOTS;
 use setting::STREAMS;
@@ -146,9 +147,9 @@ pub(crate) fn number_in(s: Setting, ts_id: u16, network_id: u16) -> u8 {
     0
 }
 
-// The receiver, the stream's number in the open frame, and what happened so far.
+// Where the receiver stands, the stream's number in the open frame, and what happened so far.
 struct Link {
-    receiver: Receiver,
+    stage: Stage,
     number: u8,
     tally: Tally,
     // Whether standard output takes what is written.
@@ -183,68 +184,78 @@ fn write_packets(out: &[u8], packets: usize) -> bool
 
 // Hands out the stream's packets of a frame that just became ready. Answers how many, and more than a frame has where standard output
 // did not take them.
-fn hand_out(receiver: Receiver, store: &[u8], number: u8) -> usize {
+fn hand_out(pid: u16, stage: Stage, numbers: &[u8], store: &[u8], number: u8) -> usize {
     let mut out = [0u8; STORE_BYTES];
-    let handed = receiver::hand_out(receiver, store, &mut out, RelativeNumber(number));
+    let r = RelativeNumber(number);
+    let handed = receiver::hand_out_in_place(pid, stage, numbers, store, &mut out, r);
     if write_packets(&out, handed.packets) {
         return handed.packets;
     }
     SLOTS + 1
 }
 
-fn after_ready(link: Link, store: &[u8]) -> Link {
-    let receiver = link.receiver;
-    let packets = hand_out(receiver, store, link.number);
+fn after_ready(link: Link, pid: u16, numbers: &[u8], store: &[u8]) -> Link {
+    let stage = link.stage;
+    let packets = hand_out(pid, stage, numbers, store, link.number);
     let before = link.tally;
+    let mut next = link;
     if SLOTS < packets {
-        return Link {
-            receiver,
-            number: link.number,
-            tally: before,
-            taken: false,
-        };
+        next.taken = false;
+        return next;
     }
-    Link {
-        receiver,
-        number: link.number,
-        tally: tally::with_packets(before, packets),
-        taken: true,
-    }
+    let after = tally::with_packets(before, packets);
+    next.tally = after;
+    next
 }
 
-fn after_event(link: Link, event: Event, store: &[u8]) -> Link {
+fn after_event(link: Link, event: Event, pid: u16, numbers: &[u8], store: &[u8]) -> Link {
     if let Event::Ready = event {
-        return after_ready(link, store);
+        return after_ready(link, pid, numbers, store);
     }
     link
 }
 
 // Takes one packet.
-fn take(link: Link, packet: &[u8], store: &mut [u8], pid: u16, choice: Choice) -> Link {
-    let receiver = link.receiver;
-    let got = receiver::receive(receiver, packet, store);
-    let event = got.event;
-    let state = got.state;
+fn take(
+    link: Link,
+    packet: &[u8],
+    numbers: &mut [u8],
+    store: &mut [u8],
+    pid: u16,
+    choice: Choice,
+) -> Link {
+    let stage = link.stage;
+    let step = receiver::receive_in_place(pid, Kind::Plain, stage, numbers, packet, store);
+    let event = step.event;
+    let now = step.stage;
     let before = link.tally;
     let counted = Link {
-        receiver: state,
+        stage: now,
         number: link.number,
         tally: tally::with_event(before, event),
         taken: link.taken,
     };
-    let mut next = after_event(counted, event, store);
+    let mut next = after_event(counted, event, pid, numbers, store);
     next.number = number_after(event, packet, pid, choice, next.number);
     next
 }
 
 // Takes the packets of a block, one after another.
-fn take_block(link: Link, block: &[u8], store: &mut [u8], pid: u16, choice: Choice) -> Link {
+fn take_block(
+    link: Link,
+    block: &[u8],
+    numbers: &mut [u8],
+    store: &mut [u8],
+    pid: u16,
+    choice: Choice,
+) -> Link {
     let packets = block.len() / PACKET_BYTES;
     let mut next = link;
     let mut i = 0;
     while i < packets {
         let at = PACKET_BYTES * i;
-        next = take(next, &block[at..at + PACKET_BYTES], store, pid, choice);
+        let packet = &block[at..at + PACKET_BYTES];
+        next = take(next, packet, numbers, store, pid, choice);
         if !next.taken {
             return next;
         }
@@ -254,9 +265,10 @@ fn take_block(link: Link, block: &[u8], store: &mut [u8], pid: u16, choice: Choi
 }
 
 fn start(pid: u16) -> Link {
-    let receiver = receiver::start(pid, Kind::Plain).state;
+    let state = receiver::start(pid, Kind::Plain).state;
+    let stage = state.stage;
     Link {
-        receiver,
+        stage,
         number: 0,
         tally: tally::none(),
         taken: true,
@@ -267,6 +279,7 @@ fn start(pid: u16) -> Link {
 fn take_all(
     fd: i32,
     block: &mut [u8],
+    numbers: &mut [u8],
     store: &mut [u8],
     pid: u16,
     choice: Choice,
@@ -278,7 +291,7 @@ fn take_all(
     let mut blocks: u64 = 0;
     while blocks < u64::MAX {
         let got = input::read_block(fd, block);
-        next = take_block(next, &block[0..got], store, pid, choice);
+        next = take_block(next, &block[0..got], numbers, store, pid, choice);
         if !next.taken {
             return next;
         }
@@ -296,8 +309,17 @@ fn demux(fd: i32, pid: u16, choice: Choice) {
         return;
     }
     let mut block = [0u8; BLOCK_BYTES];
+    let mut numbers = [0u8; NUMBERS_BYTES];
     let mut store = [0u8; STORE_BYTES];
-    let end = take_all(fd, &mut block, &mut store, pid, choice, start(pid));
+    let end = take_all(
+        fd,
+        &mut block,
+        &mut numbers,
+        &mut store,
+        pid,
+        choice,
+        start(pid),
+    );
     tally::say(end.tally, pid);
 }
 
