@@ -20,7 +20,7 @@ pub extern "C" fn niranbok_composer_start(state: &mut [u8], pid: u16, kind: u8) 
     if 1 < kind {
         return 17;
     }
-    let started = composer_begin::start(pid, words::kind_of(kind));
+    let started = composer_start::start(pid, words::kind_of(kind));
     composer_bytes::write_composer(state, started.state);
     0
 }

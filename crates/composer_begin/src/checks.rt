@@ -12,7 +12,7 @@ ghost use Rattle.composer_state.specs.Composing.{openRuleChecks, inTurn, beginR
 fn both_rules_refusal(c: Composer, s: Setting) -> u8
     ensures { λ r. ⌜ r ≡ firstOf (inTurn (openRuleChecks c) (ruleChecks (c .kind) s)) ⌝ }
 {
-    let old = composer_state::open_rule_refusal(c);
+    let old = composer_open::open_rule_refusal(c);
     let kind = c.kind;
     let new = setting_rules::rule_refusal(kind, s);
     if old == 0 {
@@ -46,5 +46,5 @@ pub(crate) fn begin_refusal(c: Composer, s: Setting, lent: usize) -> u8
     if rule != 0 {
         return rule;
     }
-    composer_state::mark_refusal(c)
+    composer_marks::mark_refusal(c)
 }

@@ -1,32 +1,14 @@
-// A run started, and a frame of it begun: null packets in its slots.
+// A frame of a run begun: null packets in its slots.
 mod checks;
 mod slots;
 
 use composer_state::Answer;
 use composer_state::Composer;
-use setting::Kind;
 use setting::SLOTS;
 use setting::Setting;
 ghost use mathlib.Core.Path.{_≡_};
 ghost use lib.ListN.{length};
-ghost use Rattle.composer_state.specs.Composing.{fresh, opened, startOf, beginOf, begunFrame};
-
-fn new_run(pid: u16, kind: Kind) -> Composer
-    ensures { λ r. ⌜ r ≡ fresh kind pid ⌝ }
-{
-    let last = announced::announce(Setting::blank());
-    let setting = Setting::blank();
-    Composer {
-        pid,
-        kind,
-        counter: 15,
-        version: 7,
-        last,
-        is_open: false,
-        setting,
-        filled: [false; SLOTS],
-    }
-}
+ghost use Rattle.composer_state.specs.Composing.{opened, beginOf, begunFrame};
 
 fn begun(c: Composer, s: Setting) -> Composer
     ensures { λ r. ⌜ r ≡ opened c s ⌝ }
@@ -42,22 +24,6 @@ fn begun(c: Composer, s: Setting) -> Composer
         is_open: true,
         setting: s,
         filled: [false; SLOTS],
-    }
-}
-
-// A new run with this header PID and kind; refused, the fresh plain state of PID 0.
-pub fn start(pid: u16, kind: Kind) -> Answer
-    ensures { λ r. ⌜ r ≡ startOf kind pid ⌝ }
-{
-    if !rules::pid_allowed(pid) {
-        return Answer {
-            refusal: 2,
-            state: new_run(0, Kind::Plain),
-        };
-    }
-    Answer {
-        refusal: 0,
-        state: new_run(pid, kind),
     }
 }
 

@@ -22,7 +22,7 @@ fn close_refusal(c: Composer, lent: usize) -> u8
     if state != 0 {
         return state;
     }
-    composer_state::open_refusal(c)
+    composer_open::open_refusal(c)
 }
 
 // The numbers that the header gives the slots: a filled slot's is the planned one, an empty slot's 0.

@@ -43,7 +43,7 @@ pub(crate) fn put_refusal(c: Composer, stream: &[u8], r: RelativeNumber, lent: u
     if RelativeNumber::LAST < r.0 {
         return 17;
     }
-    let not_open = composer_state::open_refusal(c);
+    let not_open = composer_open::open_refusal(c);
     if not_open != 0 {
         return not_open;
     }

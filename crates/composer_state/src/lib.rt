@@ -1,16 +1,13 @@
-// A run of frames: the state that its calls hand on, what they answer, and what each asks of a state, in the table's order.
+// A run of frames: the state that its calls hand on, what they answer, and what each asks of a state whether a frame is open or not.
 use announced::Announced;
 use setting::Kind;
 use setting::SLOTS;
 use setting::Setting;
 use setting::limits;
 ghost use mathlib.Core.Path.{_≡_};
-ghost use lib.ListN.{length};
-ghost use Rattle.counters.specs.Counters.{lastSlot};
 ghost use Rattle.refusal_table.specs.Refusal.{firstOf};
 ghost use Rattle.rules.specs.Rules.{widthChecks};
-ghost use Rattle.composer_state.specs.Slots.{someUnplanned};
-ghost use Rattle.composer_state.specs.Composing.{asked, stateChecks, openRuleChecks, markChecks, openChecks};
+ghost use Rattle.composer_state.specs.Composing.{asked, stateChecks};
 
 // A run's state. A saved one may hold anything: each call checks it.
 pub struct Composer {
@@ -70,63 +67,4 @@ pub fn state_refusal(c: Composer) -> u8
         return shown;
     }
     open_width_refusal(c)
-}
-
-// 8 to 11: the setting's rules while a frame is open.
-pub fn open_rule_refusal(c: Composer) -> u8
-    ensures { λ r. ⌜ r ≡ firstOf (openRuleChecks c) ⌝ }
-{
-    if !c.is_open {
-        return 0;
-    }
-    let kind = c.kind;
-    let setting = c.setting;
-    setting_rules::rule_refusal(kind, setting)
-}
-
-// 17: whether a slot that is planned for no stream is marked filled.
-fn has_unplanned(plan: &[u8], filled: &[bool]) -> bool
-    requires { ⌜ (length (now plan) ≡ lastSlot) × (length (now filled) ≡ lastSlot) ⌝ }
-    ensures { λ t. ⌜ t ≡ someUnplanned (now (plan .entry)) (now (filled .entry)) ⌝ }
-{
-    let mut i = 0;
-    while i < SLOTS {
-        if filled[i] {
-            if plan[i] == 0 {
-                return true;
-            }
-        }
-        i += 1;
-    }
-    false
-}
-
-// 17: a filled mark on a slot planned 0.
-pub fn mark_refusal(c: Composer) -> u8
-    ensures { λ r. ⌜ r ≡ firstOf (markChecks c) ⌝ }
-{
-    if !c.is_open {
-        return 0;
-    }
-    let setting = c.setting;
-    let plan = setting.relative_ts_number;
-    let filled = c.filled;
-    if has_unplanned(&plan, &filled) {
-        return 17;
-    }
-    0
-}
-
-// 16, and what is asked of an open frame.
-pub fn open_refusal(c: Composer) -> u8
-    ensures { λ r. ⌜ r ≡ firstOf (openChecks c) ⌝ }
-{
-    if !c.is_open {
-        return 16;
-    }
-    let rule = open_rule_refusal(c);
-    if rule != 0 {
-        return rule;
-    }
-    mark_refusal(c)
 }

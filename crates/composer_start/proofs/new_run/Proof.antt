@@ -2,8 +2,8 @@ use mathlib.Core.Path.{ap, _∙_}
 use borrow.Author.Needs.{needs}
 use Rattle.announced.specs.Announcing.{announced}
 use Rattle.composer_state.specs.Composing.{fresh}
-use Rattle.composer_begin.proofs.new_run.Statement.{statement}
-use Rattle.composer_begin.proofs.new_run.Tie as tie
+use Rattle.composer_start.proofs.new_run.Statement.{statement}
+use Rattle.composer_start.proofs.new_run.Tie as tie
 
 blank-requires : tie.Need-blank-requires
 blank-requires c κs = search needs

@@ -1,10 +1,10 @@
 use mathlib.Core.Path.{sym, _∙_}
 use borrow.Author.Needs.{needs}
 use borrow.Author.Tests.{not-true, not-false}
 use Rattle.composer_state.specs.Composing.{openRuleChecks}
 use Rattle.composer_state.proofs.Refusals.{asked-all, asked-none}
-use Rattle.composer_state.proofs.open_rule_refusal.Statement.{statement}
-use Rattle.composer_state.proofs.open_rule_refusal.Tie as tie
+use Rattle.composer_open.proofs.open_rule_refusal.Statement.{statement}
+use Rattle.composer_open.proofs.open_rule_refusal.Tie as tie
 
 returns : tie.Need-returns
 unfolding openRuleChecks

@@ -10,9 +10,9 @@ use lib.Dec.{eqb}
 use lib.ListN.{length, getD}
 use Rattle.slices.specs.Slices.{anyBelow}
 use Rattle.slices.proofs.Any.{any-none, any-more, any-found}
 use Rattle.composer_state.specs.Slots.{someUnplanned}
-use Rattle.composer_state.proofs.has_unplanned.Statement.{statement}
-use Rattle.composer_state.proofs.has_unplanned.Tie as tie
+use Rattle.composer_marks.proofs.has_unplanned.Statement.{statement}
+use Rattle.composer_marks.proofs.has_unplanned.Tie as tie
 
 abbrev Inv-loop : tie.InvT-loop
 Inv-loop plan filled i₀ i = (i ≤ length plan) × (anyBelow i (λ k. getD filled k false && eqb (getD plan k 0) 0) ≡ false)

@@ -3,10 +3,10 @@ use mathlib.Core.List.{_++_}
 use borrow.Author.Needs.{needs}
 use Rattle.refusal_table.specs.Refusal.{firstOf}
 use Rattle.refusal_table.proofs.Refusals.{answers, passed, onward, at-once}
 use Rattle.composer_state.specs.Composing.{openRuleChecks, markChecks, openChecks}
 use Rattle.composer_state.proofs.Refusals.{open-rules-none}
-use Rattle.composer_state.proofs.open_refusal.Statement.{statement}
-use Rattle.composer_state.proofs.open_refusal.Tie as tie
+use Rattle.composer_open.proofs.open_refusal.Statement.{statement}
+use Rattle.composer_open.proofs.open_refusal.Tie as tie
 
 past : (c : tie.Else1) → firstOf (openChecks (c .before .before .args .c)) ≡ firstOf (openRuleChecks (c .before .before .args .c) ++ markChecks (c .before .before .args .c))
 unfolding openChecks

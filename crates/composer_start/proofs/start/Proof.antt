@@ -3,8 +3,8 @@ use borrow.Author.Needs.{needs}
 use borrow.Author.Tests.{not-true, not-false}
 use Rattle.refusal_table.specs.Refusal.{firstOf}
 use Rattle.composer_state.specs.Composing.{answer, startOf}
-use Rattle.composer_begin.proofs.start.Statement.{statement}
-use Rattle.composer_begin.proofs.start.Tie as tie
+use Rattle.composer_start.proofs.start.Statement.{statement}
+use Rattle.composer_start.proofs.start.Tie as tie
 
 pid-allowed-requires : tie.Need-pid-allowed-requires
 pid-allowed-requires c κs = search needs

@@ -4,9 +4,9 @@ use borrow.Author.Tests.{not-true, not-false}
 use lib.ListN.{length}
 use Rattle.counters.specs.Counters.{lastSlot}
 use Rattle.refusal_table.specs.Refusal.{firstOf}
 use Rattle.composer_state.specs.Composing.{markChecks}
-use Rattle.composer_state.proofs.mark_refusal.Statement.{statement}
-use Rattle.composer_state.proofs.mark_refusal.Tie as tie
+use Rattle.composer_marks.proofs.mark_refusal.Statement.{statement}
+use Rattle.composer_marks.proofs.mark_refusal.Tie as tie
 
 -- what the arrays have, which their types say
 slots : (c : tie.Start) → (length (c .args .c .setting .«relative_ts_number») ≡ lastSlot) × (length (c .args .c .filled) ≡ lastSlot)
