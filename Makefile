@@ -5,7 +5,7 @@
 SHELL = /bin/bash
 .SHELLFLAGS = -o pipefail -c
 
-BOARD = board_numbers board_setting board_header board_packet board_frame board_receiver board_bond
+BOARD = board_numbers board_counters board_setting board_header board_packet board_frame board_receiver board_bond
 
 # The archive and the programs are for x86-64. On another processor an emulator runs them, and Debian's cross compilers make what is
 # linked with the archive.

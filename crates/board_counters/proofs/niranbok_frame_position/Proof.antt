@@ -1,9 +1,9 @@
 -- `niranbok_frame_position` meets its contract. Assumes nothing.
 use mathlib.Core.Path.{sym, ap, _∙_}
-use Rattle.board_numbers.proofs.Numbers.{position, position-is}
+use Rattle.board_counters.proofs.Numbers.{position, position-is}
 use borrow.Author.Needs.{needs}
-use Rattle.board_numbers.proofs.niranbok_frame_position.Statement.{statement}
-use Rattle.board_numbers.proofs.niranbok_frame_position.Tie as tie
+use Rattle.board_counters.proofs.niranbok_frame_position.Statement.{statement}
+use Rattle.board_counters.proofs.niranbok_frame_position.Tie as tie
 
 new-requires : tie.Need-new-requires
 new-requires c κs = search needs

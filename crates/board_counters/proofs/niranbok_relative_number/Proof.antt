@@ -1,9 +1,9 @@
 -- `niranbok_relative_number` meets its contract. Assumes nothing.
 use mathlib.Core.Path.{sym, ap, _∙_}
-use Rattle.board_numbers.proofs.Numbers.{relative, relative-is}
+use Rattle.board_counters.proofs.Numbers.{relative, relative-is}
 use borrow.Author.Needs.{needs}
-use Rattle.board_numbers.proofs.niranbok_relative_number.Statement.{statement}
-use Rattle.board_numbers.proofs.niranbok_relative_number.Tie as tie
+use Rattle.board_counters.proofs.niranbok_relative_number.Statement.{statement}
+use Rattle.board_counters.proofs.niranbok_relative_number.Tie as tie
 
 new-requires : tie.Need-new-requires
 new-requires c κs = search needs

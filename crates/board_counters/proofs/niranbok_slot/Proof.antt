@@ -1,9 +1,9 @@
 -- `niranbok_slot` meets its contract. Assumes nothing.
 use mathlib.Core.Path.{sym, ap, _∙_}
-use Rattle.board_numbers.proofs.Numbers.{slot, slot-is}
+use Rattle.board_counters.proofs.Numbers.{slot, slot-is}
 use borrow.Author.Needs.{needs}
-use Rattle.board_numbers.proofs.niranbok_slot.Statement.{statement}
-use Rattle.board_numbers.proofs.niranbok_slot.Tie as tie
+use Rattle.board_counters.proofs.niranbok_slot.Statement.{statement}
+use Rattle.board_counters.proofs.niranbok_slot.Tie as tie
 
 new-requires : tie.Need-new-requires
 new-requires c κs = search needs
