@@ -6,12 +6,12 @@ use Rattle.composer_state.specs.declared.Composer.{Composer}
 use Rattle.composer_state.specs.Composing.{putOf, putFrame}
 use Rattle.refusal_table.specs.Refusal.{leaves}
 use Rattle.composer_bytes.specs.States.{composerLength, composerOf}
 use Rattle.board_frame.specs.Calls.{putRefused, putPlaced, putState, putMemory}
 use Rattle.composer_bytes.proofs.Parts.{whole-same}
 use Rattle.board_frame.proofs.Calls.{put-refused, put-done}
 use borrow.Author.Needs.{needs}
-use Rattle.board_frame.proofs.niranbok_composer_put.Statement.{statement}
-use Rattle.board_frame.proofs.niranbok_composer_put.Tie as tie
+use Rattle.board_composer_put.proofs.niranbok_composer_put.Statement.{statement}
+use Rattle.board_composer_put.proofs.niranbok_composer_put.Tie as tie
 
 -- the composer's own call, under the coding
 abbrev decoded : tie.After-put → tie.After-composer-of

@@ -6,12 +6,12 @@ use Rattle.composer_state.specs.declared.Composer.{Composer}
 use Rattle.composer_state.specs.Composing.{closeOf, closedFrame}
 use Rattle.refusal_table.specs.Refusal.{leaves}
 use Rattle.composer_bytes.specs.States.{composerLength, composerOf}
 use Rattle.board_frame.specs.Calls.{closeRefused, closeState, closeMemory}
 use Rattle.composer_bytes.proofs.Parts.{whole-same}
 use Rattle.board_frame.proofs.Calls.{close-refused, close-done}
 use borrow.Author.Needs.{needs}
-use Rattle.board_frame.proofs.niranbok_composer_close.Statement.{statement}
-use Rattle.board_frame.proofs.niranbok_composer_close.Tie as tie
+use Rattle.board_composer_close.proofs.niranbok_composer_close.Statement.{statement}
+use Rattle.board_composer_close.proofs.niranbok_composer_close.Tie as tie
 
 -- the composer's own call, under the coding
 abbrev decoded : tie.After-close → tie.After-composer-of

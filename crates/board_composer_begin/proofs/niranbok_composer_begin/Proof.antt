@@ -8,12 +8,12 @@ use Rattle.composer_state.specs.Composing.{beginOf, begunFrame}
 use Rattle.refusal_table.specs.Refusal.{leaves}
 use Rattle.coding.specs.Settings.{settingLength, settingOf}
 use Rattle.composer_bytes.specs.States.{composerLength, composerOf}
 use Rattle.board_frame.specs.Calls.{beginRefused, beginState, beginMemory}
 use Rattle.composer_bytes.proofs.Parts.{whole-same}
 use Rattle.board_frame.proofs.Calls.{begin-refused, begin-done}
 use borrow.Author.Needs.{needs}
-use Rattle.board_frame.proofs.niranbok_composer_begin.Statement.{statement}
-use Rattle.board_frame.proofs.niranbok_composer_begin.Tie as tie
+use Rattle.board_composer_begin.proofs.niranbok_composer_begin.Statement.{statement}
+use Rattle.board_composer_begin.proofs.niranbok_composer_begin.Tie as tie
 
 -- the composer's own call, under the coding
 abbrev decoded : tie.After-begin → tie.After-composer-of

@@ -7,10 +7,10 @@ use Rattle.refusal_table.specs.Refusal.{firstOf, leaves}
 use Rattle.composer_state.specs.declared.Answer.{Answer}
 use Rattle.composer_state.specs.Composing.{startOf}
 use Rattle.composer_bytes.specs.States.{composerLength, composerBytes}
 use Rattle.board_frame.specs.Calls.{startRefused, startState}
 use borrow.Author.Needs.{needs}
-use Rattle.board_frame.proofs.niranbok_composer_start.Statement.{statement}
-use Rattle.board_frame.proofs.niranbok_composer_start.Tie as tie
+use Rattle.board_composer_start.proofs.niranbok_composer_start.Statement.{statement}
+use Rattle.board_composer_start.proofs.niranbok_composer_start.Tie as tie
 
 returns : tie.Need-returns
 unfolding startRefused startState firstOf leaves
