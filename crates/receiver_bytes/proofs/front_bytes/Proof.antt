@@ -2,9 +2,9 @@
 use mathlib.Core.Path.{refl}
 use borrow.Author.Needs.{needs}
 use Rattle.words.specs.Words.{wordBytes}
 use Rattle.board_receiver.specs.States.{stageBytes}
-use Rattle.board_receiver.proofs.states.front_bytes.Statement.{statement}
-use Rattle.board_receiver.proofs.states.front_bytes.Tie as tie
+use Rattle.receiver_bytes.proofs.front_bytes.Statement.{statement}
+use Rattle.receiver_bytes.proofs.front_bytes.Tie as tie
 
 cast-high : tie.Need-cast-high
 cast-high c = search needs

@@ -1,9 +1,9 @@
 -- `event_number` meets its contract, event by event. Assumes nothing.
 use mathlib.Core.Path.{refl}
 use borrow.Author.Needs.{needs}
 use Rattle.board_receiver.specs.States.{eventNumber}
-use Rattle.board_receiver.proofs.states.event_number.Statement.{statement}
-use Rattle.board_receiver.proofs.states.event_number.Tie as tie
+use Rattle.board_receiver_receive.proofs.event_number.Statement.{statement}
+use Rattle.board_receiver_receive.proofs.event_number.Tie as tie
 
 enum-told : tie.Need-enum-told
 enum-told c = search needs

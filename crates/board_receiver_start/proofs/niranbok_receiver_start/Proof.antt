@@ -5,9 +5,9 @@ use native.Mathlib.Omega.{arith}
 use borrow.Author.Needs.{needs}
 use borrow.Author.Tests.{not-true, not-false}
 use Rattle.rules.specs.Rules.{pidAllowed}
 use Rattle.board_receiver.proofs.Answers.{start-no-state, start-no-pid, start-no-kind, starts}
-use Rattle.board_receiver.proofs.niranbok_receiver_start.Statement.{statement}
-use Rattle.board_receiver.proofs.niranbok_receiver_start.Tie as tie
+use Rattle.board_receiver_start.proofs.niranbok_receiver_start.Statement.{statement}
+use Rattle.board_receiver_start.proofs.niranbok_receiver_start.Tie as tie
 
 -- from the place behind the PID's check to the start
 abbrev start : tie.Else2 → tie.Start

@@ -1,10 +1,10 @@
 -- `niranbok_receiver_receive` meets its contract: the receiver's own call, refused or not. Assumes nothing.
 use mathlib.Core.Path.{_∙_}
 use borrow.Author.Needs.{needs}
-use Rattle.board_receiver.proofs.Parts.{said-pid, said-kind}
+use Rattle.board_receiver.proofs.Parts.{said-pid, said-kind, said-stage}
 use Rattle.board_receiver.proofs.Answers.{receive-no-state, receive-refused, receives}
-use Rattle.board_receiver.proofs.niranbok_receiver_receive.Statement.{statement}
-use Rattle.board_receiver.proofs.niranbok_receiver_receive.Tie as tie
+use Rattle.board_receiver_receive.proofs.niranbok_receiver_receive.Statement.{statement}
+use Rattle.board_receiver_receive.proofs.niranbok_receiver_receive.Tie as tie
 
 returns : tie.Need-returns
 returns c =
@@ -60,7 +60,7 @@ returns-2 c =
     let k = word .before .before .before in
     let a = k .before .before .before .before .args in
     receive-refused (a .state .now) (a .packet .now) (a .store .now) (k .if1 .left)
-    (word .word .ensures ∙ said-pid (a .state .now)) (kind .kind-of .ensures ∙ said-kind (a .state .now)) (stage .stage-in .ensures)
+    (word .word .ensures ∙ said-pid (a .state .now)) (kind .kind-of .ensures ∙ said-kind (a .state .now)) (stage .stage-in .ensures ∙ said-stage (a .state .now) (k .if1 .left))
     (call .receive-in-place .ensures .0) (call .receive-in-place .ensures .1 .0) (call .receive-in-place .ensures .1 .1)
     (event .event-number .result) (event .event-number .ensures) (c .if2 .taken)
 
@@ -85,7 +85,7 @@ returns-3 c =
     let k = word .before .before .before in
     let a = k .before .before .before .before .args in
     receives (a .state .now) (a .packet .now) (a .store .now) (k .if1 .left)
-    (word .word .ensures ∙ said-pid (a .state .now)) (kind .kind-of .ensures ∙ said-kind (a .state .now)) (stage .stage-in .ensures)
+    (word .word .ensures ∙ said-pid (a .state .now)) (kind .kind-of .ensures ∙ said-kind (a .state .now)) (stage .stage-in .ensures ∙ said-stage (a .state .now) (k .if1 .left))
     (call .receive-in-place .ensures .0) (call .receive-in-place .ensures .1 .0) (call .receive-in-place .ensures .1 .1)
     (event .event-number .result) (event .event-number .ensures) (accepted .if2 .left)
     (written .write-front .last .0) (written .write-front .ensures)

@@ -3,9 +3,9 @@ use mathlib.Core.Path.{refl}
 use mathlib.Core.Bool.{and-false}
 use borrow.Author.Needs.{needs}
 use borrow.Author.Tests.{ne-eqb}
 use Rattle.board_receiver.specs.States.{stageOf}
-use Rattle.board_receiver.proofs.states.stage_of.Statement.{statement}
-use Rattle.board_receiver.proofs.states.stage_of.Tie as tie
+use Rattle.receiver_bytes.proofs.stage_of.Statement.{statement}
+use Rattle.receiver_bytes.proofs.stage_of.Tie as tie
 
 returns : tie.Need-returns
 unfolding stageOf

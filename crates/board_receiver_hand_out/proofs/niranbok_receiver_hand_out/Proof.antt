@@ -1,10 +1,10 @@
 -- `niranbok_receiver_hand_out` meets its contract: the receiver's own call. Assumes nothing.
 use mathlib.Core.Path.{_∙_}
 use borrow.Author.Needs.{needs}
-use Rattle.board_receiver.proofs.Parts.{said-pid}
+use Rattle.board_receiver.proofs.Parts.{said-pid, said-stage}
 use Rattle.board_receiver.proofs.Answers.{hand-no-state, hands}
-use Rattle.board_receiver.proofs.niranbok_receiver_hand_out.Statement.{statement}
-use Rattle.board_receiver.proofs.niranbok_receiver_hand_out.Tie as tie
+use Rattle.board_receiver_hand_out.proofs.niranbok_receiver_hand_out.Statement.{statement}
+use Rattle.board_receiver_hand_out.proofs.niranbok_receiver_hand_out.Tie as tie
 
 returns : tie.Need-returns
 returns c =
@@ -46,7 +46,7 @@ returns-2 c =
     let k = word .before .before .before in
     let a = k .before .before .before .before .args in
     hands (a .state .now) (a .r) (a .store .now) (a .out .now) (k .if1 .left)
-    (word .word .ensures ∙ said-pid (a .state .now)) (stage .stage-in .ensures)
+    (word .word .ensures ∙ said-pid (a .state .now)) (stage .stage-in .ensures ∙ said-stage (a .state .now) (k .if1 .left))
     (call .hand-out-in-place .result) (call .hand-out-in-place .ensures .0) (call .hand-out-in-place .last .1 .1 .1 .1 .0) (call .hand-out-in-place .ensures .1)
 
 pub niranbok-receiver-hand-out-spec : {M : Type 1} → statement M
