@@ -2,10 +2,10 @@
 use mathlib.Core.Path.{refl, sym, _∙_}
 use borrow.Author.Tests.{ne-eqb}
 use Rattle.refusal_table.specs.Refusal.{leaves}
 use Rattle.board_header.specs.Calls.{thenRefused, writeRefused, writeMemory}
 use borrow.Author.Needs.{needs}
-use Rattle.board_header.proofs.niranbok_header_write.Statement.{statement}
-use Rattle.board_header.proofs.niranbok_header_write.Tie as tie
+use Rattle.board_header_write.proofs.niranbok_header_write.Statement.{statement}
+use Rattle.board_header_write.proofs.niranbok_header_write.Tie as tie
 
 call-refusal-requires : tie.Need-call-refusal-requires
 call-refusal-requires c κs = search needs

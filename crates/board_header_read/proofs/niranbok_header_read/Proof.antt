@@ -4,11 +4,11 @@ use borrow.Author.Tests.{eq-eqb, ne-eqb}
 use lib.ListN.{length}
 use Rattle.refusal_table.specs.Refusal.{leaves}
 use Rattle.coding.specs.Settings.{settingLength}
 use Rattle.board_header.specs.Calls.{thenRefused, readRefused, readMemory}
 use Rattle.board_header.proofs.Settled.{settled}
 use borrow.Author.Needs.{needs}
-use Rattle.board_header.proofs.niranbok_header_read.Statement.{statement}
-use Rattle.board_header.proofs.niranbok_header_read.Tie as tie
+use Rattle.board_header_read.proofs.niranbok_header_read.Statement.{statement}
+use Rattle.board_header_read.proofs.niranbok_header_read.Tie as tie
 
 call-refusal-requires : tie.Need-call-refusal-requires
 call-refusal-requires c κs = search needs
