@@ -2,8 +2,8 @@
 use mathlib.Core.Path.{ap}
 use Rattle.bond.specs.declared.Moved.{Moved}
 use borrow.Author.Needs.{needs}
-use Rattle.board_bond.proofs.niranbok_gather.Statement.{statement}
-use Rattle.board_bond.proofs.niranbok_gather.Tie as tie
+use Rattle.board_gather.proofs.niranbok_gather.Statement.{statement}
+use Rattle.board_gather.proofs.niranbok_gather.Tie as tie
 
 gather-requires : tie.Need-gather-requires
 gather-requires c κs = search needs
