@@ -6,7 +6,7 @@ use mathlib.Core.List.{List, [], _∷_, _++_}
 use native.Mathlib.Omega.{arith}
 use borrow.Author.Tests.{eq-eqb, ne-eqb, lt-ltb, le-ltb}
 use lib.ListN.{length, drop, replicate}
-use Rattle.slices.specs.Slices.{over}
+use Rattle.slices.specs.Slices.{copied}
 use Rattle.slices.proofs.Front.{put}
 use Rattle.setting.specs.declared.Kind.{Kind}
 use Rattle.refusal_table.specs.Refusal.{firstOf, none}
@@ -59,7 +59,7 @@ module _ (state : List ℕ) (pid kind : ℕ) where
 
       -- zeros for numbers, and before them PID, kind and stage
       pub starts : kind ≤ 1 → {t : Kind} → t ≡ kindOf kind → {numbers : List ℕ} → numbers ≡ replicate (length (lent state l)) 0
-          → {after : List ℕ} → after ≡ over 0 ((wordBytes (pid ∷ []) ++ (kindNumber t ∷ [])) ++ stageBytes Stage.Waiting) (put 6 numbersLength state numbers)
+          → {after : List ℕ} → after ≡ copied (put 6 numbersLength state numbers) ((wordBytes (pid ∷ []) ++ (kindNumber t ∷ [])) ++ stageBytes Stage.Waiting)
           → Starts 0 after
       unfolding startState waiting numbersOf
       starts h k {numbers} n b =
@@ -118,7 +118,7 @@ module _ (state p store : List ℕ) where
         (refusal, (said-event event v, (back ∙ kept refusal _ state h, stored)))
 
     pub receives : (event : ℕ) → event ≡ eventNumber (step .event) → step .refusal ≡ 0 → (bytes : List ℕ)
-        → bytes ≡ over 0 ((wordBytes (pid ∷ []) ++ (kindNumber kind ∷ [])) ++ stageBytes (step .stage)) (put 6 numbersLength state after)
+        → bytes ≡ copied (put 6 numbersLength state after) ((wordBytes (pid ∷ []) ++ (kindNumber kind ∷ [])) ++ stageBytes (step .stage))
         → Receives 0 event bytes memory
     unfolding receiveState stepOf
     receives event v z bytes b =

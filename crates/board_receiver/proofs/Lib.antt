@@ -1,4 +1,4 @@
-mod Answers
+pub mod Answers
 pub mod Coding
-mod Parts
+pub mod Parts
 pub mod Uncoded

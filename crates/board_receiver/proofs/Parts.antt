@@ -1,12 +1,14 @@
 -- A receiver's bytes, as they are written and read part by part. Assumes nothing.
 use Prim.Native.Nat.{ℕ, _+_, _*_, _≤_, _<_}
 use mathlib.Core.Path.{_≡_, refl, sym, ap, _∙_}
+use mathlib.Core.Bool.{cond}
 use mathlib.Core.List.{List, [], _∷_, _++_, append-assoc, append-nil}
 use native.Mathlib.Omega.{arith}
-use borrow.Author.Tests.{lt-ltb, le-ltb}
-use lib.ListN.{length, getD, take, drop, length-drop, drop-of-length-le, take-append-drop}
+use borrow.Author.Tests.{eq-eqb, lt-ltb, le-ltb}
+use lib.Dec.{eqb}
+use lib.ListN.{length, length-append, getD, take, drop, length-drop, drop-of-length-le, take-append-drop}
 use lib.Seq.{length-take-le, take-all, drop-at, drop-drop}
-use Rattle.slices.specs.Slices.{over}
+use Rattle.slices.specs.Slices.{copied}
 use Rattle.slices.proofs.Front.{put}
 use Rattle.counters.specs.Counters.{lastSlot}
 use Rattle.setting.specs.declared.Kind.{Kind}
@@ -27,19 +29,21 @@ front-length pid kind (Stage.Open from k) = refl
 front-length pid kind (Stage.Ready from) = refl
 
 -- PID, kind and stage written before the numbers that were lent and came back
-pub renewed : (state after front : List ℕ) → length state ≡ receiverLength → length front ≡ 6 → over 0 front (put 6 numbersLength state after) ≡ front ++ after
-unfolding over
+pub renewed : (state after front : List ℕ) → length state ≡ receiverLength → length front ≡ 6 → copied (put 6 numbersLength state after) front ≡ front ++ after
+unfolding copied
 renewed state after front l f =
     let rest = drop numbersLength (drop 6 state) in
     let none : rest ≡ [] = drop-of-length-le (drop 6 state) {i = numbersLength} (rw length-drop (omega (arith, l))) in
-    let whole : 0 + length front ≡ 6 = omega (arith, f) in
-    ap (λ (k : ℕ). front ++ drop k (put 6 numbersLength state after)) whole
-    ∙ ap (λ (t : List ℕ). front ++ t) (drop-at (take 6 state) (after ++ rest) 6 (length-take-le 6 state (omega (arith, l))))
+    let six : length (take 6 state) ≡ 6 = length-take-le 6 state (omega (arith, l)) in
+    let room : length front ≤ length (put 6 numbersLength state after) = rw length-append (omega (arith, f, six)) in
+    ap (λ (t : List ℕ). t ++ drop (length front) (put 6 numbersLength state after)) (take-all (length (put 6 numbersLength state after)) front room)
+    ∙ ap (λ (k : ℕ). front ++ drop k (put 6 numbersLength state after)) f
+    ∙ ap (λ (t : List ℕ). front ++ t) (drop-at (take 6 state) (after ++ rest) 6 six)
     ∙ ap (λ (t : List ℕ). front ++ (after ++ t)) none ∙ ap (λ (t : List ℕ). front ++ t) (append-nil after)
 
 pub renewed-bytes : (c : Receiver) (state : List ℕ) → length state ≡ receiverLength → {pid : ℕ} {kind : Kind} {stage : Stage} {after : List ℕ}
     → c .pid ≡ pid → c .kind ≡ kind → stage ≡ c .stage → after ≡ numbersOf c
-    → over 0 ((wordBytes (pid ∷ []) ++ (kindNumber kind ∷ [])) ++ stageBytes stage) (put 6 numbersLength state after) ≡ receiverBytes c
+    → copied (put 6 numbersLength state after) ((wordBytes (pid ∷ []) ++ (kindNumber kind ∷ [])) ++ stageBytes stage) ≡ receiverBytes c
 unfolding receiverBytes numbersOf
 renewed-bytes c state l p k g a =
     rw (sym p, sym k, g, a)
@@ -62,6 +66,10 @@ no-kind b h = rw (le-ltb (getD b 2 0) 2 (omega arith)) refl
 pub a-kind : (b : List ℕ) → getD b 2 0 ≤ 1 → receiverOf b .stage ≡ stageOf (getD b 3 0) (getD b 4 0) (getD b 5 0)
 unfolding receiverOf
 a-kind b h = rw (lt-ltb (getD b 2 0) 2 (omega arith)) refl
+
+-- and the whole state's length
+pub said-stage : (b : List ℕ) → length b ≡ receiverLength → cond (eqb (length b) receiverLength) (receiverOf b .stage) noStage ≡ receiverOf b .stage
+said-stage b l = rw (eq-eqb _ _ l) refl
 
 pub said-pid : (b : List ℕ) → getD b 0 0 * 256 + getD b 1 0 ≡ receiverOf b .pid
 unfolding receiverOf

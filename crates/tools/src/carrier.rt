@@ -200,7 +200,7 @@ fn receive(frame: &mut [u8], part: &mut [u8], packet: &[u8]) -> Event
     requires { ⌜ (length (now frame) ≡ 9964) × (length (now part) ≡ 49930) ⌝ }
 {
     let mut event = 0u8;
-    board_receiver::niranbok_receiver_receive(
+    board_receiver_receive::niranbok_receiver_receive(
         &mut part[0..BLOCK_AT],
         packet,
         &mut frame[PACKET_BYTES..],

@@ -50,7 +50,7 @@ fn start_receivers(parts: &mut [u8], pid: u16)
     let mut c = 0;
     while c < CARRIERS {
         let at = STREAM_BYTES + PART_BYTES * c;
-        board_receiver::niranbok_receiver_start(&mut parts[at..at + RECEIVER_BYTES], pid, 1);
+        board_receiver_start::niranbok_receiver_start(&mut parts[at..at + RECEIVER_BYTES], pid, 1);
         c += 1;
     }
 }

@@ -1,0 +1,62 @@
+// The call for C that takes a packet: the receiver's own under the coding of its state. The slots' numbers stay where they are, so that
+// a packet costs no copy of them.
+use board_receiver::NUMBERS;
+use board_receiver::RECEIVER_BYTES;
+use receiver_table::Event;
+ghost use mathlib.Core.Path.{_≡_};
+ghost use Rattle.board_receiver.specs.States.{eventNumber};
+ghost use Rattle.board_receiver.specs.Calls.{receiveRefused, receiveEvent, receiveState, receiveMemory};
+
+// What a packet did, as a number.
+fn event_number(event: Event) -> u8
+    ensures { λ r. ⌜ r ≡ eventNumber event ⌝ }
+{
+    match event {
+        Event::Nothing => 0,
+        Event::Opened => 1,
+        Event::Stored => 2,
+        Event::Ready => 3,
+        Event::Short => 4,
+        Event::Jump => 5,
+        Event::Long => 6,
+        Event::Broken => 7,
+    }
+}
+
+// Takes one packet.
+#[no_mangle]
+pub extern "C" fn niranbok_receiver_receive(
+    state: &mut [u8],
+    packet: &[u8],
+    store: &mut [u8],
+    event: &mut u8,
+) -> u8
+    ensures { λ r. ⌜ r ≡ receiveRefused (now (state .entry)) (now (packet .entry)) (now (store .entry)) ⌝ }
+    ensures { λ _. ⌜ now (event .exit) ≡ receiveEvent (now (state .entry)) (now (packet .entry)) (now (store .entry)) ⌝ }
+    ensures { λ _. ⌜ now (state .exit) ≡ receiveState (now (state .entry)) (now (packet .entry)) (now (store .entry)) ⌝ }
+    ensures { λ _. ⌜ now (store .exit) ≡ receiveMemory (now (state .entry)) (now (packet .entry)) (now (store .entry)) ⌝ }
+{
+    if state.len() != RECEIVER_BYTES {
+        *event = 0;
+        return 1;
+    }
+    let pid = words::word(state[0], state[1]);
+    let kind = words::kind_of(state[2]);
+    let stage = receiver_bytes::stage_in(state);
+    let step = receiver_in_place::receive_in_place(
+        pid,
+        kind,
+        stage,
+        &mut state[NUMBERS..RECEIVER_BYTES],
+        packet,
+        store,
+    );
+    let did = step.event;
+    *event = event_number(did);
+    if step.refusal != 0 {
+        return step.refusal;
+    }
+    let after = step.stage;
+    receiver_bytes::write_front(state, pid, kind, after);
+    0
+}
