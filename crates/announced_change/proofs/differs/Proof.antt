@@ -4,9 +4,9 @@ use borrow.Author.Needs.{needs}
 use borrow.Author.Tests.{eq-eqb, ne-eqb}
 use lib.ListN.{length}
 use Rattle.counters.specs.Counters.{lastStream}
-use Rattle.announced.proofs.Differ.{some, holds, fails, Past, past-none}
-use Rattle.announced.proofs.differs.Statement.{statement}
-use Rattle.announced.proofs.differs.Tie as tie
+use Rattle.announced_change.proofs.Differ.{some, holds, fails, Past, past-none}
+use Rattle.announced_change.proofs.differs.Statement.{statement}
+use Rattle.announced_change.proofs.differs.Tie as tie
 
 -- from the place after a test that did not hold to the function's start
 abbrev start₁ : tie.Else1 → tie.Start
