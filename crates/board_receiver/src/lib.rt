@@ -50,7 +50,7 @@ pub extern "C" fn niranbok_receiver_receive(
     let pid = words::word(state[0], state[1]);
     let kind = words::kind_of(state[2]);
     let stage = states::stage_in(state);
-    let step = receiver_in_place::receive_in_place(
+    let step = receiver_receive::receive_in_place(
         pid,
         kind,
         stage,
@@ -85,7 +85,7 @@ pub extern "C" fn niranbok_receiver_hand_out(
         *packets = 0;
         return 1;
     }
-    let handed = receiver_in_place::hand_out_in_place(
+    let handed = receiver_hand_out::hand_out_in_place(
         words::word(state[0], state[1]),
         states::stage_in(state),
         &state[states::NUMBERS..RECEIVER_BYTES],

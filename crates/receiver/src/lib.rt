@@ -9,6 +9,7 @@ ghost use lib.ListN.{length, take, drop};
 ghost use Rattle.counters.specs.Counters.{lastSlot};
 ghost use Rattle.receiver_in_place.specs.Receiving.{waiting, startReceiverOf, receiveOf, receiveStore, handOutOf, handOutBuffer};
 ghost use Rattle.receiver_in_place.specs.InPlace.{numbersOf};
+pub use receiver_hand_out::hand_out_in_place;
 pub use receiver_in_place::HandedOut;
 pub use receiver_in_place::NUMBERS_BYTES;
 pub use receiver_in_place::Received;
@@ -16,8 +17,7 @@ pub use receiver_in_place::Receiver;
 pub use receiver_in_place::STORE_BYTES;
 pub use receiver_in_place::Started;
 pub use receiver_in_place::Step;
-pub use receiver_in_place::hand_out_in_place;
-pub use receiver_in_place::receive_in_place;
+pub use receiver_receive::receive_in_place;
 
 fn new_receiver(pid: u16, kind: Kind) -> Receiver
     ensures { λ r. ⌜ r ≡ waiting kind pid ⌝ }

@@ -4,7 +4,7 @@ use mathlib.Core.Path.{_≡_, _∙_}
 use native.Mathlib.Omega.{arith}
 use borrow.Author.Needs.{needs}
 use Rattle.counters.specs.Counters.{lastSlot}
-use Rattle.receiver_in_place.proofs.Parted.{copied-part}
+use Rattle.receiver_receive.proofs.Joined.{copied-part}
 use Rattle.receiver.proofs.half.Statement.{statement}
 use Rattle.receiver.proofs.half.Tie as tie
 

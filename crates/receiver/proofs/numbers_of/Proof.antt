@@ -5,7 +5,7 @@ use lib.ListN.{length, replicate, length-append}
 use borrow.Author.Needs.{needs}
 use Rattle.counters.specs.Counters.{lastSlot}
 use Rattle.receiver_in_place.specs.InPlace.{numbersLength, numbersOf}
-use Rattle.receiver_in_place.proofs.Parted.{joined}
+use Rattle.receiver_receive.proofs.Joined.{joined}
 use Rattle.receiver.proofs.numbers_of.Statement.{statement}
 use Rattle.receiver.proofs.numbers_of.Tie as tie
 
