@@ -22,7 +22,7 @@ pub extern "C" fn niranbok_receiver_hand_out(
         *packets = 0;
         return 1;
     }
-    let handed = receiver_in_place::hand_out_in_place(
+    let handed = receiver_hand_out::hand_out_in_place(
         words::word(state[0], state[1]),
         receiver_bytes::stage_in(state),
         &state[NUMBERS..RECEIVER_BYTES],

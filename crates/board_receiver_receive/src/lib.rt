@@ -43,7 +43,7 @@ pub extern "C" fn niranbok_receiver_receive(
     let pid = words::word(state[0], state[1]);
     let kind = words::kind_of(state[2]);
     let stage = receiver_bytes::stage_in(state);
-    let step = receiver_in_place::receive_in_place(
+    let step = receiver_receive::receive_in_place(
         pid,
         kind,
         stage,

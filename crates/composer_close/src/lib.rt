@@ -46,7 +46,7 @@ fn next_version(c: Composer) -> u8
 {
     let setting = c.setting;
     let last = c.last;
-    if announced::differs(announced::announce(setting), last) {
+    if announced_change::differs(announced::announce(setting), last) {
         return (c.version + 1) % 8;
     }
     c.version

@@ -11,8 +11,8 @@ pub use receiver_in_place::Receiver;
 pub use receiver_in_place::STORE_BYTES;
 pub use receiver_in_place::Started;
 pub use receiver_in_place::Step;
-pub use receiver_in_place::hand_out_in_place;
-pub use receiver_in_place::receive_in_place;
+pub use receiver_hand_out::hand_out_in_place;
+pub use receiver_receive::receive_in_place;
 
 fn new_receiver(pid: u16, kind: Kind) -> Receiver
     ensures { λ r. ⌜ r ≡ waiting kind pid ⌝ }

@@ -1,8 +1,6 @@
-mod Arrived
-pub mod Handing
 pub mod Lent
-pub mod Parted
-mod Receipts
+pub mod LentRefusal
+mod Parted
 pub mod ReceiverChecks
 pub mod Sorts
-mod Steps
+pub mod Store

@@ -1,26 +1,16 @@
-// Frames received packet by packet: a frame is ready when the header behind it has vouched for it. A receiver's numbers are lent
-// and changed in place, so that a packet costs no copy of them; the packets stand in a lent store, slot i at 188 × (i − 1).
-mod checks;
-mod numbered;
-
-use counters::RelativeNumber;
+// A receiver's state, whose numbers are lent and changed in place, so that a packet costs no copy of them; the packets stand in a lent
+// store, slot i at 188 × (i − 1). What its calls answer and leave, and what all of them ask of the state.
 use packet::PACKET_BYTES;
 use receiver_table::Event;
-use receiver_table::Row;
 use receiver_table::Stage;
 use setting::Kind;
 use setting::SLOTS;
+use setting::limits;
 ghost use mathlib.Core.Path.{_≡_};
-ghost use mathlib.Core.Bool.{true};
-ghost use mathlib.Core.List.{_++_};
-ghost use lib.ListN.{length};
-ghost use Rattle.counters.specs.Counters.{lastSlot};
-ghost use Rattle.packet.specs.Packets.{packetLength, unfit};
-ghost use Rattle.receiver_in_place.specs.Store.{storeLength};
-ghost use Rattle.receiver_table.specs.Table.{other};
-ghost use Rattle.receiver_in_place.specs.Arriving.{storeAfter};
-ghost use Rattle.receiver_in_place.specs.Receiving.{receiveRefusal, receiveOf};
-ghost use Rattle.receiver_in_place.specs.InPlace.{numbersLength, receiverWith, numbersOf, stepOf, receiveStep, receiveNumbers, receiveInto, handOutWith, handOutInto};
+ghost use Rattle.setting.specs.declared.Kind.{Kind};
+ghost use Rattle.refusal_table.specs.Refusal.{firstOf};
+ghost use Rattle.receiver_in_place.specs.Receiving.{receiverChecks};
+ghost use Rattle.receiver_in_place.specs.InPlace.{receiverWith, lentRefusal};
 
 // The bytes of the store: a packet for each slot but the header's.
 pub const STORE_BYTES: usize = PACKET_BYTES * SLOTS;
@@ -65,111 +55,22 @@ pub struct HandedOut {
     pub packets: usize,
 }
 
-// Puts the packet into the slot behind those that are stored, if there is one.
-fn store_packet(stage: Stage, packet: &[u8], store: &mut [u8])
-    requires { ⌜ (length (now packet) ≡ packetLength) × (length (now store) ≡ storeLength) ⌝ }
-    ensures { λ _. ⌜ now (store .exit) ≡ storeAfter stage other (now (packet .entry)) (now (store .entry)) ⌝ }
+// 1, 2 and 17: how many numbers are lent, and the state's PID and numbers, of either kind.
+pub fn state_refusal(pid: u16, stage: Stage, numbers: &[u8]) -> u8
+    ensures { λ r. ⌜ ((kind : Kind) → r ≡ lentRefusal (now (numbers .entry)) (firstOf (receiverChecks (receiverWith pid kind stage (now (numbers .entry)))))) ⌝ }
 {
-    let k = receiver_stage::stored(stage);
-    if k < SLOTS {
-        let at = PACKET_BYTES * k;
-        slices::copy(&mut store[at..at + PACKET_BYTES], packet);
+    if numbers.len() != NUMBERS_BYTES {
+        return 1;
     }
-}
-
-// What a packet answers that takes this row.
-fn accepted(row: Row) -> Step
-    ensures { λ r. ⌜ r ≡ record { refusal = 0; event = row .event; stage = row .stage } ⌝ }
-{
-    let event = row.event;
-    let stage = row.stage;
-    Step {
-        refusal: 0,
-        event,
-        stage,
+    if !rules::pid_allowed(pid) {
+        return 2;
     }
-}
-
-// Puts the numbers together: the open frame's, and behind them those of the frame before it.
-fn join(numbers: &mut [u8], opened: &[u8], before: &[u8])
-    requires { ⌜ (length (now opened) ≡ lastSlot) × (length (now before) ≡ lastSlot) ⌝ }
-    requires { ⌜ length (now numbers) ≡ numbersLength ⌝ }
-    ensures { λ _. ⌜ now (numbers .exit) ≡ now (opened .entry) ++ now (before .entry) ⌝ }
-{
-    slices::copy(&mut numbers[0..SLOTS], opened);
-    slices::copy(&mut numbers[SLOTS..NUMBERS_BYTES], before);
-}
-
-// Takes a packet that may stand in no slot: a header, whose numbers are the open frame's now, or a broken one.
-fn take_header(pid: u16, kind: Kind, stage: Stage, numbers: &mut [u8], packet: &[u8]) -> Step
-    requires { ⌜ (length (now numbers) ≡ numbersLength) × (unfit pid (now packet) ≡ true) ⌝ }
-    requires { ⌜ receiveRefusal (receiverWith pid kind stage (now numbers)) (length (now packet)) storeLength ≡ 0 ⌝ }
-    ensures { λ r. ⌜ r ≡ stepOf (receiveOf (receiverWith pid kind stage (now (numbers .entry))) (now (packet .entry)) storeLength) ⌝ }
-    ensures { λ _. ⌜ now (numbers .exit) ≡ numbersOf (receiveOf (receiverWith pid kind stage (now (numbers .entry))) (now (packet .entry)) storeLength .state) ⌝ }
-{
-    let reading = header_reader::read(packet, pid, kind);
-    if reading.refusal != 0 {
-        return accepted(receiver_table::broken_row(stage));
+    let shown = receiver_stage::stage_refusal(stage);
+    if shown != 0 {
+        return shown;
     }
-    let said = reading.setting;
-    let opened = said.relative_ts_number;
-    let mut before = [0u8; SLOTS];
-    slices::copy(&mut before, &numbers[0..SLOTS]);
-    join(numbers, &opened, &before);
-    accepted(receiver_table::header_row(stage, said.continuity_counter))
-}
-
-// Takes one packet, of a receiver whose numbers are lent. Only a good header changes them.
-pub fn receive_in_place(
-    pid: u16,
-    kind: Kind,
-    stage: Stage,
-    numbers: &mut [u8],
-    packet: &[u8],
-    store: &mut [u8],
-) -> Step
-    ensures { λ r. ⌜ r ≡ receiveStep pid kind stage (now (numbers .entry)) (now (packet .entry)) (length (now (store .entry))) ⌝ }
-    ensures { λ _. ⌜ now (numbers .exit) ≡ receiveNumbers pid kind stage (now (numbers .entry)) (now (packet .entry)) (length (now (store .entry))) ⌝ }
-    ensures { λ _. ⌜ now (store .exit) ≡ receiveInto pid kind stage (now (numbers .entry)) (now (packet .entry)) (now (store .entry)) ⌝ }
-{
-    let refusal = checks::receive_refusal(pid, stage, numbers, packet.len(), store.len());
-    if refusal != 0 {
-        return Step {
-            refusal,
-            event: Event::Nothing,
-            stage,
-        };
+    if slices::some_at_least(numbers, limits::NUMBERS) {
+        return 17;
     }
-    if packet::place_refusal(packet, pid) == 0 {
-        store_packet(stage, packet, store);
-        return accepted(receiver_table::other_row(stage));
-    }
-    take_header(pid, kind, stage, numbers, packet)
-}
-
-// Copies the ready frame's packets with number r, in slot order, to the front of the lent buffer; the receiver's numbers are lent.
-pub fn hand_out_in_place(
-    pid: u16,
-    stage: Stage,
-    numbers: &[u8],
-    store: &[u8],
-    out: &mut [u8],
-    r: RelativeNumber,
-) -> HandedOut
-    ensures { λ t. ⌜ t ≡ handOutWith pid stage (now (numbers .entry)) (r .0) (length (now (store .entry))) (length (now (out .entry))) ⌝ }
-    ensures { λ _. ⌜ now (out .exit) ≡ handOutInto pid stage (now (numbers .entry)) (r .0) (now (store .entry)) (now (out .entry)) ⌝ }
-{
-    let refusal = checks::hand_out_refusal(pid, stage, numbers, r, store.len(), out.len());
-    if refusal != 0 {
-        return HandedOut {
-            refusal,
-            packets: 0,
-        };
-    }
-    let before = &numbers[SLOTS..NUMBERS_BYTES];
-    numbered::copy_numbered(out, store, before, r.0);
-    HandedOut {
-        refusal: 0,
-        packets: numbered::count(before, r.0),
-    }
+    0
 }

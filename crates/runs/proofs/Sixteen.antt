@@ -20,7 +20,7 @@ use Rattle.composer_state.specs.Composing.{saying}
 use Rattle.receiver_in_place.specs.declared.Receiver.{Receiver}
 use Rattle.receiver_in_place.specs.Store.{storeLength, numbered, slotsFor}
 use Rattle.receiver_in_place.specs.Receiving.{waiting}
-use Rattle.receiver_in_place.proofs.Handing.{length-numbered}
+use Rattle.receiver_in_place.proofs.Store.{length-numbered}
 use Rattle.runs.specs.Runs.{Call, Each, none, more, started, framesOf}
 use Rattle.runs.specs.Work.{Work, numbersFilled, said, headedBehind, headed, frameOf, added, taken}
 use Rattle.runs.specs.Composed.{headedBy}

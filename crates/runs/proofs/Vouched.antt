@@ -27,7 +27,7 @@ use Rattle.receiver_in_place.specs.Store.{storeLength, numbered, slotsFor}
 use Rattle.receiver_table.specs.Table.{makesReady, Sort, good, broken, other, counterStep, row, openRow, rowOf, isReady}
 use Rattle.receiver_in_place.specs.Arriving.{sortOf, storeAfter}
 use Rattle.receiver_in_place.specs.Receiving.{renumbered, receiverAfter, rowFor, receiveOf, handOutRefusal, handOutOf, handOutBuffer}
-use Rattle.receiver_in_place.proofs.Handing.{length-numbered}
+use Rattle.receiver_in_place.proofs.Store.{length-numbered}
 use Rattle.runs.specs.Losses.{Reception, afterPacket, handed, handedOut}
 use Rattle.runs.specs.Demands.{Asked}
 use Rattle.runs.proofs.Table.{Opens, open-at, ready-at, InRange, waits, opens, Set, state-none, event-is, after-is, row-opens}

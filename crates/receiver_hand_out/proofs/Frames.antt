@@ -1,0 +1,107 @@
+-- What handing out was given that is not refused, and what it answers and leaves. Assumes nothing.
+use Prim.Native.Nat.{ℕ, _*_, _≤_}
+use mathlib.Core.Path.{_≡_, refl, sym, ap, _∙_}
+use mathlib.Core.Bool.{not}
+use mathlib.Core.List.{List, [], _∷_, _++_}
+use native.Mathlib.Decide.{ℕ-discrete}
+use native.Mathlib.Omega.{arith}
+use borrow.Author.Tests.{eq-eqb, ne-eqb, eqb-true, ltb-false, not-false}
+use lib.Dec.{eqb, ltb}
+use lib.ListN.{length, take, drop, length-drop}
+use lib.Seq.{take-all}
+use Rattle.slices.specs.Slices.{over}
+use Rattle.setting.specs.declared.Kind.{Kind}
+use Rattle.counters.specs.Counters.{firstStream, lastStream, lastSlot, within}
+use Rattle.refusal_table.specs.Refusal.{Check, firstOf, NoneHolds}
+use Rattle.refusal_table.proofs.Refusals.{none-first, none-at, none-behind, numbered-append, kept, written}
+use Rattle.packet.specs.Packets.{packetLength}
+use Rattle.receiver_table.specs.declared.Stage.{Stage}
+use Rattle.receiver_table.specs.Table.{isReady}
+use Rattle.receiver_in_place.specs.declared.Receiver.{Receiver}
+use Rattle.receiver_in_place.specs.declared.HandedOut.{HandedOut}
+use Rattle.receiver_in_place.specs.Store.{storeLength, numbered, slotsFor}
+use Rattle.receiver_in_place.specs.Receiving.{receiverChecks, handOutRefusal, handOutOf, handOutBuffer}
+use Rattle.receiver_in_place.specs.InPlace.{numbersLength, receiverWith, lentRefusal, handOutWith, handOutInto}
+use Rattle.receiver_in_place.proofs.ReceiverChecks.{receiver-numbered}
+use Rattle.receiver_in_place.proofs.LentRefusal.{own-refusal, other-refusal}
+
+-- the second part is all that is behind the first
+pub behind-first : (ns : List ℕ) → length ns ≡ numbersLength → take lastSlot (drop lastSlot ns) ≡ drop lastSlot ns
+behind-first ns l = take-all lastSlot (drop lastSlot ns) (rw length-drop (omega (arith, l)))
+
+pub receiver-none : (c : Receiver) → firstOf (receiverChecks c) ≡ 0 → NoneHolds (receiverChecks c)
+receiver-none c e = none-first (receiverChecks c) (receiver-numbered c) e
+
+-- a frame that is handed out
+module _ (c : Receiver) (r store out : ℕ) (e : handOutRefusal c r store out ≡ 0) where
+  abbrev last : List Check
+  last =
+      (17, not (within firstStream lastStream r)) ∷ (16, not (isReady (c .stage))) ∷ (15, ltb out (packetLength * slotsFor r (c .before))) ∷ []
+
+  handed-none : NoneHolds ((1, not (eqb store storeLength)) ∷ (receiverChecks c ++ last))
+  unfolding handOutRefusal
+  handed-none = none-first ((1, not (eqb store storeLength)) ∷ (receiverChecks c ++ last)) (numbered-append (receiverChecks c) last (receiver-numbered c) refl) e
+
+  pub handed-store : store ≡ storeLength
+  handed-store = eqb-true store storeLength (not-false _ (none-at handed-none 0))
+
+  pub handed-room : packetLength * slotsFor r (c .before) ≤ out
+  handed-room = ltb-false out (packetLength * slotsFor r (c .before)) (none-at (none-behind ((1, not (eqb store storeLength)) ∷ receiverChecks c) handed-none) 2)
+
+-- ---- what it answers and leaves
+
+module _ (c : Receiver) (r : ℕ) (store out : List ℕ) where
+  abbrev handing : ℕ
+  handing = handOutRefusal c r (length store) (length out)
+
+  module _ {n : ℕ} (e : n ≡ handing) (h : n ≡ 0 → ⊥) where
+    pub refused-frame : record { refusal = n; packets = 0 } ≡ handOutOf c r (length store) (length out)
+    unfolding handOutOf
+    refused-frame = rw (sym e, ne-eqb n 0 h) refl
+
+    pub refused-buffer : out ≡ handOutBuffer c r store out
+    unfolding handOutBuffer
+    refused-buffer = kept e _ out h
+
+  module _ (e : handing ≡ 0) where
+    module _ {before : List ℕ} (b : before ≡ c .before) where
+      pub handed-frame : {k : ℕ} → k ≡ slotsFor r before → record { refusal = 0; packets = k } ≡ handOutOf c r (length store) (length out)
+      unfolding handOutOf
+      handed-frame k = rw (e, k, b) refl
+
+      pub handed-buffer : {after : List ℕ} → after ≡ over 0 (numbered r before store) out → after ≡ handOutBuffer c r store out
+      unfolding handOutBuffer
+      handed-buffer a = a ∙ ap (λ (l : List ℕ). over 0 (numbered r l store) out) b ∙ written refl _ out e
+
+-- ---- over lent numbers
+
+module _ (pid : ℕ) (stage : Stage) (numbers : List ℕ) (r : ℕ) (store out : List ℕ) where
+  abbrev w : Receiver
+  w = receiverWith pid Kind.Plain stage numbers
+
+  -- what is asked of the answer and of what the buffer is then
+  abbrev Hands : HandedOut → List ℕ → Type 0
+  Hands handed buffer =
+      (handed ≡ handOutWith pid stage numbers r (length store) (length out)) × (buffer ≡ handOutInto pid stage numbers r store out)
+
+  pub hands : length numbers ≡ numbersLength → {handed : HandedOut} {buffer : List ℕ}
+      → handed ≡ handOutOf w r (length store) (length out)
+      → buffer ≡ handOutBuffer w r store out
+      → Hands handed buffer
+  unfolding handOutWith handOutInto
+  hands l e b =
+      let long = eq-eqb (length numbers) numbersLength l in
+      (rw long e, rw long b)
+
+  no-frame : (length numbers ≡ numbersLength → ⊥) → Hands (record { refusal = 1; packets = 0 }) out
+  unfolding handOutWith handOutInto
+  no-frame h =
+      let other = ne-eqb (length numbers) numbersLength h in
+      (rw other refl, rw other refl)
+
+  pub refuses-frame : {n : ℕ} → n ≡ lentRefusal numbers (handOutRefusal w r (length store) (length out)) → (n ≡ 0 → ⊥) → Hands (record { refusal = n; packets = 0 }) out
+  refuses-frame {n} e h = by-length (ℕ-discrete (length numbers) numbersLength)
+    where
+      by-length : Dec (length numbers ≡ numbersLength) → Hands (record { refusal = n; packets = 0 }) out
+      by-length (yes l) = hands l (refused-frame w r store out (own-refusal numbers _ l e) h) (refused-buffer w r store out (own-refusal numbers _ l e) h)
+      by-length (no d) = rw (other-refusal numbers (handOutRefusal w r (length store) (length out)) d e) (no-frame d)

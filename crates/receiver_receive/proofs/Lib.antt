@@ -1,0 +1,5 @@
+mod Arrived
+pub mod Joined
+mod Receipts
+mod Sorts
+mod Steps

@@ -1,0 +1,95 @@
+-- What a receipt was given that is not refused, and what it answers and leaves, by the packet's sort. Assumes nothing.
+use Prim.Native.Nat.{ℕ}
+use mathlib.Core.Path.{_≡_, refl, sym, ap, _∙_}
+use mathlib.Core.Bool.{true, not}
+use mathlib.Core.List.{List, _∷_}
+use borrow.Author.Tests.{eq-eqb, ne-eqb, eqb-true, not-false}
+use lib.Dec.{eqb}
+use lib.ListN.{length}
+use Rattle.setting.specs.declared.Setting.{Setting}
+use Rattle.refusal_table.specs.Refusal.{NoneHolds}
+use Rattle.refusal_table.proofs.Refusals.{none-first, none-at, kept, written}
+use Rattle.layout.specs.Header.{reading}
+use Rattle.packet.specs.Packets.{packetLength, unfit}
+use Rattle.receiver_table.specs.declared.Event.{Event}
+use Rattle.receiver_table.specs.declared.Row.{Row}
+use Rattle.receiver_table.specs.Table.{Sort, good, broken, other, rowOf}
+use Rattle.receiver_table.proofs.Rows.{other-counter, broken-counter}
+use Rattle.receiver_in_place.specs.declared.Received.{Received}
+use Rattle.receiver_in_place.specs.declared.Receiver.{Receiver}
+use Rattle.receiver_in_place.specs.Store.{storeLength}
+use Rattle.receiver_in_place.specs.Arriving.{sortOf, storeAfter}
+use Rattle.receiver_in_place.specs.Receiving.{rowFor, moved, renumbered, receiverAfter, receiverChecks, receiveRefusal, receiveOf, receiveStore}
+use Rattle.receiver_in_place.proofs.ReceiverChecks.{receiver-numbered}
+use Rattle.receiver_receive.proofs.Sorts.{not-stored}
+
+-- what was given
+module _ (c : Receiver) (packet store : ℕ) (e : receiveRefusal c packet store ≡ 0) where
+  received-none : NoneHolds ((1, not (eqb packet packetLength)) ∷ (1, not (eqb store storeLength)) ∷ receiverChecks c)
+  unfolding receiveRefusal
+  received-none = none-first ((1, not (eqb packet packetLength)) ∷ (1, not (eqb store storeLength)) ∷ receiverChecks c) (receiver-numbered c) e
+
+  pub whole-packet : packet ≡ packetLength
+  whole-packet = eqb-true packet packetLength (not-false _ (none-at received-none 0))
+
+  pub whole-store : store ≡ storeLength
+  whole-store = eqb-true store storeLength (not-false _ (none-at received-none 1))
+
+-- ---- what it answers and leaves
+
+module _ (c : Receiver) (p : List ℕ) (store : ℕ) where
+  abbrev refusal : ℕ
+  refusal = receiveRefusal c (length p) store
+
+  -- a row's answer that keeps the numbers
+  abbrev pub keeping : Row → Received
+  keeping row = record { refusal = 0; event = row .event; state = moved c (row .stage) }
+
+  -- and one that takes what a header says
+  abbrev pub renumbering : Row → Setting → Received
+  renumbering row said = record { refusal = 0; event = row .event; state = renumbered c (row .stage) (said .«relative_ts_number») }
+
+  pub refused-receipt : {n : ℕ} → n ≡ refusal → (n ≡ 0 → ⊥) → record { refusal = n; event = Event.Nothing; state = c } ≡ receiveOf c p store
+  unfolding receiveOf
+  refused-receipt {n} e h = rw (sym e, ne-eqb n 0 h) refl
+
+  module _ (e : refusal ≡ 0) where
+    taken-receipt : {s : Sort} → sortOf (c .kind) (c .pid) p ≡ s
+        → receiveOf c p store
+        ≡ record {
+          refusal = 0;
+          event = rowOf (c .stage) s (reading (c .kind) p .«continuity_counter») .event;
+          state = receiverAfter c s (rowOf (c .stage) s (reading (c .kind) p .«continuity_counter») .stage) (reading (c .kind) p .«relative_ts_number»);
+        }
+    unfolding receiveOf rowFor
+    taken-receipt s = rw (eq-eqb refusal 0 e, s) refl
+
+    module _ {row : Row} where
+      pub other-receipt : sortOf (c .kind) (c .pid) p ≡ other → row ≡ rowOf (c .stage) other 0 → keeping row ≡ receiveOf c p store
+      unfolding receiverAfter
+      other-receipt s r = ap keeping (r ∙ other-counter (c .stage) (reading (c .kind) p .«continuity_counter»)) ∙ sym (taken-receipt s)
+
+      pub broken-receipt : sortOf (c .kind) (c .pid) p ≡ broken → row ≡ rowOf (c .stage) broken 0 → keeping row ≡ receiveOf c p store
+      unfolding receiverAfter
+      broken-receipt s r = ap keeping (r ∙ broken-counter (c .stage) (reading (c .kind) p .«continuity_counter»)) ∙ sym (taken-receipt s)
+
+      pub good-receipt : sortOf (c .kind) (c .pid) p ≡ good → (said : Setting) → said ≡ reading (c .kind) p → row ≡ rowOf (c .stage) good (said .«continuity_counter»)
+          → renumbering row said ≡ receiveOf c p store
+      unfolding receiverAfter
+      good-receipt s said t r =
+          ap (λ (w : Row). renumbering w said) r ∙ ap (λ (u : Setting). renumbering (rowOf (c .stage) good (u .«continuity_counter»)) u) t ∙ sym (taken-receipt s)
+
+module _ (c : Receiver) (p store : List ℕ) where
+  pub refused-store : {n : ℕ} → n ≡ receiveRefusal c (length p) (length store) → (n ≡ 0 → ⊥) → store ≡ receiveStore c p store
+  unfolding receiveStore
+  refused-store e h = kept e _ store h
+
+  module _ (e : receiveRefusal c (length p) (length store) ≡ 0) where
+    pub other-store : sortOf (c .kind) (c .pid) p ≡ other → {after : List ℕ} → after ≡ storeAfter (c .stage) other p store → after ≡ receiveStore c p store
+    unfolding receiveStore
+    other-store s a = a ∙ sym (ap (λ (t : Sort). storeAfter (c .stage) t p store) s) ∙ written refl _ store e
+
+    -- a packet that may stand in no slot
+    pub unfit-store : unfit (c .pid) p ≡ true → store ≡ receiveStore c p store
+    unfolding receiveStore
+    unfit-store u = sym (not-stored (c .kind) (c .pid) p u (c .stage) store) ∙ written refl _ store e
