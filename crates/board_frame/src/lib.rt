@@ -21,7 +21,7 @@ pub extern "C" fn niranbok_composer_start(state: &mut [u8], pid: u16, kind: u8) 
         return 17;
     }
     let started = composer_begin::start(pid, words::kind_of(kind));
-    composer_bytes::write_composer(state, started.state);
+    composer_writer::write_composer(state, started.state);
     0
 }
 
@@ -38,12 +38,12 @@ pub extern "C" fn niranbok_composer_begin(state: &mut [u8], frame: &mut [u8], se
     if setting.len() != SETTING_BYTES {
         return 1;
     }
-    let run = composer_bytes::composer_of(state);
-    let begun = composer_begin::begin(run, frame, setting_bytes::setting_of(setting));
+    let run = composer_reader::composer_of(state);
+    let begun = composer_begin::begin(run, frame, setting_reader::setting_of(setting));
     if begun.refusal != 0 {
         return begun.refusal;
     }
-    composer_bytes::write_composer(state, begun.state);
+    composer_writer::write_composer(state, begun.state);
     0
 }
 
@@ -65,13 +65,13 @@ pub extern "C" fn niranbok_composer_put(
         *placed = 0;
         return 1;
     }
-    let run = composer_bytes::composer_of(state);
+    let run = composer_reader::composer_of(state);
     let answer = composer_put::put(run, frame, stream, RelativeNumber(r));
     *placed = answer.placed;
     if answer.refusal != 0 {
         return answer.refusal;
     }
-    composer_bytes::write_composer(state, answer.state);
+    composer_writer::write_composer(state, answer.state);
     0
 }
 
@@ -85,11 +85,11 @@ pub extern "C" fn niranbok_composer_close(state: &mut [u8], frame: &mut [u8]) ->
     if state.len() != COMPOSER_BYTES {
         return 1;
     }
-    let run = composer_bytes::composer_of(state);
+    let run = composer_reader::composer_of(state);
     let closed = composer_close::close(run, frame);
     if closed.refusal != 0 {
         return closed.refusal;
     }
-    composer_bytes::write_composer(state, closed.state);
+    composer_writer::write_composer(state, closed.state);
     0
 }

@@ -46,7 +46,7 @@ pub extern "C" fn niranbok_header_write(packet: &mut [u8], pid: u16, kind: u8, s
         packet,
         pid,
         words::kind_of(kind),
-        setting_bytes::setting_of(setting),
+        setting_reader::setting_of(setting),
     )
 }
 
@@ -64,6 +64,6 @@ pub extern "C" fn niranbok_header_read(packet: &[u8], pid: u16, kind: u8, settin
     if reading.refusal != 0 {
         return reading.refusal;
     }
-    setting_bytes::write_setting(setting, reading.setting);
+    setting_writer::write_setting(setting, reading.setting);
     0
 }
