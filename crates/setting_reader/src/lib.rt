@@ -13,6 +13,15 @@ use setting::Setting;
 ghost use mathlib.Core.Path.{_≡_};
 ghost use Rattle.coding.specs.Settings.{settingOf};
 
+// Where the bonding fields stand behind the first.
+const CARRIERS: usize = BONDING + 1;
+
+const SEQUENCE: usize = BONDING + 2;
+
+const FRAMES: usize = BONDING + 3;
+
+const POSITION: usize = BONDING + 4;
+
 // What bytes say as a setting; of any other length than 252, zeros.
 pub fn setting_of(bytes: &[u8]) -> Setting
     ensures { λ r. ⌜ r ≡ settingOf (now (bytes .entry)) ⌝ }
@@ -44,9 +53,9 @@ pub fn setting_of(bytes: &[u8]) -> Setting
         private_data,
         auxiliary,
         group_id: bytes[BONDING],
-        number_of_carriers: bytes[BONDING + 1],
-        carrier_sequence: bytes[BONDING + 2],
-        number_of_frames: bytes[BONDING + 3],
-        frame_position: FramePosition(bytes[BONDING + 4]),
+        number_of_carriers: bytes[CARRIERS],
+        carrier_sequence: bytes[SEQUENCE],
+        number_of_frames: bytes[FRAMES],
+        frame_position: FramePosition(bytes[POSITION]),
     }
 }

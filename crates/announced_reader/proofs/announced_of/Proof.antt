@@ -1,13 +1,13 @@
 -- `announced_of` meets its contract. Assumes nothing.
-use mathlib.Core.Path.{refl, sym, _∙_}
+use mathlib.Core.Path.{refl, _∙_}
 use native.Mathlib.Omega.{arith}
 use borrow.Author.Tests.{eq-eqb, ne-eqb}
-use lib.ListN.{length, replicate}
-use Rattle.slices.proofs.Front.{copied-over}
+use lib.ListN.{length}
+use Rattle.counters.specs.Counters.{lastStream}
 use Rattle.setting.specs.Setting.{blank}
 use Rattle.announced.specs.Announcing.{announced}
-use Rattle.coding.specs.Settings.{announcedLength, announcedOf, part}
-use Rattle.coding.proofs.Parts.{length-part}
+use Rattle.coding.specs.Settings.{announcedLength, announcedOf}
+use Rattle.coding.proofs.Parts.{copied-part}
 use borrow.Author.Needs.{needs}
 use Rattle.announced_reader.proofs.announced_of.Statement.{statement}
 use Rattle.announced_reader.proofs.announced_of.Tie as tie
@@ -93,7 +93,7 @@ returns-2 c =
       word .word .ensures,
       ts .read-words .ensures,
       networks .read-words2 .ensures,
-      copied .copy .ensures ∙ copied-over (replicate 15 0) (part 64 15 b) (sym (length-part 64 15 b (omega arith))),
+      copied .copy .ensures ∙ copied-part lastStream 64 b (omega arith),
     ) refl
 
 pub announced-of-spec : {M : Type 1} → statement M

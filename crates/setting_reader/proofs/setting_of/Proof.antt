@@ -1,12 +1,9 @@
 -- `setting_of` meets its contract. Assumes nothing.
-use mathlib.Core.Path.{refl, _∙_}
-use native.Mathlib.Omega.{arith}
-use borrow.Author.Tests.{eq-eqb, ne-eqb}
+use mathlib.Core.Path.{sym}
+use borrow.Author.Tests.{ne-eqb}
 use lib.ListN.{length}
-use Rattle.counters.specs.Counters.{lastSlot}
-use Rattle.setting.specs.Setting.{privateBytes, auxiliaryBytes}
 use Rattle.coding.specs.Settings.{settingLength, settingOf}
-use Rattle.coding.proofs.Parts.{copied-part}
+use Rattle.coding.proofs.Parts.{setting-read}
 use borrow.Author.Needs.{needs}
 use Rattle.setting_reader.proofs.setting_of.Statement.{statement}
 use Rattle.setting_reader.proofs.setting_of.Tie as tie
@@ -84,46 +81,28 @@ shared-slice-read-t33 c = search needs
 shared-slice-read-t38 : tie.Need-shared-slice-read-t38
 shared-slice-read-t38 c = search needs
 
-add-t9 : tie.Need-add-t9
-add-t9 c = search needs
-
 shared-slice-read-t40 : tie.Need-shared-slice-read-t40
 shared-slice-read-t40 c = search needs
 
-add-t41 : tie.Need-add-t41
-add-t41 c = search needs
+shared-slice-read-t42 : tie.Need-shared-slice-read-t42
+shared-slice-read-t42 c = search needs
 
-shared-slice-read-t43 : tie.Need-shared-slice-read-t43
-shared-slice-read-t43 c = search needs
-
-add-t44 : tie.Need-add-t44
-add-t44 c = search needs
+shared-slice-read-t44 : tie.Need-shared-slice-read-t44
+shared-slice-read-t44 c = search needs
 
 shared-slice-read-t46 : tie.Need-shared-slice-read-t46
 shared-slice-read-t46 c = search needs
 
-add-t47 : tie.Need-add-t47
-add-t47 c = search needs
-
-shared-slice-read-t49 : tie.Need-shared-slice-read-t49
-shared-slice-read-t49 c = search needs
-
 returns-2 : tie.Need-returns-2
-unfolding settingOf
 returns-2 c =
     let auxiliary = c .before .before .before .before .before .before .before .before .before .before .before in
     let private = auxiliary .before .before .before .before in
     let numbers = private .before .before .before .before in
     let announced = numbers .before .before .before in
-    let long = announced .before .before .if1 .left in
-    let b = announced .before .before .before .before .args .bytes .now in
-    rw (
-      eq-eqb (length b) settingLength long,
-      announced .announced-of .ensures,
-      numbers .copy .ensures ∙ copied-part lastSlot 82 b (omega arith),
-      private .copy2 .ensures ∙ copied-part privateBytes 134 b (omega arith),
-      auxiliary .copy3 .ensures ∙ copied-part auxiliaryBytes 219 b (omega arith),
-    ) refl
+    let whole = announced .before .before in
+    sym
+    (setting-read (whole .before .before .args .bytes .now) _ _ _ _ (whole .if1 .left) (announced .announced-of .ensures) (numbers .copy .ensures)
+    (private .copy2 .ensures) (auxiliary .copy3 .ensures))
 
 pub setting-of-spec : {M : Type 1} → statement M
 setting-of-spec =
@@ -153,12 +132,8 @@ setting-of-spec =
     shared-slice-read-t31
     shared-slice-read-t33
     shared-slice-read-t38
-    add-t9
     shared-slice-read-t40
-    add-t41
-    shared-slice-read-t43
-    add-t44
+    shared-slice-read-t42
+    shared-slice-read-t44
     shared-slice-read-t46
-    add-t47
-    shared-slice-read-t49
     returns-2)
