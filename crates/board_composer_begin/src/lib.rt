@@ -17,11 +17,11 @@ pub extern "C" fn niranbok_composer_begin(state: &mut [u8], frame: &mut [u8], se
     if setting.len() != SETTING_BYTES {
         return 1;
     }
-    let run = composer_bytes::composer_of(state);
-    let begun = composer_begin::begin(run, frame, setting_bytes::setting_of(setting));
+    let run = composer_reader::composer_of(state);
+    let begun = composer_begin::begin(run, frame, setting_reader::setting_of(setting));
     if begun.refusal != 0 {
         return begun.refusal;
     }
-    composer_bytes::write_composer(state, begun.state);
+    composer_writer::write_composer(state, begun.state);
     0
 }

@@ -13,11 +13,11 @@ pub extern "C" fn niranbok_composer_close(state: &mut [u8], frame: &mut [u8]) ->
     if state.len() != COMPOSER_BYTES {
         return 1;
     }
-    let run = composer_bytes::composer_of(state);
+    let run = composer_reader::composer_of(state);
     let closed = composer_close::close(run, frame);
     if closed.refusal != 0 {
         return closed.refusal;
     }
-    composer_bytes::write_composer(state, closed.state);
+    composer_writer::write_composer(state, closed.state);
     0
 }

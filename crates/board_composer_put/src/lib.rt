@@ -22,12 +22,12 @@ pub extern "C" fn niranbok_composer_put(
         *placed = 0;
         return 1;
     }
-    let run = composer_bytes::composer_of(state);
+    let run = composer_reader::composer_of(state);
     let answer = composer_put::put(run, frame, stream, RelativeNumber(r));
     *placed = answer.placed;
     if answer.refusal != 0 {
         return answer.refusal;
     }
-    composer_bytes::write_composer(state, answer.state);
+    composer_writer::write_composer(state, answer.state);
     0
 }

@@ -19,6 +19,6 @@ pub extern "C" fn niranbok_composer_start(state: &mut [u8], pid: u16, kind: u8) 
         return 17;
     }
     let started = composer_start::start(pid, words::kind_of(kind));
-    composer_bytes::write_composer(state, started.state);
+    composer_writer::write_composer(state, started.state);
     0
 }

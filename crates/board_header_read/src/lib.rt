@@ -16,6 +16,6 @@ pub extern "C" fn niranbok_header_read(packet: &[u8], pid: u16, kind: u8, settin
     if reading.refusal != 0 {
         return reading.refusal;
     }
-    setting_bytes::write_setting(setting, reading.setting);
+    setting_writer::write_setting(setting, reading.setting);
     0
 }

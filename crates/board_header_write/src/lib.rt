@@ -16,6 +16,6 @@ pub extern "C" fn niranbok_header_write(packet: &mut [u8], pid: u16, kind: u8, s
         packet,
         pid,
         words::kind_of(kind),
-        setting_bytes::setting_of(setting),
+        setting_reader::setting_of(setting),
     )
 }

@@ -1,9 +1,10 @@
--- Lists written part by part. Assumes nothing.
+-- Lists read and written part by part. Assumes nothing.
 use Prim.Native.Nat.{ℕ, _+_, _≤_}
-use mathlib.Core.Path.{_≡_, refl, sym, ap, _∙_}
+use mathlib.Core.Path.{_≡_, refl, sym, ap, ap₂, _∙_}
 use mathlib.Core.List.{List, [], _∷_, _++_, append-assoc}
 use native.Mathlib.Omega.{arith}
-use lib.ListN.{length, set, drop, replicate, length-append, length-drop, length-replicate}
+use borrow.Author.Tests.{eq-eqb}
+use lib.ListN.{length, getD, set, drop, replicate, length-append, length-drop, length-replicate}
 use lib.Seq.{length-take-le}
 use Rattle.slices.proofs.Front.{put, front-none, front-part, front-more, front-all, copied-over}
 use Rattle.slices.specs.Slices.{copied}
@@ -13,11 +14,11 @@ use Rattle.setting.specs.Setting.{privateBytes, auxiliaryBytes}
 use Rattle.announced.specs.declared.Announced.{Announced}
 use Rattle.announced.specs.Announcing.{announced}
 use Rattle.words.specs.Words.{wordBytes}
-use Rattle.coding.specs.Settings.{part, announcedLength, announcedBytes, settingLength, settingBytes}
+use Rattle.coding.specs.Settings.{part, announcedLength, announcedBytes, announcedOf, settingLength, settingBytes, settingOf}
 use Rattle.words.proofs.Numbers.{length-bytes}
 
 -- n elements from place k on are n where there are so many
-pub length-part : (k n : ℕ) (b : List ℕ) → k + n ≤ length b → length (part k n b) ≡ n
+length-part : (k n : ℕ) (b : List ℕ) → k + n ≤ length b → length (part k n b) ≡ n
 length-part k n b h = length-take-le n (drop k b) (rw (length-drop k b) (omega arith))
 
 -- a part of bytes copied over zeros, as many as it has
@@ -79,22 +80,84 @@ pub streams : (s : Setting) → Long s → Streams (announced s)
 unfolding announced
 streams s long = (long .ts-id, long .network-id, long .statuses)
 
--- a setting: six parts of a list of 252 bytes, filled one after the other
-pub setting-parts : (s : Setting) (bytes c a n p x g : List ℕ) → length bytes ≡ settingLength → Long s
-    → c ≡ s .«continuity_counter» ∷ s .«version_number» ∷ []
+-- a setting's first 134 bytes: two of its own, what it announces and the slots' numbers, filled one after the other
+pub setting-front : (s : Setting) (bytes a n : List ℕ) → length bytes ≡ 134 → length a ≡ announcedLength → length n ≡ lastSlot
     → a ≡ announcedBytes (announced s)
     → n ≡ s .«relative_ts_number»
+    → put 82 52 (put 2 80 (set (set bytes 0 (s .«continuity_counter»)) 1 (s .«version_number»)) a) n
+    ≡ (s .«continuity_counter» ∷ s .«version_number» ∷ []) ++ (announcedBytes (announced s) ++ s .«relative_ts_number»)
+setting-front s bytes a n whole la ln pa pn =
+    let c : List ℕ = s .«continuity_counter» ∷ s .«version_number» ∷ [] in
+    let f₁ = front-more bytes [] bytes 0 (s .«continuity_counter») (front-none bytes) (omega arith) in
+    let f₂ = front-more bytes (s .«continuity_counter» ∷ []) _ 1 (s .«version_number») f₁ (omega arith) in
+    let f₃ = front-part bytes c _ a 2 80 f₂ la in
+    let f₄ = front-part bytes (c ++ a) _ n 82 52 f₃ ln in
+    front-all bytes (c ++ a ++ n) _ 134 f₄ (omega arith) ∙ rw (pa, pn) refl
+
+-- its last 33: the auxiliary bytes and the bonding fields
+pub setting-end : (s : Setting) (bytes x : List ℕ) → length bytes ≡ 33 → length x ≡ auxiliaryBytes → x ≡ s .auxiliary
+    → set (set (set (set (set (put 0 28 bytes x) 28 (s .«group_id»)) 29 (s .«number_of_carriers»)) 30 (s .«carrier_sequence»)) 31 (s .«number_of_frames»)) 32 (s .«frame_position» .0)
+    ≡ s .auxiliary ++ (s .«group_id» ∷ s .«number_of_carriers» ∷ s .«carrier_sequence» ∷ s .«number_of_frames» ∷ s .«frame_position» .0 ∷ [])
+setting-end s bytes x whole lx px =
+    let f₁ = front-part bytes [] bytes x 0 28 (front-none bytes) lx in
+    let f₂ = front-more bytes x _ 28 (s .«group_id») f₁ (omega arith) in
+    let f₃ = front-more bytes _ _ 29 (s .«number_of_carriers») f₂ (omega arith) in
+    let f₄ = front-more bytes _ _ 30 (s .«carrier_sequence») f₃ (omega arith) in
+    let f₅ = front-more bytes _ _ 31 (s .«number_of_frames») f₄ (omega arith) in
+    let f₆ = front-more bytes _ _ 32 (s .«frame_position» .0) f₅ (omega arith) in
+    front-all bytes _ _ 33 f₆ (omega arith) ∙ simp append-assoc (rw px refl)
+
+-- how five parts are bracketed
+five : (c a n p b : List ℕ) → (c ++ (a ++ n)) ++ p ++ b ≡ c ++ (a ++ (n ++ (p ++ b)))
+five c a n p b = simp append-assoc refl
+
+-- a setting: its front, its private bytes and its back, filled one after the other
+pub setting-parts : (s : Setting) (bytes f p b : List ℕ) → length bytes ≡ settingLength → length f ≡ 134 → length p ≡ privateBytes → length b ≡ 33
+    → f ≡ (s .«continuity_counter» ∷ s .«version_number» ∷ []) ++ (announcedBytes (announced s) ++ s .«relative_ts_number»)
     → p ≡ s .«private_data»
-    → x ≡ s .auxiliary
-    → g ≡ s .«group_id» ∷ s .«number_of_carriers» ∷ s .«carrier_sequence» ∷ s .«number_of_frames» ∷ s .«frame_position» .0 ∷ []
-    → put 247 5 (put 219 28 (put 134 85 (put 82 52 (put 2 80 (put 0 2 bytes c) a) n) p) x) g ≡ settingBytes s
+    → b ≡ s .auxiliary ++ (s .«group_id» ∷ s .«number_of_carriers» ∷ s .«carrier_sequence» ∷ s .«number_of_frames» ∷ s .«frame_position» .0 ∷ [])
+    → put 219 33 (put 134 85 (put 0 134 bytes f) p) b ≡ settingBytes s
 unfolding settingBytes
-setting-parts s bytes c a n p x g whole long pc pa pn pp px pg =
-    let f₁ = front-part bytes [] bytes c 0 2 (front-none bytes) (ap length pc) in
-    let f₂ = front-part bytes c _ a 2 80 f₁ (ap length pa ∙ length-announced (announced s) (streams s long)) in
-    let f₃ = front-part bytes (c ++ a) _ n 82 52 f₂ (ap length pn ∙ long .numbers) in
-    let f₄ = front-part bytes (c ++ a ++ n) _ p 134 85 f₃ (ap length pp ∙ long .privates) in
-    let f₅ = front-part bytes (c ++ a ++ n ++ p) _ x 219 28 f₄ (ap length px ∙ long .auxiliaries) in
-    let f₆ = front-part bytes (c ++ a ++ n ++ p ++ x) _ g 247 5 f₅ (ap length pg) in
-    front-all bytes (c ++ a ++ n ++ p ++ x ++ g) _ 252 f₆ (omega arith)
-    ∙ simp append-assoc (rw (pc, pa, pn, pp, px, pg) refl)
+setting-parts s bytes f p b whole lf lp lb pf pp pb =
+    let f₁ = front-part bytes [] bytes f 0 134 (front-none bytes) lf in
+    let f₂ = front-part bytes f _ p 134 85 f₁ lp in
+    let f₃ = front-part bytes (f ++ p) _ b 219 33 f₂ lb in
+    front-all bytes (f ++ p ++ b) _ 252 f₃ (omega arith) ∙ ap₂ (λ (l m : List ℕ). l ++ m) (ap₂ (λ (l m : List ℕ). l ++ m) pf pp) pb
+    ∙ five (s .«continuity_counter» ∷ s .«version_number» ∷ []) (announcedBytes (announced s)) (s .«relative_ts_number») (s .«private_data»)
+    (s .auxiliary ++ (s .«group_id» ∷ s .«number_of_carriers» ∷ s .«carrier_sequence» ∷ s .«number_of_frames» ∷ s .«frame_position» .0 ∷ []))
+
+-- a setting read: what its bytes announce, and three parts copied over zeros
+pub setting-read : (b n p x : List ℕ) (a : Announced) → length b ≡ settingLength
+    → a ≡ announcedOf (part 2 80 b)
+    → n ≡ copied (replicate lastSlot 0) (part 82 52 b)
+    → p ≡ copied (replicate privateBytes 0) (part 134 85 b)
+    → x ≡ copied (replicate auxiliaryBytes 0) (part 219 28 b)
+    → settingOf b
+    ≡ record {
+      «continuity_counter» = getD b 0 0;
+      «version_number» = getD b 1 0;
+      «slot_allocation_type» = a .«slot_allocation_type»;
+      «frame_type» = a .«frame_type»;
+      availability = a .availability;
+      «ts_id» = a .«ts_id»;
+      «original_network_id» = a .«original_network_id»;
+      «receive_status» = a .«receive_status»;
+      «emergency_indicator» = a .«emergency_indicator»;
+      «relative_ts_number» = n;
+      «private_data» = p;
+      auxiliary = x;
+      «group_id» = getD b 247 0;
+      «number_of_carriers» = getD b 248 0;
+      «carrier_sequence» = getD b 249 0;
+      «number_of_frames» = getD b 250 0;
+      «frame_position» = record { 0 = getD b 251 0 };
+    }
+unfolding settingOf
+setting-read b n p x a whole pa pn pp px =
+    rw (
+      eq-eqb (length b) settingLength whole,
+      pa,
+      pn ∙ copied-part lastSlot 82 b (omega arith),
+      pp ∙ copied-part privateBytes 134 b (omega arith),
+      px ∙ copied-part auxiliaryBytes 219 b (omega arith),
+    ) refl

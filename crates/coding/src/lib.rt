@@ -1,6 +1,6 @@
 // Settings as bytes, in a fixed layout: what a caller in another language keeps and hands over. The fields stand in the setting's own
-// order, numbers of 16 bits with the high byte first. Here the layout alone; the code stands in announced_bytes and
-// setting_bytes.
+// order, numbers of 16 bits with the high byte first. Here the layout alone; the code stands in announced_reader,
+// announced_writer, setting_reader and setting_writer.
 use setting::AUXILIARY_BYTES;
 use setting::PRIVATE_BYTES;
 use setting::SLOTS;

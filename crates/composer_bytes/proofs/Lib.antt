@@ -1,2 +1,2 @@
-mod Marks
+pub mod Marks
 pub mod Parts

@@ -1,0 +1,94 @@
+-- `read_words` meets its contract: after k turns the first k numbers are read. Assumes nothing.
+use Prim.Native.Nat.{_-_, _*_, _≤_}
+use mathlib.Core.Path.{_≡_, refl, sym, ap, _∙_}
+use native.Mathlib.Omega.{arith}
+use borrow.Author.Needs.{needs}
+use lib.ListN.{length, take, length-set}
+use lib.Seq.{take-all}
+use Rattle.words.specs.Words.{wordsOf}
+use Rattle.words.proofs.Numbers.{word-read}
+use Rattle.announced_reader.proofs.read_words.Statement.{statement}
+use Rattle.announced_reader.proofs.read_words.Tie as tie
+
+abbrev Inv-loop : tie.InvT-loop
+Inv-loop words₀ part k₀ words k =
+    (k ≤ length words₀) × (length words ≡ length words₀) × (take k words ≡ wordsOf (take (2 * k) part))
+
+abbrev μ-loop : tie.MeasureT-loop
+μ-loop words₀ part k₀ words k = length words₀ - k
+
+loop-holds : tie.Need-loop-holds Inv-loop μ-loop
+unfolding wordsOf
+loop-holds c = (omega arith, refl, refl)
+
+mul-word : tie.Need-mul-word Inv-loop μ-loop
+mul-word c = search needs
+
+shared-slice-read-word : tie.Need-shared-slice-read-word Inv-loop μ-loop
+shared-slice-read-word c = search needs
+
+mul-word-2 : tie.Need-mul-word-2 Inv-loop μ-loop
+mul-word-2 c = search needs
+
+add-word : tie.Need-add-word Inv-loop μ-loop
+add-word c = search needs
+
+shared-slice-read-word-2 : tie.Need-shared-slice-read-word-2 Inv-loop μ-loop
+shared-slice-read-word-2 c = search needs
+
+word-requires : tie.Need-word-requires Inv-loop μ-loop
+word-requires c κs = search needs
+
+mul-words : tie.Need-mul-words Inv-loop μ-loop
+mul-words c = search needs
+
+slice-write-words : tie.Need-slice-write-words Inv-loop μ-loop
+slice-write-words c = search needs
+
+add-k : tie.Need-add-k Inv-loop μ-loop
+add-k c = search needs
+
+loop-less : tie.Need-loop-less Inv-loop μ-loop
+loop-less c = search needs
+
+loop-again : tie.Need-loop-again Inv-loop μ-loop
+loop-again c =
+    let turn = c .before .before .before .before .loop in
+    let start = c .before .before .before .before .before .before .before in
+    let args = start .args in (
+      omega arith,
+      simp length-set (turn .inv .1),
+      rw (c .word .ensures) (word-read (turn .words) (args .part .now) (turn .k) (omega arith) (omega (arith, start .pre)) (turn .inv .2)),
+    )
+
+same-length : tie.Need-same-length Inv-loop μ-loop
+same-length c = search needs
+
+returns : tie.Need-returns Inv-loop μ-loop
+returns c =
+    let turn = c .before .loop in
+    let start = c .before .before .before .before in
+    let args = start .args in
+    let all : turn .k ≡ length (turn .words) = omega arith in
+    sym (take-all (turn .k) (turn .words) (omega arith)) ∙ turn .inv .2 ∙ ap wordsOf (take-all (2 * turn .k) (args .part .now) (omega (arith, start .pre)))
+
+pub read-words-spec : {M : Type 1} → statement M
+read-words-spec =
+    tie.close
+    (tie.spec
+    Inv-loop
+    μ-loop
+    loop-holds
+    mul-word
+    shared-slice-read-word
+    mul-word-2
+    add-word
+    shared-slice-read-word-2
+    word-requires
+    mul-words
+    slice-write-words
+    add-k
+    loop-less
+    loop-again
+    same-length
+    returns)
