@@ -4,6 +4,7 @@ use setting::Kind;
 use setting::SLOTS;
 ghost use mathlib.Core.Path.{_≡_};
 ghost use Rattle.receiver_in_place.specs.Receiving.{waiting, startReceiverOf};
+pub use receiver_hand_out::hand_out_in_place;
 pub use receiver_in_place::HandedOut;
 pub use receiver_in_place::NUMBERS_BYTES;
 pub use receiver_in_place::Received;
@@ -11,7 +12,6 @@ pub use receiver_in_place::Receiver;
 pub use receiver_in_place::STORE_BYTES;
 pub use receiver_in_place::Started;
 pub use receiver_in_place::Step;
-pub use receiver_hand_out::hand_out_in_place;
 pub use receiver_receive::receive_in_place;
 
 fn new_receiver(pid: u16, kind: Kind) -> Receiver
