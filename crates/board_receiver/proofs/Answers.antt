@@ -21,7 +21,8 @@ use Rattle.receiver_in_place.specs.declared.Step.{Step}
 use Rattle.receiver_in_place.specs.Receiving.{waiting, startReceiverOf, receiveOf, handOutOf}
 use Rattle.receiver_in_place.specs.InPlace.{numbersLength, numbersOf, stepOf, receiveStep, receiveNumbers, receiveInto, handOutWith, handOutInto}
 use Rattle.receiver_in_place.proofs.Lent.{lent-step, lent-numbers, lent-store, lent-frame, lent-buffer, keeps, refused-keeps}
-use Rattle.board_receiver.specs.States.{receiverLength, stageBytes, receiverBytes, receiverOf, eventNumber}
+use Rattle.receiver_bytes.specs.Stages.{receiverLength, stageBytes}
+use Rattle.board_receiver.specs.States.{receiverBytes, receiverOf, eventNumber}
 use Rattle.board_receiver.proofs.Parts.{renewed-bytes, put-back, lent, lent-length, said-whole, said-numbers}
 use Rattle.board_receiver.specs.Calls.{startRefused, startState, receiveRefused, receiveEvent, receiveState, receiveMemory, handOutRefused, handOutPackets, handOutMemory}
 

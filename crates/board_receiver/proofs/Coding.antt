@@ -9,7 +9,8 @@ use Rattle.setting.specs.declared.Kind.{Kind}
 use Rattle.words.specs.Words.{wordBytes, wordAt}
 use Rattle.words.specs.Kinds.{isKind, kindOf, kindNumber}
 use Rattle.receiver_table.specs.declared.Stage.{Stage}
-use Rattle.board_receiver.specs.States.{stageBytes, stageOf, receiverBytes, receiverOf}
+use Rattle.receiver_bytes.specs.Stages.{stageBytes, stageOf}
+use Rattle.board_receiver.specs.States.{receiverBytes, receiverOf}
 use Rattle.board_receiver.specs.Demands.{StateBack}
 
 kind-back : (kind : Kind) → (kindOf (kindNumber kind) ≡ kind) × (isKind (kindNumber kind) ≡ true)

@@ -1,10 +1,10 @@
 -- A receiver's bytes, as they are written and read part by part. Assumes nothing.
-use Prim.Native.Nat.{ℕ, _+_, _*_, _≤_, _<_}
+use Prim.Native.Nat.{ℕ, _+_, _*_, _≤_}
 use mathlib.Core.Path.{_≡_, refl, sym, ap, _∙_}
-use mathlib.Core.Bool.{cond}
+use mathlib.Core.Bool.{cond, _&&_}
 use mathlib.Core.List.{List, [], _∷_, _++_, append-assoc, append-nil}
 use native.Mathlib.Omega.{arith}
-use borrow.Author.Tests.{eq-eqb, lt-ltb, le-ltb}
+use borrow.Author.Tests.{eq-eqb}
 use lib.Dec.{eqb}
 use lib.ListN.{length, length-append, getD, take, drop, length-drop, drop-of-length-le, take-append-drop}
 use lib.Seq.{length-take-le, take-all, drop-at, drop-drop}
@@ -13,12 +13,13 @@ use Rattle.slices.proofs.Front.{put}
 use Rattle.counters.specs.Counters.{lastSlot}
 use Rattle.setting.specs.declared.Kind.{Kind}
 use Rattle.words.specs.Words.{wordBytes}
-use Rattle.words.specs.Kinds.{kindOf, kindNumber}
+use Rattle.words.specs.Kinds.{isKind, kindOf, kindNumber}
 use Rattle.receiver_table.specs.declared.Stage.{Stage}
 use Rattle.receiver_in_place.specs.declared.Receiver.{Receiver}
 use Rattle.receiver_in_place.specs.InPlace.{numbersLength, receiverWith, numbersOf}
 use Rattle.receiver_in_place.proofs.Lent.{numbers-with}
-use Rattle.board_receiver.specs.States.{receiverLength, stageBytes, noStage, stageOf, receiverBytes, receiverOf}
+use Rattle.receiver_bytes.specs.Stages.{receiverLength, stageBytes, noStage, stageOf}
+use Rattle.board_receiver.specs.States.{receiverBytes, receiverOf}
 
 -- ---- written
 
@@ -58,17 +59,9 @@ put-back state l =
 
 -- ---- read
 
--- the stage that bytes say counts where their kind is one
-pub no-kind : (b : List ℕ) → 1 < getD b 2 0 → receiverOf b .stage ≡ noStage
+pub said-stage : (b : List ℕ) → length b ≡ receiverLength
+    → cond (eqb (length b) receiverLength && isKind (getD b 2 0)) (stageOf (getD b 3 0) (getD b 4 0) (getD b 5 0)) noStage ≡ receiverOf b .stage
 unfolding receiverOf
-no-kind b h = rw (le-ltb (getD b 2 0) 2 (omega arith)) refl
-
-pub a-kind : (b : List ℕ) → getD b 2 0 ≤ 1 → receiverOf b .stage ≡ stageOf (getD b 3 0) (getD b 4 0) (getD b 5 0)
-unfolding receiverOf
-a-kind b h = rw (lt-ltb (getD b 2 0) 2 (omega arith)) refl
-
--- and the whole state's length
-pub said-stage : (b : List ℕ) → length b ≡ receiverLength → cond (eqb (length b) receiverLength) (receiverOf b .stage) noStage ≡ receiverOf b .stage
 said-stage b l = rw (eq-eqb _ _ l) refl
 
 pub said-pid : (b : List ℕ) → getD b 0 0 * 256 + getD b 1 0 ≡ receiverOf b .pid

@@ -17,7 +17,8 @@ use Rattle.receiver_in_place.specs.declared.Receiver.{Receiver}
 use Rattle.receiver_in_place.specs.Store.{storeLength}
 use Rattle.receiver_table.specs.Table.{stageChecks}
 use Rattle.receiver_in_place.specs.Receiving.{receiverChecks, receiveRefusal, handOutRefusal, receiveOf, handOutOf}
-use Rattle.board_receiver.specs.States.{noStage, isStage, stageOf, isCoded, receiverOf}
+use Rattle.receiver_bytes.specs.Stages.{noStage, stageOf}
+use Rattle.board_receiver.specs.States.{isStage, isCoded, receiverOf}
 use Rattle.board_receiver.specs.Calls.{receiveRefused, handOutRefused}
 use Rattle.board_receiver.specs.Demands.{UncodedRefused}
 

@@ -8,7 +8,8 @@ use Rattle.refusal_table.specs.Refusal.{firstOf, leaves}
 use Rattle.rules.specs.Rules.{pidAllowed}
 use Rattle.words.specs.Kinds.{isKind, kindOf}
 use Rattle.receiver_in_place.specs.Receiving.{startReceiverOf, receiveOf, receiveStore, handOutOf, handOutBuffer}
-use Rattle.board_receiver.specs.States.{receiverLength, receiverBytes, receiverOf, eventNumber}
+use Rattle.receiver_bytes.specs.Stages.{receiverLength}
+use Rattle.board_receiver.specs.States.{receiverBytes, receiverOf, eventNumber}
 
 -- start: 1, 2, and 17 for a number that is no kind
 unfoldable pub startRefused : List ℕ → ℕ → ℕ → ℕ

@@ -9,7 +9,8 @@ use Rattle.packet.specs.Packets.{packetLength}
 use Rattle.words.specs.Words.{wordAt}
 use Rattle.receiver_in_place.specs.declared.Receiver.{Receiver}
 use Rattle.receiver_in_place.specs.Store.{storeLength}
-use Rattle.board_receiver.specs.States.{receiverLength, receiverBytes, receiverOf, OfItsTypes, isCoded}
+use Rattle.receiver_bytes.specs.Stages.{receiverLength}
+use Rattle.board_receiver.specs.States.{receiverBytes, receiverOf, OfItsTypes, isCoded}
 use Rattle.board_receiver.specs.Calls.{receiveRefused, handOutRefused}
 
 -- decoding what was encoded gives the value back

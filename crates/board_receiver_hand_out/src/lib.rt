@@ -1,7 +1,7 @@
 // The call for C that hands packets out: the receiver's own under the coding of its state, over the slots' numbers where they are.
-use board_receiver::NUMBERS;
-use board_receiver::RECEIVER_BYTES;
 use counters::RelativeNumber;
+use receiver_bytes::NUMBERS;
+use receiver_bytes::RECEIVER_BYTES;
 ghost use mathlib.Core.Path.{_≡_};
 ghost use Rattle.board_receiver.specs.Calls.{handOutRefused, handOutPackets, handOutMemory};
 

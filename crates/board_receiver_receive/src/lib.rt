@@ -1,7 +1,7 @@
 // The call for C that takes a packet: the receiver's own under the coding of its state. The slots' numbers stay where they are, so that
 // a packet costs no copy of them.
-use board_receiver::NUMBERS;
-use board_receiver::RECEIVER_BYTES;
+use receiver_bytes::NUMBERS;
+use receiver_bytes::RECEIVER_BYTES;
 use receiver_table::Event;
 ghost use mathlib.Core.Path.{_≡_};
 ghost use Rattle.board_receiver.specs.States.{eventNumber};

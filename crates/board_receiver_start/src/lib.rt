@@ -1,6 +1,6 @@
 // The call for C that starts a receiver: the state is lent bytes.
-use board_receiver::NUMBERS;
-use board_receiver::RECEIVER_BYTES;
+use receiver_bytes::NUMBERS;
+use receiver_bytes::RECEIVER_BYTES;
 use receiver_table::Stage;
 ghost use mathlib.Core.Path.{_≡_};
 ghost use Rattle.board_receiver.specs.Calls.{startRefused, startState};

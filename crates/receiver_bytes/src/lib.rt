@@ -1,17 +1,22 @@
 // The front of a receiver's state as bytes, read and written: PID, kind and stage.
-use board_receiver::NUMBERS;
-use board_receiver::RECEIVER_BYTES;
 use receiver_table::Stage;
 use setting::Kind;
+use setting::SLOTS;
 ghost use mathlib.Core.Path.{_≡_};
-ghost use mathlib.Core.Bool.{cond};
+ghost use mathlib.Core.Bool.{cond, _&&_};
 ghost use mathlib.Core.List.{[], _∷_, _++_};
 ghost use lib.Dec.{eqb};
-ghost use lib.ListN.{length};
+ghost use lib.ListN.{length, getD};
 ghost use Rattle.words.specs.Words.{wordBytes};
-ghost use Rattle.words.specs.Kinds.{kindNumber};
+ghost use Rattle.words.specs.Kinds.{isKind, kindNumber};
 ghost use Rattle.slices.specs.Slices.{copied};
-ghost use Rattle.board_receiver.specs.States.{receiverLength, stageBytes, noStage, stageOf, receiverOf};
+ghost use Rattle.receiver_bytes.specs.Stages.{receiverLength, stageBytes, noStage, stageOf};
+
+// How many bytes a receiver's state takes: PID, kind, stage, the slots' numbers by the open frame's header and by the one before.
+pub const RECEIVER_BYTES: usize = NUMBERS + SLOTS + SLOTS;
+
+// Where the numbers start.
+pub const NUMBERS: usize = 6;
 
 // A stage that every call refuses with 17: what bytes say that are no stage's.
 fn no_stage() -> Stage
@@ -57,7 +62,7 @@ fn front_bytes(pid: u16, kind: Kind, stage: Stage) -> [u8; NUMBERS]
 
 // The stage that a state's bytes say. Beside a number that is no kind they say none, nor do bytes of another length.
 pub fn stage_in(bytes: &[u8]) -> Stage
-    ensures { λ r. ⌜ r ≡ cond (eqb (length (now (bytes .entry))) receiverLength) (receiverOf (now (bytes .entry)) .stage) noStage ⌝ }
+    ensures { λ r. ⌜ r ≡ cond (eqb (length (now (bytes .entry))) receiverLength && isKind (getD (now (bytes .entry)) 2 0)) (stageOf (getD (now (bytes .entry)) 3 0) (getD (now (bytes .entry)) 4 0) (getD (now (bytes .entry)) 5 0)) noStage ⌝ }
 {
     if bytes.len() != RECEIVER_BYTES {
         return no_stage();

@@ -2,7 +2,7 @@
 use mathlib.Core.Path.{refl}
 use borrow.Author.Needs.{needs}
 use Rattle.words.specs.Words.{wordBytes}
-use Rattle.board_receiver.specs.States.{stageBytes}
+use Rattle.receiver_bytes.specs.Stages.{stageBytes}
 use Rattle.receiver_bytes.proofs.front_bytes.Statement.{statement}
 use Rattle.receiver_bytes.proofs.front_bytes.Tie as tie
 

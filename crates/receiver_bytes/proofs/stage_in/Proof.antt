@@ -1,10 +1,9 @@
 -- `stage_in` meets its contract: the length and the kind are right or not. Assumes nothing.
-use mathlib.Core.Path.{sym, _∙_}
+use native.Mathlib.Omega.{arith}
 use borrow.Author.Needs.{needs}
-use borrow.Author.Tests.{ne-eqb}
-use lib.ListN.{length}
-use Rattle.board_receiver.specs.States.{receiverLength}
-use Rattle.board_receiver.proofs.Parts.{said-stage, no-kind, a-kind}
+use borrow.Author.Tests.{eq-eqb, ne-eqb, lt-ltb, le-ltb}
+use lib.ListN.{length, getD}
+use Rattle.receiver_bytes.specs.Stages.{receiverLength}
 use Rattle.receiver_bytes.proofs.stage_in.Statement.{statement}
 use Rattle.receiver_bytes.proofs.stage_in.Tie as tie
 
@@ -27,7 +26,7 @@ returns-2 c =
     let k = c .before in
     let lent = k .before .before in
     let b = lent .before .before .args .bytes .now in
-    c .no-stage2 .ensures ∙ sym (said-stage b (lent .if1 .left) ∙ no-kind b (k .if2 .taken))
+    rw (eq-eqb (length b) receiverLength (lent .if1 .left), le-ltb (getD b 2 0) 2 (omega (arith, k .if2 .taken))) (c .no-stage2 .ensures)
 
 shared-slice-read-stage-of : tie.Need-shared-slice-read-stage-of
 shared-slice-read-stage-of c = search needs
@@ -46,7 +45,7 @@ returns-3 c =
     let k = c .before .before .before .before in
     let lent = k .before .before in
     let b = lent .before .before .args .bytes .now in
-    c .stage-of .ensures ∙ sym (said-stage b (lent .if1 .left) ∙ a-kind b (k .if2 .left))
+    rw (eq-eqb (length b) receiverLength (lent .if1 .left), lt-ltb (getD b 2 0) 2 (omega (arith, k .if2 .left))) (c .stage-of .ensures)
 
 pub stage-in-spec : {M : Type 1} → statement M
 stage-in-spec =

@@ -1,0 +1,2 @@
+-- The front of a receiver's state as bytes.
+pub mod Stages
