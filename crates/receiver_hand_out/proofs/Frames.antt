@@ -1,7 +1,7 @@
 -- What handing out was given that is not refused, and what it answers and leaves. Assumes nothing.
 use Prim.Native.Nat.{ℕ, _*_, _≤_}
 use mathlib.Core.Path.{_≡_, refl, sym, ap, _∙_}
-use mathlib.Core.Bool.{not}
+use mathlib.Core.Bool.{Bool, true, false, cond, not}
 use mathlib.Core.List.{List, [], _∷_, _++_}
 use native.Mathlib.Decide.{ℕ-discrete}
 use native.Mathlib.Omega.{arith}
@@ -48,6 +48,16 @@ module _ (c : Receiver) (r store out : ℕ) (e : handOutRefusal c r store out �
   pub handed-room : packetLength * slotsFor r (c .before) ≤ out
   handed-room = ltb-false out (packetLength * slotsFor r (c .before)) (none-at (none-behind ((1, not (eqb store storeLength)) ∷ receiverChecks c) handed-none) 2)
 
+-- a refusal of the state is that of the call, where no check before it holds
+pub state-first : (numbers : List ℕ) (state all : ℕ) {n : ℕ} → n ≡ lentRefusal numbers state → (n ≡ 0 → ⊥)
+    → ((state ≡ 0 → ⊥) → all ≡ state) → n ≡ lentRefusal numbers all
+unfolding lentRefusal
+state-first numbers state all {n} e h f = by-test (eqb (length numbers) numbersLength) e
+  where
+    by-test : (t : Bool) → n ≡ cond t state 1 → n ≡ cond t all 1
+    by-test true e = e ∙ sym (f (λ z. h (e ∙ z)))
+    by-test false e = e
+
 -- ---- what it answers and leaves
 
 module _ (c : Receiver) (r : ℕ) (store out : List ℕ) where
@@ -55,11 +65,11 @@ module _ (c : Receiver) (r : ℕ) (store out : List ℕ) where
   handing = handOutRefusal c r (length store) (length out)
 
   module _ {n : ℕ} (e : n ≡ handing) (h : n ≡ 0 → ⊥) where
-    pub refused-frame : record { refusal = n; packets = 0 } ≡ handOutOf c r (length store) (length out)
+    refused-frame : record { refusal = n; packets = 0 } ≡ handOutOf c r (length store) (length out)
     unfolding handOutOf
     refused-frame = rw (sym e, ne-eqb n 0 h) refl
 
-    pub refused-buffer : out ≡ handOutBuffer c r store out
+    refused-buffer : out ≡ handOutBuffer c r store out
     unfolding handOutBuffer
     refused-buffer = kept e _ out h
 

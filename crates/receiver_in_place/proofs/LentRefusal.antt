@@ -34,13 +34,3 @@ one-anyway numbers refusal e = sym (by-test (eqb (length numbers) numbersLength)
     by-test : (t : Bool) → cond t refusal 1 ≡ 1
     by-test true = e
     by-test false = refl
-
--- a refusal of the state is that of every call that has no check before it
-pub state-first : (numbers : List ℕ) (state all : ℕ) {n : ℕ} → n ≡ lentRefusal numbers state → (n ≡ 0 → ⊥)
-    → ((state ≡ 0 → ⊥) → all ≡ state) → n ≡ lentRefusal numbers all
-unfolding lentRefusal
-state-first numbers state all {n} e h f = by-test (eqb (length numbers) numbersLength) e
-  where
-    by-test : (t : Bool) → n ≡ cond t state 1 → n ≡ cond t all 1
-    by-test true e = e ∙ sym (f (λ z. h (e ∙ z)))
-    by-test false e = e

@@ -19,8 +19,8 @@ use Rattle.receiver_in_place.specs.declared.Receiver.{Receiver}
 use Rattle.receiver_table.specs.Table.{isReady}
 use Rattle.receiver_in_place.specs.Receiving.{receiverChecks, handOutRefusal}
 use Rattle.receiver_in_place.specs.InPlace.{numbersLength, receiverWith, lentRefusal}
-use Rattle.receiver_in_place.proofs.LentRefusal.{own-refusal, lent-accepted, one-anyway, state-first}
-use Rattle.receiver_hand_out.proofs.Frames.{behind-first, receiver-none}
+use Rattle.receiver_in_place.proofs.LentRefusal.{own-refusal, lent-accepted, one-anyway}
+use Rattle.receiver_hand_out.proofs.Frames.{behind-first, receiver-none, state-first}
 use Rattle.receiver_hand_out.proofs.hand_out_refusal.Statement.{statement}
 use Rattle.receiver_hand_out.proofs.hand_out_refusal.Tie as tie
 
