@@ -1,5 +1,5 @@
 mod Arrived
-pub mod Joined
+mod Joined
 mod Receipts
 mod Sorts
 mod Steps
