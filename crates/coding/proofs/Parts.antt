@@ -4,9 +4,9 @@ use mathlib.Core.Path.{_≡_, refl, sym, ap, ap₂, _∙_}
 use mathlib.Core.List.{List, [], _∷_, _++_, append-assoc}
 use native.Mathlib.Omega.{arith}
 use borrow.Author.Tests.{eq-eqb}
-use lib.ListN.{length, getD, set, drop, replicate, length-append, length-drop, length-replicate}
-use lib.Seq.{length-take-le}
-use Rattle.slices.proofs.Front.{put, front-none, front-part, front-more, front-all, copied-over}
+use lib.ListN.{length, getD, set, take, drop, replicate, length-append, length-drop, length-replicate}
+use lib.Seq.{sets, sets-eq, drop-at, length-take-le}
+use Rattle.slices.proofs.Front.{put, front-none, front-kept, front-part, front-more, front-all, copied-over}
 use Rattle.slices.specs.Slices.{copied}
 use Rattle.counters.specs.Counters.{lastStream, lastSlot}
 use Rattle.setting.specs.declared.Setting.{Setting}
@@ -80,19 +80,23 @@ pub streams : (s : Setting) → Long s → Streams (announced s)
 unfolding announced
 streams s long = (long .ts-id, long .network-id, long .statuses)
 
--- a setting's first 134 bytes: two of its own, what it announces and the slots' numbers, filled one after the other
+-- a setting's first 134 bytes: what it announces and the slots' numbers, then the two bytes before them
 pub setting-front : (s : Setting) (bytes a n : List ℕ) → length bytes ≡ 134 → length a ≡ announcedLength → length n ≡ lastSlot
     → a ≡ announcedBytes (announced s)
     → n ≡ s .«relative_ts_number»
-    → put 82 52 (put 2 80 (set (set bytes 0 (s .«continuity_counter»)) 1 (s .«version_number»)) a) n
+    → set (set (put 82 52 (put 2 80 bytes a) n) 0 (s .«continuity_counter»)) 1 (s .«version_number»)
     ≡ (s .«continuity_counter» ∷ s .«version_number» ∷ []) ++ (announcedBytes (announced s) ++ s .«relative_ts_number»)
 setting-front s bytes a n whole la ln pa pn =
     let c : List ℕ = s .«continuity_counter» ∷ s .«version_number» ∷ [] in
-    let f₁ = front-more bytes [] bytes 0 (s .«continuity_counter») (front-none bytes) (omega arith) in
-    let f₂ = front-more bytes (s .«continuity_counter» ∷ []) _ 1 (s .«version_number») f₁ (omega arith) in
-    let f₃ = front-part bytes c _ a 2 80 f₂ la in
-    let f₄ = front-part bytes (c ++ a) _ n 82 52 f₃ ln in
-    front-all bytes (c ++ a ++ n) _ 134 f₄ (omega arith) ∙ rw (pa, pn) refl
+    let f₁ = front-kept bytes [] bytes 0 2 (front-none bytes) (omega arith) in
+    let f₂ = front-part bytes (take 2 bytes) _ a 2 80 f₁ la in
+    let f₃ = front-part bytes (take 2 bytes ++ a) _ n 82 52 f₂ ln in
+    let filled : put 82 52 (put 2 80 bytes a) n ≡ take 2 bytes ++ (a ++ n) = front-all bytes (take 2 bytes ++ a ++ n) _ 134 f₃ (omega arith) ∙ append-assoc (take 2 bytes) a n in
+    let long = length-append (take 2 bytes) (a ++ n) in
+    let two : length (take 2 bytes) ≡ 2 = length-take-le 2 bytes (omega arith) in
+    ap (λ (l : List ℕ). sets l 0 c) filled
+    ∙ sets-eq c (take 2 bytes ++ (a ++ n)) 0 (omega arith)
+    ∙ ap (λ (l : List ℕ). c ++ l) (drop-at (take 2 bytes) (a ++ n) 2 two ∙ ap₂ (λ (l m : List ℕ). l ++ m) pa pn)
 
 -- its last 33: the auxiliary bytes and the bonding fields
 pub setting-end : (s : Setting) (bytes x : List ℕ) → length bytes ≡ 33 → length x ≡ auxiliaryBytes → x ≡ s .auxiliary

@@ -30,11 +30,11 @@ fn write_front(part: &mut [u8], s: Setting)
     requires { ⌜ length (now part) ≡ 134 ⌝ }
     ensures { λ _. ⌜ now (part .exit) ≡ (s .«continuity_counter» ∷ s .«version_number» ∷ []) ++ (announcedBytes (announced s) ++ s .«relative_ts_number») ⌝ }
 {
-    part[0] = s.continuity_counter;
-    part[1] = s.version_number;
     announced_writer::write_announced(&mut part[ANNOUNCED..NUMBERS], announced::announce(s));
     let relative_ts_number = s.relative_ts_number;
     slices::copy(&mut part[NUMBERS..PRIVATE], &relative_ts_number);
+    part[0] = s.continuity_counter;
+    part[1] = s.version_number;
 }
 
 // The auxiliary bytes and the bonding fields, a byte each.

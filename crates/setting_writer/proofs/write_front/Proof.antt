@@ -1,11 +1,11 @@
--- `write_front` meets its contract: two bytes and two parts, one behind the other. Assumes nothing.
+-- `write_front` meets its contract: two parts, one behind the other, and two bytes before them. Assumes nothing.
 use Prim.Native.Nat.{ℕ}
 use mathlib.Core.Path.{_≡_, sym, ap, _∙_}
 use mathlib.Core.List.{List}
 use native.Mathlib.Omega.{arith}
 use borrow.Author.Tests.{eq-eqb}
 use borrow.Rule.Slice.PartMut.{same-len-mid, mid-len}
-use lib.ListN.{length, take, drop, set, length-set}
+use lib.ListN.{length, take, drop, length-set}
 use Rattle.slices.proofs.Front.{put, copied-over}
 use Rattle.counters.specs.Counters.{lastSlot}
 use Rattle.announced.specs.Announcing.{announced}
@@ -28,37 +28,31 @@ told c = c .before .before .before .before .before .before
 
 -- each part is back with its length, and so is the whole
 abbrev after₁ : tie.After-write-announced → List ℕ
-after₁ c = set (set (begun c .args .part .now) 0 (begun c .args .s .«continuity_counter»)) 1 (begun c .args .s .«version_number»)
+after₁ c = put 2 80 (begun c .args .part .now) (c .write-announced .last .0)
 
 whole₁ : (c : tie.After-write-announced) → length (after₁ c) ≡ 134
-whole₁ c = simp length-set (begun c .pre)
+whole₁ c = same-len-mid 2 80 (begun c .args .part .now) (c .write-announced .last .0) (c .write-announced .kept .0) ∙ begun c .pre
 
-abbrev after₂ : tie.After-write-announced → List ℕ
-after₂ c = put 2 80 (after₁ c) (c .write-announced .last .0)
+abbrev after₂ : tie.After-copy → List ℕ
+after₂ c = put 82 52 (after₁ (told c)) (c .copy .last .0)
 
-whole₂ : (c : tie.After-write-announced) → length (after₂ c) ≡ 134
-whole₂ c = same-len-mid 2 80 (after₁ c) (c .write-announced .last .0) (c .write-announced .kept .0) ∙ whole₁ c
+whole₂ : (c : tie.After-copy) → length (after₂ c) ≡ 134
+whole₂ c = same-len-mid 82 52 (after₁ (told c)) (c .copy .last .0) (c .copy .kept .0) ∙ whole₁ (told c)
 
 -- what each part then holds
-told-length : (c : tie.After-write-announced) → length (c .write-announced .last .0) ≡ announcedLength
-told-length c = c .write-announced .kept .0 ∙ mid-len 2 82 (after₁ c) (omega (arith, whole₁ c))
+told-room : (c : tie.After-write-announced) → length (take 80 (drop 2 (begun c .args .part .now))) ≡ announcedLength
+told-room c = mid-len 2 82 (begun c .args .part .now) (omega (arith, begun c .pre))
 
 told-bytes : (c : tie.After-write-announced) → c .write-announced .last .0 ≡ announcedBytes (announced (begun c .args .s))
 told-bytes c =
-    let n = mid-len 2 82 (after₁ c) (omega (arith, whole₁ c)) in
-    rw (eq-eqb (length (take 80 (drop 2 (after₁ c)))) announcedLength n) at (c .write-announced .ensures) ∙ ap announcedBytes (c .before .announce .ensures)
+    rw (eq-eqb (length (take 80 (drop 2 (begun c .args .part .now)))) announcedLength (told-room c)) at (c .write-announced .ensures)
+    ∙ ap announcedBytes (c .before .announce .ensures)
 
 numbers-copied : (c : tie.After-copy) → c .copy .last .0 ≡ begun (told c) .args .s .«relative_ts_number»
 numbers-copied c =
     c .copy .ensures
-    ∙ copied-over (take 52 (drop 82 (after₂ (told c)))) (begun (told c) .args .s .«relative_ts_number»)
-    (mid-len 82 134 (after₂ (told c)) (omega (arith, whole₂ (told c))) ∙ sym (slots (begun (told c))))
-
-slice-write-part : tie.Need-slice-write-part
-slice-write-part c = search needs
-
-slice-write-part-2 : tie.Need-slice-write-part-2
-slice-write-part-2 c = search needs
+    ∙ copied-over (take 52 (drop 82 (after₁ (told c)))) (begun (told c) .args .s .«relative_ts_number»)
+    (mid-len 82 134 (after₁ (told c)) (omega (arith, whole₁ (told c))) ∙ sym (slots (begun (told c))))
 
 sub-write-announced : tie.Need-sub-write-announced
 sub-write-announced c = search needs
@@ -67,7 +61,7 @@ part-write-announced-start : tie.Need-part-write-announced-start
 part-write-announced-start c = search needs
 
 part-write-announced-end : tie.Need-part-write-announced-end
-part-write-announced-end c = simp length-set (omega (arith, c .before .pre))
+part-write-announced-end c = search needs
 
 announce-requires : tie.Need-announce-requires
 announce-requires c κs = search needs
@@ -82,7 +76,7 @@ part-copy-start : tie.Need-part-copy-start
 part-copy-start c = search needs
 
 part-copy-end : tie.Need-part-copy-end
-part-copy-end c = omega (arith, whole₂ (c .before .before .before))
+part-copy-end c = omega (arith, whole₁ (c .before .before .before))
 
 slice-aggregate-copy : tie.Need-slice-aggregate-copy
 slice-aggregate-copy c = sym (slots (begun (c .before .before .before .before .before)))
@@ -90,24 +84,29 @@ slice-aggregate-copy c = sym (slots (begun (c .before .before .before .before .b
 copy-requires : tie.Need-copy-requires
 copy-requires c κs = search needs
 
+slice-write-part : tie.Need-slice-write-part
+slice-write-part c = omega (arith, whole₂ (c .before .before))
+
+slice-write-part-2 : tie.Need-slice-write-part-2
+slice-write-part-2 c = simp length-set (omega (arith, whole₂ (c .before .before)))
+
 same-length : tie.Need-same-length
 same-length c =
     let copied = c .before .before in
-    same-len-mid 82 52 (after₂ (told copied)) (copied .copy .last .0) (copied .copy .kept .0) ∙ whole₂ (told copied) ∙ sym (begun (told copied) .pre)
+    simp length-set (whole₂ copied ∙ sym (begun (told copied) .pre))
 
 returns : tie.Need-returns
 returns c =
     let copied = c .before .before in
-    let start = begun (told copied) in
-    setting-front (start .args .s) (start .args .part .now) (told copied .write-announced .last .0) (copied .copy .last .0) (start .pre)
-    (told-length (told copied)) (ap length (numbers-copied copied) ∙ slots start) (told-bytes (told copied)) (numbers-copied copied)
+    let announcement = told copied in
+    let start = begun announcement in
+    setting-front (start .args .s) (start .args .part .now) (announcement .write-announced .last .0) (copied .copy .last .0) (start .pre)
+    (announcement .write-announced .kept .0 ∙ told-room announcement) (ap length (numbers-copied copied) ∙ slots start) (told-bytes announcement) (numbers-copied copied)
 
 pub write-front-spec : {M : Type 1} → statement M
 write-front-spec =
     tie.close
     (tie.spec
-    slice-write-part
-    slice-write-part-2
     sub-write-announced
     part-write-announced-start
     part-write-announced-end
@@ -118,5 +117,7 @@ write-front-spec =
     part-copy-end
     slice-aggregate-copy
     copy-requires
+    slice-write-part
+    slice-write-part-2
     same-length
     returns)
