@@ -1,7 +1,7 @@
 # `make tools` proves and builds mux, demux, bond and unbond; `make run` the lister, and lists the sample; `make test` is the gate;
 # `make board` makes the archive for C; `make bench` measures; `make memory` runs the comparison under valgrind; `make real` takes real
 # streams through the tools.
-.PHONY: tools rust-test tools-test real run test board archive archive-test limits-test board-test bench memory vectors x86-64 natively
+.PHONY: tools names rust-test tools-test real run test board archive archive-test limits-test board-test bench memory vectors x86-64 natively
 SHELL = /bin/bash
 .SHELLFLAGS = -o pipefail -c
 
@@ -35,6 +35,10 @@ endif
 # One program with four names, in target/tools.
 tools: x86-64
 	rt check tools | tail -n 1
+	$(MAKE) --no-print-directory names
+
+# Its names, where it is built.
+names: x86-64
 	mkdir -p target/tools
 ifdef EMULATOR
 	for name in mux demux bond unbond; do printf '#!/bin/sh\nexec $(EMULATOR) -0 %s %s "$$@"\n' $$name $(CURDIR)/target/bin/tools \
@@ -47,8 +51,8 @@ endif
 rust-test:
 	cd compare && cargo test --quiet && cargo test --quiet -p tools --no-run
 
-# The tools on good and bad input, held to what the independent Rust makes of the same.
-tools-test: tools
+# The tools that are there on good and bad input, held to what the independent Rust makes of the same.
+tools-test: names
 	cd compare && cargo test --quiet -p tools
 
 # Two streams by ffmpeg, multiplexed, taken apart and compared, whole and with packets lost.
@@ -70,10 +74,11 @@ board:
 	$(MAKE) --no-print-directory archive
 
 # The same where its crates are proved.
+AT_ONCE ?= 2
 archive:
 	rm -rf target/board
 	mkdir -p target/board
-	printf '%s\n' $(BOARD) | xargs -P 2 -n 1 compare/staticlib.sh
+	printf '%s\n' $(BOARD) | xargs -P $(AT_ONCE) -n 1 compare/staticlib.sh
 	ar rcs target/board/libniranbok.a target/board/roots/*/*.o
 
 # The example in C, and both implementations over the same inputs, with the archive that is there.
@@ -82,13 +87,14 @@ archive-test: x86-64
 	$(EMULATOR) target/board/board
 	cd compare && $(CROSS_CARGO) test --quiet -p board --tests
 
-# The header's constants.
+# The header's constants, held to the program that is there.
 limits-test: x86-64
-	rt check limits | tail -n 1
 	compare/limits.sh $(EMULATOR) target/bin/limits
 
 # All of the board interface's.
-board-test: board archive-test limits-test
+board-test: board
+	rt check limits | tail -n 1
+	$(MAKE) --no-print-directory archive-test limits-test
 
 # A time under the emulator says nothing.
 natively:
