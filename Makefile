@@ -1,7 +1,7 @@
 # `make tools` proves and builds mux, demux, bond and unbond; `make run` the lister, and lists the sample; `make test` is the gate;
-# `make board` makes the archive for C; `make bench` measures; `make memory` runs the comparison under valgrind; `make real` takes real
+# `make board` makes the archive for C; `make bench` measures, `make count` counts instructions; `make memory` runs the comparison under valgrind; `make real` takes real
 # streams through the tools.
-.PHONY: tools names rust-test tools-test real run test board archive archive-test limits-test board-test bench memory vectors x86-64 natively
+.PHONY: tools names rust-test tools-test real run test board archive archive-test limits-test board-test bench count memory vectors x86-64 natively
 SHELL = /bin/bash
 .SHELLFLAGS = -o pipefail -c
 
@@ -14,11 +14,13 @@ BOARD = board_numbers board_counters board_setting board_crc board_header_write 
 ifeq ($(shell uname -m),x86_64)
 CROSS_CC = gcc
 CROSS_CARGO = cargo
+BENCH = compare/target/release/bench
 else
 EMULATOR = qemu-x86_64
 CROSS_CC = x86_64-linux-gnu-gcc
 CROSS_CARGO = RUSTC=/usr/bin/rustc CARGO_BUILD_TARGET=x86_64-unknown-linux-gnu CARGO_TARGET_X86_64_UNKNOWN_LINUX_GNU_LINKER=$(CROSS_CC) \
 	CARGO_TARGET_X86_64_UNKNOWN_LINUX_GNU_RUNNER=$(EMULATOR) cargo
+BENCH = compare/target/x86_64-unknown-linux-gnu/release/bench
 export NIRANBOK_EMULATOR = $(EMULATOR)
 # A quarter of the comparison's rounds are a million calls, and the emulator takes its time.
 export NIRANBOK_PART ?= 4
@@ -106,6 +108,12 @@ bench: natively board tools
 	cd compare && cargo run --quiet --release -p board --bin bench
 	compare/lister.sh target/bin/lister
 	compare/tools.sh target/bin/tools
+
+# The benchmark's rows in counted instructions, under the emulator, which is installed.
+count: board x86-64
+	command -v qemu-x86_64 >/dev/null || apt-get -q install -y qemu-user
+	cd compare && $(CROSS_CARGO) build --quiet --release -p board --bin bench
+	compare/count.sh $(BENCH)
 
 # The same comparison, shorter, with every access watched.
 memory: natively board
