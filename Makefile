@@ -1,6 +1,6 @@
 # `make tools` proves and builds mux, demux, bond and unbond; `make run` the lister, and lists the sample; `make test` is the gate;
-# `make board` makes the archive for C; `make bench` measures, `make count` counts instructions; `make memory` runs the comparison under valgrind; `make real` takes real
-# streams through the tools.
+# `make board` makes the archive for C; `make bench` measures, `make count` counts instructions; `make memory` runs the comparison under
+# valgrind; `make real` takes real streams through the tools.
 .PHONY: tools names rust-test tools-test real run test board archive archive-test limits-test board-test bench count memory vectors x86-64 natively
 SHELL = /bin/bash
 .SHELLFLAGS = -o pipefail -c
