@@ -75,7 +75,7 @@ board:
 	rt check $(BOARD) | tail -n 1
 	$(MAKE) --no-print-directory archive
 
-# The same where its crates are proved.
+# The same where its crates are proved, so many of them at once.
 AT_ONCE ?= 2
 archive:
 	rm -rf target/board

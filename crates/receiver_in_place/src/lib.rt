@@ -34,7 +34,8 @@ pub struct Started {
     pub state: Receiver,
 }
 
-// What a packet's receipt answers: refusal 0, the event and the new state, or the refusal's number and the state as it was.
+// What a packet's receipt comes to, over the whole state; the call in place is said by it. Refusal 0, the event and the new state, or the
+// refusal's number and the state as it was.
 pub struct Received {
     pub refusal: u8,
     pub event: Event,
