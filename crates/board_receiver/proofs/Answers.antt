@@ -2,7 +2,7 @@
 use Prim.Native.Nat.{ℕ, _<_, _≤_}
 use mathlib.Core.Path.{_≡_, refl, sym, ap, _∙_}
 use mathlib.Core.Bool.{true, false, not}
-use mathlib.Core.List.{List, [], _∷_, _++_}
+use mathlib.Core.List.{List, [], _∷_}
 use native.Mathlib.Omega.{arith}
 use borrow.Author.Tests.{eq-eqb, ne-eqb, lt-ltb, le-ltb}
 use lib.ListN.{length, drop, replicate}
@@ -12,8 +12,7 @@ use Rattle.setting.specs.declared.Kind.{Kind}
 use Rattle.refusal_table.specs.Refusal.{firstOf, none}
 use Rattle.rules.specs.Rules.{pidAllowed}
 use Rattle.refusal_table.proofs.Refusals.{answers, passed, first-none, kept, written}
-use Rattle.words.specs.Words.{wordBytes}
-use Rattle.words.specs.Kinds.{isKind, kindOf, kindNumber}
+use Rattle.words.specs.Kinds.{isKind, kindOf}
 use Rattle.receiver_table.specs.declared.Stage.{Stage}
 use Rattle.receiver_in_place.specs.declared.Received.{Received}
 use Rattle.receiver_in_place.specs.declared.HandedOut.{HandedOut}
@@ -21,7 +20,7 @@ use Rattle.receiver_in_place.specs.declared.Step.{Step}
 use Rattle.receiver_in_place.specs.Receiving.{waiting, startReceiverOf, receiveOf, handOutOf}
 use Rattle.receiver_in_place.specs.InPlace.{numbersLength, numbersOf, stepOf, receiveStep, receiveNumbers, receiveInto, handOutWith, handOutInto}
 use Rattle.receiver_in_place.proofs.Lent.{lent-step, lent-numbers, lent-store, lent-frame, lent-buffer, keeps, refused-keeps}
-use Rattle.receiver_bytes.specs.Stages.{receiverLength, stageBytes}
+use Rattle.receiver_bytes.specs.Stages.{receiverLength, frontBytes}
 use Rattle.board_receiver.specs.States.{receiverBytes, receiverOf, eventNumber}
 use Rattle.board_receiver.proofs.Parts.{renewed-bytes, put-back, lent, lent-length, said-whole, said-numbers}
 use Rattle.board_receiver.specs.Calls.{startRefused, startState, receiveRefused, receiveEvent, receiveState, receiveMemory, handOutRefused, handOutPackets, handOutMemory}
@@ -60,7 +59,7 @@ module _ (state : List ℕ) (pid kind : ℕ) where
 
       -- zeros for numbers, and before them PID, kind and stage
       pub starts : kind ≤ 1 → {t : Kind} → t ≡ kindOf kind → {numbers : List ℕ} → numbers ≡ replicate (length (lent state l)) 0
-          → {after : List ℕ} → after ≡ copied (put 6 numbersLength state numbers) ((wordBytes (pid ∷ []) ++ (kindNumber t ∷ [])) ++ stageBytes Stage.Waiting)
+          → {after : List ℕ} → after ≡ copied (put 6 numbersLength state numbers) (frontBytes pid t Stage.Waiting)
           → Starts 0 after
       unfolding startState waiting numbersOf
       starts h k {numbers} n b =
@@ -119,7 +118,7 @@ module _ (state p store : List ℕ) where
         (refusal, (said-event event v, (back ∙ kept refusal _ state h, stored)))
 
     pub receives : (event : ℕ) → event ≡ eventNumber (step .event) → step .refusal ≡ 0 → (bytes : List ℕ)
-        → bytes ≡ copied (put 6 numbersLength state after) ((wordBytes (pid ∷ []) ++ (kindNumber kind ∷ [])) ++ stageBytes (step .stage))
+        → bytes ≡ copied (put 6 numbersLength state after) (frontBytes pid kind (step .stage))
         → Receives 0 event bytes memory
     unfolding receiveState stepOf
     receives event v z bytes b =

@@ -1,7 +1,7 @@
 -- A receiver's bytes, as they are written and read part by part. Assumes nothing.
 use Prim.Native.Nat.{ℕ, _+_, _*_, _≤_}
 use mathlib.Core.Path.{_≡_, refl, sym, ap, _∙_}
-use mathlib.Core.Bool.{cond, _&&_}
+use mathlib.Core.Bool.{cond}
 use mathlib.Core.List.{List, [], _∷_, _++_, append-assoc, append-nil}
 use native.Mathlib.Omega.{arith}
 use borrow.Author.Tests.{eq-eqb}
@@ -13,17 +13,17 @@ use Rattle.slices.proofs.Front.{put}
 use Rattle.counters.specs.Counters.{lastSlot}
 use Rattle.setting.specs.declared.Kind.{Kind}
 use Rattle.words.specs.Words.{wordBytes}
-use Rattle.words.specs.Kinds.{isKind, kindOf, kindNumber}
+use Rattle.words.specs.Kinds.{kindOf, kindNumber}
 use Rattle.receiver_table.specs.declared.Stage.{Stage}
 use Rattle.receiver_in_place.specs.declared.Receiver.{Receiver}
 use Rattle.receiver_in_place.specs.InPlace.{numbersLength, receiverWith, numbersOf}
 use Rattle.receiver_in_place.proofs.Lent.{numbers-with}
-use Rattle.receiver_bytes.specs.Stages.{receiverLength, stageBytes, noStage, stageOf}
+use Rattle.receiver_bytes.specs.Stages.{receiverLength, stageBytes, noStage, stageIn, frontBytes}
 use Rattle.board_receiver.specs.States.{receiverBytes, receiverOf}
 
 -- ---- written
 
-front-length : (pid : ℕ) (kind : Kind) (stage : Stage) → length ((wordBytes (pid ∷ []) ++ (kindNumber kind ∷ [])) ++ stageBytes stage) ≡ 6
+front-length : (pid : ℕ) (kind : Kind) (stage : Stage) → length (frontBytes pid kind stage) ≡ 6
 unfolding wordBytes stageBytes
 front-length pid kind Stage.Waiting = refl
 front-length pid kind (Stage.Open from k) = refl
@@ -44,11 +44,11 @@ renewed state after front l f =
 
 pub renewed-bytes : (c : Receiver) (state : List ℕ) → length state ≡ receiverLength → {pid : ℕ} {kind : Kind} {stage : Stage} {after : List ℕ}
     → c .pid ≡ pid → c .kind ≡ kind → stage ≡ c .stage → after ≡ numbersOf c
-    → copied (put 6 numbersLength state after) ((wordBytes (pid ∷ []) ++ (kindNumber kind ∷ [])) ++ stageBytes stage) ≡ receiverBytes c
+    → copied (put 6 numbersLength state after) (frontBytes pid kind stage) ≡ receiverBytes c
 unfolding receiverBytes numbersOf
 renewed-bytes c state l p k g a =
     rw (sym p, sym k, g, a)
-    (renewed state (c .numbers ++ c .before) ((wordBytes (c .pid ∷ []) ++ (kindNumber (c .kind) ∷ [])) ++ stageBytes (c .stage)) l (front-length (c .pid) (c .kind) (c .stage))
+    (renewed state (c .numbers ++ c .before) (frontBytes (c .pid) (c .kind) (c .stage)) l (front-length (c .pid) (c .kind) (c .stage))
     ∙ append-assoc (wordBytes (c .pid ∷ []) ++ (kindNumber (c .kind) ∷ [])) (stageBytes (c .stage)) (c .numbers ++ c .before))
 
 -- numbers that came back as they were
@@ -60,7 +60,7 @@ put-back state l =
 -- ---- read
 
 pub said-stage : (b : List ℕ) → length b ≡ receiverLength
-    → cond (eqb (length b) receiverLength && isKind (getD b 2 0)) (stageOf (getD b 3 0) (getD b 4 0) (getD b 5 0)) noStage ≡ receiverOf b .stage
+    → cond (eqb (length b) receiverLength) (stageIn b) noStage ≡ receiverOf b .stage
 unfolding receiverOf
 said-stage b l = rw (eq-eqb _ _ l) refl
 

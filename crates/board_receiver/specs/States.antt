@@ -1,6 +1,6 @@
 -- A receiver's state as bytes, and what bytes say as a state.
 use Prim.Native.Nat.{ℕ, _^_, _<_}
-use mathlib.Core.Bool.{Bool, cond, not, _&&_, _||_}
+use mathlib.Core.Bool.{Bool, not, _&&_, _||_}
 use mathlib.Core.List.{List, [], _∷_, _++_}
 use lib.Dec.{leb, eqb}
 use lib.ListN.{getD, take, drop}
@@ -9,7 +9,7 @@ use Rattle.words.specs.Kinds.{isKind, kindOf, kindNumber}
 use Rattle.counters.specs.Counters.{lastSlot}
 use Rattle.setting.specs.Setting.{Array}
 use Rattle.receiver_table.specs.declared.Event.{Event}
-use Rattle.receiver_bytes.specs.Stages.{stageBytes, noStage, stageOf}
+use Rattle.receiver_bytes.specs.Stages.{stageBytes, stageIn}
 use Rattle.receiver_in_place.specs.declared.Receiver.{Receiver}
 
 -- PID, kind, stage, the slots' numbers by the open frame's header and by the one before
@@ -22,7 +22,7 @@ receiverOf b =
     record {
       pid = wordAt 0 b;
       kind = kindOf (getD b 2 0);
-      stage = cond (isKind (getD b 2 0)) (stageOf (getD b 3 0) (getD b 4 0) (getD b 5 0)) noStage;
+      stage = stageIn b;
       numbers = take 52 (drop 6 b);
       before = take 52 (drop 58 b);
     }

@@ -1,8 +1,12 @@
 -- A stage as bytes, and what bytes say as a stage.
 use Prim.Native.Nat.{ℕ}
 use mathlib.Core.Bool.{cond, _&&_}
-use mathlib.Core.List.{List, [], _∷_}
+use mathlib.Core.List.{List, [], _∷_, _++_}
 use lib.Dec.{eqb}
+use lib.ListN.{getD}
+use Rattle.setting.specs.declared.Kind.{Kind}
+use Rattle.words.specs.Words.{wordBytes}
+use Rattle.words.specs.Kinds.{isKind, kindNumber}
 use Rattle.receiver_table.specs.declared.Stage.{Stage}
 
 -- how many bytes a state has
@@ -24,3 +28,11 @@ stageOf tag from k =
     cond (eqb tag 0 && (eqb from 0 && eqb k 0)) Stage.Waiting
     (cond (eqb tag 1) (Stage.Open from k)
     (cond (eqb tag 2 && eqb k 0) (Stage.Ready from) noStage))
+
+-- the stage that a state's bytes say: beside a number that is no kind, none
+abbrev pub stageIn : List ℕ → Stage
+stageIn b = cond (isKind (getD b 2 0)) (stageOf (getD b 3 0) (getD b 4 0) (getD b 5 0)) noStage
+
+-- PID, kind and stage, with which a state's bytes begin
+abbrev pub frontBytes : ℕ → Kind → Stage → List ℕ
+frontBytes pid kind stage = (wordBytes (pid ∷ []) ++ (kindNumber kind ∷ [])) ++ stageBytes stage

@@ -3,14 +3,11 @@ use receiver_table::Stage;
 use setting::Kind;
 use setting::SLOTS;
 ghost use mathlib.Core.Path.{_≡_};
-ghost use mathlib.Core.Bool.{cond, _&&_};
-ghost use mathlib.Core.List.{[], _∷_, _++_};
+ghost use mathlib.Core.Bool.{cond};
 ghost use lib.Dec.{eqb};
-ghost use lib.ListN.{length, getD};
-ghost use Rattle.words.specs.Words.{wordBytes};
-ghost use Rattle.words.specs.Kinds.{isKind, kindNumber};
+ghost use lib.ListN.{length};
 ghost use Rattle.slices.specs.Slices.{copied};
-ghost use Rattle.receiver_bytes.specs.Stages.{receiverLength, stageBytes, noStage, stageOf};
+ghost use Rattle.receiver_bytes.specs.Stages.{receiverLength, noStage, stageOf, stageIn, frontBytes};
 
 // How many bytes a receiver's state takes: PID, kind, stage, the slots' numbers by the open frame's header and by the one before.
 pub const RECEIVER_BYTES: usize = NUMBERS + SLOTS + SLOTS;
@@ -48,7 +45,7 @@ fn stage_of(tag: u8, from: u8, k: u8) -> Stage
 
 // PID, kind and stage.
 fn front_bytes(pid: u16, kind: Kind, stage: Stage) -> [u8; NUMBERS]
-    ensures { λ r. ⌜ r ≡ (wordBytes (pid ∷ []) ++ (kindNumber kind ∷ [])) ++ stageBytes stage ⌝ }
+    ensures { λ r. ⌜ r ≡ frontBytes pid kind stage ⌝ }
 {
     let high = (pid / 256) as u8;
     let low = (pid % 256) as u8;
@@ -62,7 +59,7 @@ fn front_bytes(pid: u16, kind: Kind, stage: Stage) -> [u8; NUMBERS]
 
 // The stage that a state's bytes say. Beside a number that is no kind they say none, nor do bytes of another length.
 pub fn stage_in(bytes: &[u8]) -> Stage
-    ensures { λ r. ⌜ r ≡ cond (eqb (length (now (bytes .entry))) receiverLength && isKind (getD (now (bytes .entry)) 2 0)) (stageOf (getD (now (bytes .entry)) 3 0) (getD (now (bytes .entry)) 4 0) (getD (now (bytes .entry)) 5 0)) noStage ⌝ }
+    ensures { λ r. ⌜ r ≡ cond (eqb (length (now (bytes .entry))) receiverLength) (stageIn (now (bytes .entry))) noStage ⌝ }
 {
     if bytes.len() != RECEIVER_BYTES {
         return no_stage();
@@ -75,7 +72,7 @@ pub fn stage_in(bytes: &[u8]) -> Stage
 
 // Writes PID, kind and stage, as much of them as there is room for, and leaves the rest.
 pub fn write_front(bytes: &mut [u8], pid: u16, kind: Kind, stage: Stage)
-    ensures { λ _. ⌜ now (bytes .exit) ≡ copied (now (bytes .entry)) ((wordBytes (pid ∷ []) ++ (kindNumber kind ∷ [])) ++ stageBytes stage) ⌝ }
+    ensures { λ _. ⌜ now (bytes .exit) ≡ copied (now (bytes .entry)) (frontBytes pid kind stage) ⌝ }
 {
     let front = front_bytes(pid, kind, stage);
     slices::copy(bytes, &front);
