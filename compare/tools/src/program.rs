@@ -123,3 +123,9 @@ pub fn program() -> PathBuf {
     );
     program
 }
+
+/// One in how many inputs is tried where there are many: NIRANBOK_PART, or 1.
+pub fn part() -> usize {
+    let part = env::var("NIRANBOK_PART").ok();
+    part.map_or(1, |part| part.parse().expect("NIRANBOK_PART is a number"))
+}

@@ -5,7 +5,7 @@ use cases::generator::Generator;
 use reference::{Kind, PACKET_BYTES};
 use tools::damage::{Lot, Lots, FRAME_PACKETS};
 use tools::group::{bond, file, packets_of_super, supers_in, unbond, Carrier, PID};
-use tools::program::{Folder, Said};
+use tools::program::{part, Folder, Said};
 use tools::receiving::receive;
 use tools::streams::{padded, stream};
 
@@ -163,14 +163,16 @@ fn headers_spoiled() {
     assert!((1..30).contains(&sent.check()));
 }
 
-/// One packet after another is lost, alone, in the middle of the run.
+/// One packet after another is lost, alone, in the middle of the run; where
+/// an emulator takes its time, one in so many, and each header.
 #[test]
 fn any_single_packet() {
     let group = [(3, 2), (4, 3)];
     let mut sent = Sent::new(22, &group, 4);
     for (c, (frames, _)) in group.iter().enumerate() {
         let packets = FRAME_PACKETS * frames;
-        for at in packets..=2 * packets {
+        let chosen = |at: &usize| at % part() == 0 || at.is_multiple_of(FRAME_PACKETS);
+        for at in (packets..=2 * packets).filter(chosen) {
             for lot in [Lot::Lost, Lot::Spoiled(0)] {
                 sent.lots[c].0[at] = lot;
                 let shared = at == packets || at == 2 * packets;
@@ -215,9 +217,9 @@ fn frames_lost_in_both_carriers() {
 /// Nothing of the super frame in which it ends comes out, and nothing later.
 #[test]
 fn one_carrier_cut_short() {
+    let sent = Sent::new(25, &EIGHT, 6);
     for c in 0..EIGHT.len() {
         for bytes_behind in [0, 1, 187] {
-            let sent = Sent::new(25, &EIGHT, 6);
             let mut arrived = sent.arrived();
             let packets = FRAME_PACKETS * EIGHT[c].0 * 4;
             for (left, supers) in [(packets, 3), (packets + 1, 4), (packets / 2, 1), (0, 0)] {

@@ -8,21 +8,22 @@ ghost use Rattle.refusal_table.specs.Refusal.{firstOf};
 ghost use Rattle.composer_state.specs.Slots.{someUnplanned};
 ghost use Rattle.composer_state.specs.Composing.{markChecks};
 
-// 17: whether a slot that is planned for no stream is marked filled.
+// 17: whether a slot that is planned for no stream is marked filled. It does not stop early, so that many slots are compared at a time.
 fn has_unplanned(plan: &[u8], filled: &[bool]) -> bool
     requires { ⌜ (length (now plan) ≡ lastSlot) × (length (now filled) ≡ lastSlot) ⌝ }
     ensures { λ t. ⌜ t ≡ someUnplanned (now (plan .entry)) (now (filled .entry)) ⌝ }
 {
+    let mut found = false;
     let mut i = 0;
     while i < SLOTS {
         if filled[i] {
             if plan[i] == 0 {
-                return true;
+                found = true;
             }
         }
         i += 1;
     }
-    false
+    found
 }
 
 // 17: a filled mark on a slot planned 0.
