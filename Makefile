@@ -1,7 +1,7 @@
 # `make tools` proves and builds mux, demux, bond and unbond; `make run` the lister, and lists the sample; `make test` is the gate;
 # `make board` makes the archive for C; `make bench` measures, `make count` counts instructions; `make memory` runs the comparison under
-# valgrind; `make real` takes real streams through the tools.
-.PHONY: tools names rust-test tools-test real run test board archive archive-test limits-test board-test bench count memory vectors x86-64 natively
+# valgrind; `make real` takes real streams through the tools. Measuring and valgrind take an archive for the machine's own processor.
+.PHONY: tools names rust-test tools-test real run test board archive archive-test limits-test board-test native bench count memory vectors x86-64
 SHELL = /bin/bash
 .SHELLFLAGS = -o pipefail -c
 
@@ -15,12 +15,14 @@ ifeq ($(shell uname -m),x86_64)
 CROSS_CC = gcc
 CROSS_CARGO = cargo
 BENCH = compare/target/release/bench
+NATIVE = target/board
 else
 EMULATOR = qemu-x86_64
 CROSS_CC = x86_64-linux-gnu-gcc
 CROSS_CARGO = RUSTC=/usr/bin/rustc CARGO_BUILD_TARGET=x86_64-unknown-linux-gnu CARGO_TARGET_X86_64_UNKNOWN_LINUX_GNU_LINKER=$(CROSS_CC) \
 	CARGO_TARGET_X86_64_UNKNOWN_LINUX_GNU_RUNNER=$(EMULATOR) cargo
 BENCH = compare/target/x86_64-unknown-linux-gnu/release/bench
+NATIVE = target/native/board
 export NIRANBOK_EMULATOR = $(EMULATOR)
 # A processor without AVX and fast strings: copies take the emulator a third less time by what it then does.
 export QEMU_CPU ?= Nehalem
@@ -77,13 +79,14 @@ board:
 	rt check $(BOARD) | tail -n 1
 	$(MAKE) --no-print-directory archive
 
-# The same where its crates are proved, so many of them at once.
+# The same where its crates are proved, so many of them at once, in a folder of its own.
 AT_ONCE ?= 2
+ARCHIVE ?= target/board
 archive:
-	rm -rf target/board
-	mkdir -p target/board
-	printf '%s\n' $(BOARD) | xargs -P $(AT_ONCE) -n 1 compare/staticlib.sh
-	ar rcs target/board/libniranbok.a target/board/roots/*/*.o
+	rm -rf $(ARCHIVE)
+	mkdir -p $(ARCHIVE)
+	printf '%s\n' $(BOARD) | xargs -P $(AT_ONCE) -n 1 compare/staticlib.sh $(ARCHIVE)
+	ar rcs $(ARCHIVE)/libniranbok.a $(ARCHIVE)/roots/*/*.o
 
 # The example in C, and both implementations over the same inputs, with the archive that is there.
 archive-test: x86-64
@@ -100,16 +103,26 @@ board-test: board
 	rt check limits | tail -n 1
 	$(MAKE) --no-print-directory archive-test limits-test
 
-# A time under the emulator says nothing.
-natively:
-	@[ -z '$(EMULATOR)' ] || { echo 'this measures on x86-64 alone'; exit 1; }
+# An archive to measure and to watch: the product's, or, since a time under the emulator says nothing, the same proved modules compiled for
+# this machine's own processor.
+native:
+ifdef EMULATOR
+	rt check $(BOARD) | tail -n 1
+	compare/native.sh
+	RATTLE_HOME=$(CURDIR)/target/native $(MAKE) --no-print-directory ARCHIVE=$(NATIVE) archive
+else
+	$(MAKE) --no-print-directory board
+endif
 
-# Both implementations and bare copies, measured in one run; then the lister and the tools.
-bench: natively board tools
+# Both implementations and bare copies, measured in one run; then the lister and the tools, which are for x86-64 alone.
+bench: native
+	cd compare && NIRANBOK_LIB=$(CURDIR)/$(NATIVE) cargo run --quiet --release -p board --bin bench
+ifndef EMULATOR
+	$(MAKE) --no-print-directory tools
 	rt check lister | tail -n 1
-	cd compare && cargo run --quiet --release -p board --bin bench
 	compare/lister.sh target/bin/lister
 	compare/tools.sh target/bin/tools
+endif
 
 # The benchmark's rows in counted instructions, under the emulator, which is installed.
 count: board x86-64
@@ -118,8 +131,8 @@ count: board x86-64
 	compare/count.sh $(BENCH)
 
 # The same comparison, shorter, with every access watched.
-memory: natively board
-	cd compare && cargo test --quiet -p board --no-run
+memory: native
+	cd compare && NIRANBOK_LIB=$(CURDIR)/$(NATIVE) cargo test --quiet -p board --no-run
 	compare/memory.sh
 
 # Makes the vectors and expected outputs again, from programs that share nothing with the crates.
