@@ -1,16 +1,17 @@
 -- What a call answers by the check that it stopped at, and what it leaves. Assumes nothing.
 use Prim.Native.Nat.{ℕ, _+_, _^_, _≤_, _<_}
-use mathlib.Core.Path.{_≡_, sym, _∙_}
+use mathlib.Core.Path.{_≡_, refl, sym, _∙_}
 use mathlib.Core.Bool.{cond}
 use mathlib.Core.List.{List}
 use native.Mathlib.Nat.{zero-add}
 use native.Mathlib.Omega.{arith}
 use lib.Dec.{eqb}
 use lib.ListN.{length}
-use borrow.Author.Tests.{lt-ltb, le-ltb, ne-eqb}
+use borrow.Author.Tests.{ltb-false, lt-ltb, le-ltb, ne-eqb}
 use Rattle.io.specs.Counts.{Counts}
 use Rattle.io.proofs.Counting.{counts}
 use Rattle.refusal_table.specs.Refusal.{firstOf}
+use Rattle.refusal_table.proofs.Refusals.{none-first, none-at}
 use Rattle.listing.specs.declared.Listed.{Listed}
 use Rattle.listing.specs.Text.{Puts}
 use Rattle.listing.specs.Listing.{packetsIn, roomFor, listing, listChecks, listRefusal, listed, overFront, listedOver}
@@ -29,6 +30,13 @@ module _ (first lent room : ℕ) where
   pub right-call : first + packetsIn lent ≤ 2 ^ 64 → roomFor lent ≤ room → listRefusal first lent room ≡ 0
   unfolding listRefusal listChecks firstOf
   right-call h l = rw (le-ltb (2 ^ 64) (first + packetsIn lent) h, le-ltb room (roomFor lent) l)
+
+-- what a call may rest on that none of them stops
+pub let-through : (first lent room : ℕ) → listRefusal first lent room ≡ 0 → (first + packetsIn lent ≤ 2 ^ 64) × (roomFor lent ≤ room)
+unfolding listRefusal listChecks
+let-through first lent room e =
+    let none = none-first (listChecks first lent room) refl e in
+    (ltb-false _ _ (none-at none 0), ltb-false _ _ (none-at none 1))
 
 module _ (first : ℕ) (bytes buffer : List ℕ) (r : Listed) where
   -- what a call promises of its answer and of the buffer afterwards

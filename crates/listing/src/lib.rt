@@ -2,7 +2,7 @@
 ghost use mathlib.Core.Path.{_≡_};
 ghost use lib.ListN.{length};
 ghost use Rattle.io.specs.Counts.{Counts};
-ghost use Rattle.listing.specs.Listing.{listed, listedOver};
+ghost use Rattle.listing.specs.Listing.{listRefusal, listed, listedOver};
 
 mod lines;
 mod text;
@@ -18,11 +18,18 @@ pub struct Listed {
     pub length: usize,
 }
 
-fn refused(refusal: u8) -> Listed
-    ensures { λ r. ⌜ r .refusal ≡ refusal ⌝ }
-    ensures { λ r. ⌜ r .length ≡ 0 ⌝ }
+// 17 and 15: the packets' numbers, and the room for their lines.
+fn list_refusal(lent: usize, first: u64, room: usize) -> u8
+    ensures { λ r. ⌜ r ≡ listRefusal first lent room ⌝ }
 {
-    Listed { refusal, length: 0 }
+    let packets = lent / PACKET_BYTES;
+    if packets > 0 && u64::MAX - first < packets as u64 - 1 {
+        return 17;
+    }
+    if room < LINE_BYTES * (packets + 1) {
+        return 15;
+    }
+    0
 }
 
 // Puts the listing of `bytes`, of which the first packet has the number `first`, at the front of `out`. A refusal
@@ -32,12 +39,9 @@ pub fn list(out: &mut [u8], bytes: &[u8], first: u64) -> Listed
     ensures { λ _. ⌜ now (out .exit) ≡ listedOver first (now (bytes .entry)) (now (out .entry)) ⌝ }
     ensures { λ r. ⌜ Counts (r .length) (now (out .exit)) ⌝ }
 {
-    let packets = bytes.len() / PACKET_BYTES;
-    if packets > 0 && u64::MAX - first < packets as u64 - 1 {
-        return refused(17);
-    }
-    if out.len() < LINE_BYTES * (packets + 1) {
-        return refused(15);
+    let refusal = list_refusal(bytes.len(), first, out.len());
+    if refusal != 0 {
+        return Listed { refusal, length: 0 };
     }
     let length = lines::put_listing(out, bytes, first);
     Listed { refusal: 0, length }
