@@ -70,10 +70,10 @@ whole₄ : (c : tie.After-write-halves) → length (after₄ c) ≡ 184
 whole₄ c = same-len-mid 73 26 (after₃ (controlled c)) (c .write-halves .last .0) (c .write-halves .kept .0) ∙ whole₃ (controlled c)
 
 sub-write-start : tie.Need-sub-write-start
-sub-write-start c = search needs
+sub-write-start c = omega arith
 
 part-write-start-start : tie.Need-part-write-start-start
-part-write-start-start c = search needs
+part-write-start-start c = omega arith
 
 part-write-start-end : tie.Need-part-write-start-end
 part-write-start-end c = search needs
@@ -82,13 +82,13 @@ write-start-requires : tie.Need-write-start-requires
 write-start-requires c κs = search needs
 
 sub-write-identifiers : tie.Need-sub-write-identifiers
-sub-write-identifiers c = search needs
+sub-write-identifiers c = omega arith
 
 part-write-identifiers-start : tie.Need-part-write-identifiers-start
-part-write-identifiers-start c = search needs
+part-write-identifiers-start c = omega arith
 
 part-write-identifiers-end : tie.Need-part-write-identifiers-end
-part-write-identifiers-end c = search needs
+part-write-identifiers-end c = omega (arith, whole₁ (c .before .before .before .before))
 
 slice-aggregate-write-identifiers : tie.Need-slice-aggregate-write-identifiers
 slice-aggregate-write-identifiers c = search needs
@@ -103,25 +103,25 @@ write-identifiers-requires c κs =
     (mid-len 9 69 (after₁ (c .before .before .before .before .before .before .before)) (omega (arith, whole₁ (c .before .before .before .before .before .before .before))) ∙ omega arith, streams s .1 ∙ sym (streams s .0))
 
 sub-write-control : tie.Need-sub-write-control
-sub-write-control c = search needs
+sub-write-control c = omega arith
 
 part-write-control-start : tie.Need-part-write-control-start
-part-write-control-start c = search needs
+part-write-control-start c = omega arith
 
 part-write-control-end : tie.Need-part-write-control-end
-part-write-control-end c = search needs
+part-write-control-end c = omega (arith, whole₂ (c .before .before))
 
 write-control-requires : tie.Need-write-control-requires
 write-control-requires c κs = search needs
 
 sub-write-halves : tie.Need-sub-write-halves
-sub-write-halves c = search needs
+sub-write-halves c = omega arith
 
 part-write-halves-start : tie.Need-part-write-halves-start
-part-write-halves-start c = search needs
+part-write-halves-start c = omega arith
 
 part-write-halves-end : tie.Need-part-write-halves-end
-part-write-halves-end c = search needs
+part-write-halves-end c = omega (arith, whole₃ (c .before .before .before))
 
 slice-aggregate-write-halves : tie.Need-slice-aggregate-write-halves
 slice-aggregate-write-halves c = sym (slots (start (started (identified (c .before .before .before .before .before)))))
@@ -135,13 +135,13 @@ write-halves-requires c κs =
     (s .pre .1 .0 .numbers, omega arith)
 
 sub-write-private : tie.Need-sub-write-private
-sub-write-private c = search needs
+sub-write-private c = omega arith
 
 part-write-private-start : tie.Need-part-write-private-start
-part-write-private-start c = search needs
+part-write-private-start c = omega arith
 
 part-write-private-end : tie.Need-part-write-private-end
-part-write-private-end c = search needs
+part-write-private-end c = omega (arith, whole₄ (c .before .before))
 
 write-private-requires : tie.Need-write-private-requires
 write-private-requires c κs = search needs
