@@ -1,7 +1,6 @@
 -- Laws of numbers of 64 bits that stand for registers. Assumes nothing.
 use Prim.Native.Nat.{ℕ, zero, suc, _+_, _*_, _/_, _%_, _^_, _≤_, _<_}
 use mathlib.Core.Path.{_≡_, refl, sym, ap, ap₂, _∙_, subst}
-use mathlib.Core.List.{List, _++_}
 use native.Mathlib.Omega.{arith}
 use native.Mathlib.Nat.{add-assoc, add-comm, div-eq-of-lt, le-refl, lt-of-lt-of-le, mod-eq-of-lt, mod-lt, mul-assoc, mul-mod-left, mul-one, pow-le-pow-right, pow-succ'}
 use lib.Arith.{digits-lt}
@@ -121,13 +120,17 @@ turn-ahead {k} {r} {e} w j x l a b =
 
 -- ---- eight bytes at once
 
-pub long-in : (s w : ℕ) → w < 2 ^ 64 → registerFrom s (bitsOf 64 w) ≡ shifts 32 (bitXor (shifts 32 s) (reduced w))
+-- 64 bits meet a register half by half
+halves-meet : (s w : ℕ) → bitXor (shifts 32 (bitXor s (w / 2 ^ 32))) (w % 2 ^ 32) ≡ bitXor (shifts 32 s) (reduced w)
 unfolding reduced
+halves-meet s w = ap (λ (x : ℕ). bitXor x (w % 2 ^ 32)) (shifts-linear 32 s (w / 2 ^ 32)) ∙ xor-assoc (shifts 32 s) (shifts 32 (w / 2 ^ 32)) (w % 2 ^ 32)
+
+long-in : (s w : ℕ) → w < 2 ^ 64 → registerFrom s (bitsOf 64 w) ≡ shifts 32 (bitXor (shifts 32 s) (reduced w))
 long-in s w h =
     ap (registerFrom s) (bitsOf-split 32 32 w) ∙ registerFrom-append s (bitsOf 32 (w / 2 ^ 32)) (bitsOf 32 w)
     ∙ half (registerFrom s (bitsOf 32 (w / 2 ^ 32))) w
-    ∙ ap (λ (x : ℕ). shifts 32 (bitXor x (w % 2 ^ 32))) (half s (w / 2 ^ 32) ∙ ap (λ (x : ℕ). shifts 32 (bitXor s x)) (shr-mod 32 32 h) ∙ shifts-linear 32 s (w / 2 ^ 32))
-    ∙ ap (shifts 32) (xor-assoc (shifts 32 s) (shifts 32 (w / 2 ^ 32)) (w % 2 ^ 32))
+    ∙ ap (λ (x : ℕ). shifts 32 (bitXor x (w % 2 ^ 32))) (half s (w / 2 ^ 32) ∙ ap (λ (x : ℕ). shifts 32 (bitXor s x)) (shr-mod 32 32 h))
+    ∙ ap (shifts 32) (halves-meet s w)
   where
     half : (t v : ℕ) → registerFrom t (bitsOf 32 v) ≡ shifts 32 (bitXor t (v % 2 ^ 32))
     half t v = field-in 32 0 refl t v ∙ ap (λ (x : ℕ). shifts 32 (bitXor t x)) (mul-one (v % 2 ^ 32))
@@ -140,42 +143,45 @@ held-first s v w hv hw =
     ∙ ap (λ (x : ℕ). shifts 32 (bitXor x (reduced w))) (ap (shifts 32) (long-in s v hv) ∙ sym (shifts-add 32 32 (bitXor (shifts 32 s) (reduced v)))
     ∙ ap (shifts 64) (ap (λ (x : ℕ). bitXor x (reduced v)) (sym (reduced-high s)) ∙ xor-comm (reduced (s * 2 ^ 32)) (reduced v) ∙ sym (reduced-linear v (s * 2 ^ 32)))))
 
--- eight bytes more: the eight before the last are folded ahead of them
+-- the high half of what is 128 shifts on meets the low half of s
+high-meets : (s : ℕ) {v a : ℕ} → Ahead 32 v a → reduced (bitXor s (a / 2 ^ 32)) ≡ bitXor (reduced s) (a / 2 ^ 32)
+high-meets s {v} {a} h = reduced-linear s (a / 2 ^ 32) ∙ ap (bitXor (reduced s)) (reduced-low (a / 2 ^ 32) (shr-lt 32 32 (h .bits)))
+
+-- eight bytes more: the first eight of the sixteen before go 128 shifts on, to where the sixteen behind them stand
 pub held-turn : (r s w a b : ℕ) → Ahead 32 (r / 2 ^ 32) a → Ahead 32 (r % 2 ^ 32) b → w < 2 ^ 64
     → held (bitXor s (a / 2 ^ 32)) (bitXor (bitXor (a % 2 ^ 32 * 2 ^ 32 % 2 ^ 64) b) w) ≡ registerFrom (held r s) (bitsOf 64 w)
 unfolding held reduced
 held-turn r s w a b ha hb hw =
-    ap (shifts 32) (ap₂ bitXor first second ∙ sym (xor-assoc (bitXor S H) (bitXor L E) (reduced w))
-    ∙ ap (λ (x : ℕ). bitXor x (reduced w)) (xor-assoc S H (bitXor L E) ∙ ap (bitXor S) (sym (xor-assoc H L E) ∙ folded) ∙ xor-comm S (shifts 128 (reduced r)) ∙ kept))
+    ap (shifts 32) (ap₂ bitXor first second ∙ sym (xor-assoc (bitXor S H) (bitXor L B) (reduced w))
+    ∙ ap (λ (x : ℕ). bitXor x (reduced w)) (xor-assoc S H (bitXor L B) ∙ ap (bitXor S) (sym (xor-assoc H L B) ∙ folded) ∙ xor-comm S (shifts 128 (reduced r)) ∙ kept))
     ∙ sym (long-in (held r s) w hw)
   where
     S : ℕ
     S = shifts 64 (reduced s)
 
+    -- the halves of a
     H : ℕ
     H = shifts 64 (a / 2 ^ 32)
 
     L : ℕ
     L = shifts 32 (a % 2 ^ 32)
 
-    E : ℕ
-    E = shifts 128 (r % 2 ^ 32)
+    B : ℕ
+    B = shifts 128 (r % 2 ^ 32)
 
     first : shifts 64 (reduced (bitXor s (a / 2 ^ 32))) ≡ bitXor S H
-    first =
-        ap (shifts 64) (reduced-linear s (a / 2 ^ 32) ∙ ap (bitXor (reduced s)) (reduced-low (a / 2 ^ 32) (shr-lt 32 32 (ha .bits))))
-        ∙ shifts-linear 64 (reduced s) (a / 2 ^ 32)
+    first = ap (shifts 64) (high-meets s ha) ∙ shifts-linear 64 (reduced s) (a / 2 ^ 32)
 
-    second : reduced (bitXor (bitXor (a % 2 ^ 32 * 2 ^ 32 % 2 ^ 64) b) w) ≡ bitXor (bitXor L E) (reduced w)
+    second : reduced (bitXor (bitXor (a % 2 ^ 32 * 2 ^ 32 % 2 ^ 64) b) w) ≡ bitXor (bitXor L B) (reduced w)
     second =
         reduced-linear (bitXor (a % 2 ^ 32 * 2 ^ 32 % 2 ^ 64) b) w
         ∙ ap (λ (x : ℕ). bitXor x (reduced w)) (reduced-linear (a % 2 ^ 32 * 2 ^ 32 % 2 ^ 64) b
         ∙ ap₂ bitXor (ap reduced (shl-exact 32 32 64 (mod-lt a (lit< tt)) (le-refl 64)) ∙ reduced-high (a % 2 ^ 32)) (hb .same))
 
-    folded : bitXor (bitXor H L) E ≡ shifts 128 (reduced r)
+    folded : bitXor (bitXor H L) B ≡ shifts 128 (reduced r)
     folded =
-        ap (λ (x : ℕ). bitXor (bitXor x L) E) (shifts-add 32 32 (a / 2 ^ 32))
-        ∙ ap (λ (x : ℕ). bitXor x E) (sym (shifts-linear 32 (shifts 32 (a / 2 ^ 32)) (a % 2 ^ 32)) ∙ ap (shifts 32) (ha .same) ∙ shifts-swap 32 128 (r / 2 ^ 32))
+        ap (λ (x : ℕ). bitXor (bitXor x L) B) (shifts-add 32 32 (a / 2 ^ 32))
+        ∙ ap (λ (x : ℕ). bitXor x B) (sym (shifts-linear 32 (shifts 32 (a / 2 ^ 32)) (a % 2 ^ 32)) ∙ ap (shifts 32) (ha .same) ∙ shifts-swap 32 128 (r / 2 ^ 32))
         ∙ sym (shifts-linear 128 (shifts 32 (r / 2 ^ 32)) (r % 2 ^ 32))
 
     kept : bitXor (shifts 128 (reduced r)) S ≡ shifts 32 (held r s)
@@ -183,14 +189,13 @@ held-turn r s w a b ha hb hw =
         ap (λ (x : ℕ). bitXor x S) (shifts-add 64 64 (reduced r)) ∙ sym (shifts-linear 64 (shifts 64 (reduced r)) (reduced s))
         ∙ shifts-add 32 32 (bitXor (shifts 64 (reduced r)) (reduced s))
 
--- the sixteen bytes by the shifts of registers: the first four of them are 128 shifts on, which needs none
-pub held-left : (r s a : ℕ) → Ahead 32 (r / 2 ^ 32) a → (t : ℕ) → t ≡ bitXor s (a / 2 ^ 32)
+-- the register of the sixteen bytes: the first four go 128 shifts on, and the others enter four at a time
+pub held-left : (r s a t : ℕ) → Ahead 32 (r / 2 ^ 32) a → t ≡ bitXor s (a / 2 ^ 32)
     → bitXor (shifts 32 (bitXor (shifts 32 (bitXor (shifts 32 (r % 2 ^ 32)) (t / 2 ^ 32))) (t % 2 ^ 32))) (a % 2 ^ 32) ≡ held r s
 unfolding held reduced
-held-left r s a ha t e =
-    ap (λ (x : ℕ). bitXor (shifts 32 x) (a % 2 ^ 32)) (inner ∙ ap (bitXor B) rest ∙ sym (xor-assoc B (reduced s) (a / 2 ^ 32)))
-    ∙ ap (λ (x : ℕ). bitXor x (a % 2 ^ 32)) (shifts-linear 32 (bitXor B (reduced s)) (a / 2 ^ 32))
-    ∙ xor-assoc (shifts 32 (bitXor B (reduced s))) (shifts 32 (a / 2 ^ 32)) (a % 2 ^ 32)
+held-left r s a t ha e =
+    ap (λ (x : ℕ). bitXor (shifts 32 x) (a % 2 ^ 32)) (halves-meet (shifts 32 (r % 2 ^ 32)) t ∙ ap₂ bitXor (sym (shifts-add 32 32 (r % 2 ^ 32))) (ap reduced e ∙ high-meets s ha) ∙ sym (xor-assoc B (reduced s) (a / 2 ^ 32)))
+    ∙ halves-meet (bitXor B (reduced s)) a
     ∙ ap (bitXor (shifts 32 (bitXor B (reduced s)))) (ha .same ∙ shifts-add 96 32 (r / 2 ^ 32) ∙ ap (shifts 32) (shifts-add 32 64 (r / 2 ^ 32)))
     ∙ sym (shifts-linear 32 (bitXor B (reduced s)) A)
     ∙ ap (shifts 32) (xor-comm (bitXor B (reduced s)) A ∙ sym (xor-assoc A B (reduced s)) ∙ ap (λ (x : ℕ). bitXor x (reduced s)) (sym (shifts-linear 64 (shifts 32 (r / 2 ^ 32)) (r % 2 ^ 32))))
@@ -200,11 +205,3 @@ held-left r s a ha t e =
 
     B : ℕ
     B = shifts 64 (r % 2 ^ 32)
-
-    inner : bitXor (shifts 32 (bitXor (shifts 32 (r % 2 ^ 32)) (t / 2 ^ 32))) (t % 2 ^ 32) ≡ bitXor B (reduced t)
-    inner =
-        ap (λ (x : ℕ). bitXor x (t % 2 ^ 32)) (shifts-linear 32 (shifts 32 (r % 2 ^ 32)) (t / 2 ^ 32) ∙ ap (λ (x : ℕ). bitXor x (shifts 32 (t / 2 ^ 32))) (sym (shifts-add 32 32 (r % 2 ^ 32))))
-        ∙ xor-assoc B (shifts 32 (t / 2 ^ 32)) (t % 2 ^ 32)
-
-    rest : reduced t ≡ bitXor (reduced s) (a / 2 ^ 32)
-    rest = ap reduced e ∙ reduced-linear s (a / 2 ^ 32) ∙ ap (bitXor (reduced s)) (reduced-low (a / 2 ^ 32) (shr-lt 32 32 (ha .bits)))

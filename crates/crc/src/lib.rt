@@ -11,9 +11,7 @@ const POLY: u32 = 0x04C1_1DB7;
 // What the register 1 becomes by 128 shifts.
 const ONE_AHEAD: u64 = 0xE8A4_5605;
 
-// A loop of shifts by a number that is known where it is compiled becomes a look into a table that the compiler makes.
-
-// The register `x` after `n` shifts.
+// The register `x` after `n` shifts. Where `n` is known the compiler makes a table of its own of the loop, eight shifts a look.
 fn shifted(x: u32, n: u32) -> u32
     ensures { λ r. ⌜ r ≡ shifts n x ⌝ }
 {
@@ -64,7 +62,7 @@ fn long(bytes: &[u8], i: usize) -> u64
     r
 }
 
-// The byte `v`, 128 shifts on. The bits of `d` enter one by one, as into a register of 64 bits that nothing falls out of.
+// The byte `v`, 128 shifts on. A register of 64 bits, out of which nothing falls: the compiler makes one look into a table of it.
 fn byte_ahead(v: u8) -> u64
     ensures { λ r. ⌜ Ahead 8 v r ⌝ }
 {

@@ -42,7 +42,7 @@ returns : tie.Need-returns
 returns c =
     ap (λ (x : ℕ). bitXor x (a % 2 ^ 32)) (c .shifted3 .ensures
     ∙ ap (λ (x : ℕ). shifts 32 (bitXor x (t % 2 ^ 32))) (c .before .shifted2 .ensures ∙ ap (λ (x : ℕ). shifts 32 (bitXor x (t / 2 ^ 32))) (c .before .before .shifted .ensures)))
-    ∙ held-left (c .before .before .before .before .args .r) s a (c .before .before .before .ahead .ensures) t refl
+    ∙ held-left (c .before .before .before .before .args .r) s a t (c .before .before .before .ahead .ensures) refl
   where
     s : ℕ
     s = c .before .before .before .before .args .s
