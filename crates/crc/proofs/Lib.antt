@@ -1,4 +1,4 @@
 pub mod Xor
 pub mod Laws
 pub mod Folding
-pub mod Rows
+pub mod Reduced

@@ -1,15 +1,26 @@
--- What the functions promise each other by which whole words enter a register.
-use Prim.Native.Nat.{ℕ, _+_, _*_, _<_}
+-- What the functions promise each other by which eight bytes at once enter a register.
+use Prim.Native.Nat.{ℕ, _+_, _/_, _%_, _^_, _<_}
 use mathlib.Core.List.{List, _++_}
 use mathlib.Core.Path.{_≡_}
-use lib.ListN.{drop, getD}
+use lib.Bits.{bitXor}
+use lib.ListN.{drop}
 use Rattle.bits.specs.Fields.{bitsOf, run}
 use Rattle.crc.specs.Crc.{shifts}
 
--- the four bytes at i are the bits of w
-abbrev pub WordAt : List ℕ → ℕ → ℕ → Type 0
-WordAt bytes i w = run 8 (drop i bytes) ≡ bitsOf 32 w ++ run 8 (drop (i + 4) bytes)
+-- the eight bytes at i are the bits of w
+abbrev pub LongAt : List ℕ → ℕ → ℕ → Type 0
+LongAt bytes i w = run 8 (drop i bytes) ≡ bitsOf 64 w ++ run 8 (drop (i + 8) bytes)
 
--- what the table holds: at 16 * k + v stands the register v after 32 + 4 * k shifts
-unfoldable pub Shifted : List ℕ → Type 0
-Shifted t = (k v : ℕ) → k < 32 → v < 16 → getD t (16 * k + v) 0 ≡ shifts (32 + 4 * k) v
+-- 64 bits as a register: what stands above the low 32 is so many shifts on
+unfoldable pub reduced : ℕ → ℕ
+reduced x = bitXor (shifts 32 (x / 2 ^ 32)) (x % 2 ^ 32)
+
+-- e is v, a number of k bits, 128 shifts on, with nothing reduced
+pub record Ahead (k v e : ℕ) : Type 0 where
+  pub narrow : v < 2 ^ k
+  pub bits : e < 2 ^ (32 + k)
+  pub same : reduced e ≡ shifts 128 v
+
+-- the register that the bits of r and then of s leave, 64 each, from zero on
+unfoldable pub held : ℕ → ℕ → ℕ
+held r s = shifts 32 (bitXor (shifts 64 (reduced r)) (reduced s))

@@ -1,4 +1,4 @@
--- `crc::word` meets its contract. The loop's invariant: the bits of `r` and the bytes that are left are the bytes from `i` on.
+-- `crc::long` meets its contract. The loop's invariant: the bits of `r` and the bytes that are left are the bytes from `i` on.
 -- The measure is how many bytes are left. Assumes nothing.
 use Prim.Native.Nat.{ℕ, _+_, _-_, _*_, _^_, _≤_, _<_}
 use mathlib.Core.Path.{_≡_, sym, ap, ap₂, _∙_, subst}
@@ -11,26 +11,26 @@ use lib.ListN.{drop, getD}
 use lib.Pow.{pow-add}
 use Rattle.bits.specs.Fields.{bitsOf, run}
 use Rattle.crc.proofs.Folding.{byte-joins}
-use Rattle.crc.proofs.word.Statement.{statement}
-use Rattle.crc.proofs.word.Tie as tie
+use Rattle.crc.proofs.long.Statement.{statement}
+use Rattle.crc.proofs.long.Tie as tie
 
 abbrev Inv-loop : tie.InvT-loop
 Inv-loop bytes i r₀ k₀ r k =
-    (k ≤ 4) × (r < 2 ^ (8 * k)) × (run 8 (drop i bytes) ≡ bitsOf (8 * k) r ++ run 8 (drop (i + k) bytes))
+    (k ≤ 8) × (r < 2 ^ (8 * k)) × (run 8 (drop i bytes) ≡ bitsOf (8 * k) r ++ run 8 (drop (i + k) bytes))
 
 abbrev μ-loop : tie.MeasureT-loop
-μ-loop bytes i r₀ k₀ r k = 4 - k
+μ-loop bytes i r₀ k₀ r k = 8 - k
 
--- fewer than four bytes leave room for one more
-small : {r : ℕ} (k : ℕ) → r < 2 ^ (8 * k) → k < 4 → r < 2 ^ 24
-small k h l = lt-of-lt-of-le h (pow-le-pow-right (lit< tt) {i = 8 * k} {j = 24} (omega arith))
+-- fewer than eight bytes leave room for one more
+small : {r : ℕ} (k : ℕ) → r < 2 ^ (8 * k) → k < 8 → r < 2 ^ 56
+small k h l = lt-of-lt-of-le h (pow-le-pow-right (lit< tt) {i = 8 * k} {j = 56} (omega arith))
 
 loop-holds : tie.Need-loop-holds Inv-loop μ-loop
 unfolding bitsOf
 loop-holds c = (omega arith, lit< tt, ap (λ (n : ℕ). run 8 (drop n (c .args .bytes .now))) (sym (add-zero (c .args .i))))
 
 mul-r : tie.Need-mul-r Inv-loop μ-loop
-mul-r c = let h : c .before .loop .r < 2 ^ 24 = small (c .before .loop .k) (c .before .loop .inv .1) (omega arith) in omega arith
+mul-r c = let h : c .before .loop .r < 2 ^ 56 = small (c .before .loop .k) (c .before .loop .inv .1) (omega arith) in omega arith
 
 add-r : tie.Need-add-r Inv-loop μ-loop
 add-r c = omega arith
@@ -43,7 +43,7 @@ cast-r c = omega (arith, c .shared-slice-known .given (c .before .before .before
 
 add-r-2 : tie.Need-add-r-2 Inv-loop μ-loop
 add-r-2 c =
-    let h : c .before .before .loop .r < 2 ^ 24 = small (c .before .before .loop .k) (c .before .before .loop .inv .1) (omega arith) in
+    let h : c .before .before .loop .r < 2 ^ 56 = small (c .before .before .loop .k) (c .before .before .loop .inv .1) (omega arith) in
     omega (arith, c .shared-slice-known .given (c .before .before .before .args .i + c .before .before .loop .k))
 
 add-k : tie.Need-add-k Inv-loop μ-loop
@@ -80,12 +80,12 @@ loop-again c = (
 
 returns : tie.Need-returns Inv-loop μ-loop
 returns c =
-    let done : c .before .loop .k ≡ 4 = omega arith in
+    let done : c .before .loop .k ≡ 8 = omega arith in
     c .before .loop .inv .2
     ∙ ap (λ (k : ℕ). bitsOf (8 * k) (c .before .loop .r) ++ run 8 (drop (c .before .before .args .i + k) (c .before .before .args .bytes .now))) done
 
-pub word-spec : {M : Type 1} → statement M
-word-spec =
+pub long-spec : {M : Type 1} → statement M
+long-spec =
     tie.close
     (tie.spec
     Inv-loop

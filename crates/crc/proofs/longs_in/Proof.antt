@@ -1,0 +1,135 @@
+-- `crc::longs_in` meets its contract. The loop's invariant: the bytes that are left, a multiple of eight, bring the register that is held to
+-- the one that is asked. The measure is how many are left. Assumes nothing.
+use Prim.Native.Nat.{ℕ, _+_, _-_, _*_, _/_, _%_, _^_, _≤_, _<_}
+use mathlib.Core.Path.{_≡_, refl, sym, _∙_}
+use mathlib.Core.List.{List}
+use native.Mathlib.Omega.{arith}
+use native.Mathlib.Nat.{mod-lt}
+use lib.Bits.{bitXor, xor-lt}
+use lib.Dec.{lit<}
+use lib.ListN.{length, drop}
+use Rattle.bits.specs.Fields.{bitsOf, run}
+use Rattle.crc.specs.Crc.{registerFrom, registerOf}
+use Rattle.crc.specs.Words.{held}
+use Rattle.crc.proofs.Folding.{none-left, turn}
+use Rattle.crc.proofs.Reduced.{held-first, held-turn}
+use Rattle.crc.proofs.longs_in.Statement.{statement}
+use Rattle.crc.proofs.longs_in.Tie as tie
+
+abbrev Inv-loop : tie.InvT-loop
+Inv-loop bytes r₀ s₀ i₀ r s i =
+    (i ≤ length bytes) × (i % 8 ≡ 0) × (r < 2 ^ 64) × (s < 2 ^ 64) × (registerFrom (held r s) (run 8 (drop i bytes)) ≡ registerOf bytes)
+
+abbrev μ-loop : tie.MeasureT-loop
+μ-loop bytes r₀ s₀ i₀ r s i = length bytes - i
+
+long-requires : tie.Need-long-requires Inv-loop μ-loop
+long-requires c κs = omega arith
+
+long-requires-2 : tie.Need-long-requires-2 Inv-loop μ-loop
+long-requires-2 c κs = omega arith
+
+loop-holds : tie.Need-loop-holds Inv-loop μ-loop
+unfolding registerOf
+loop-holds c = (
+  omega arith,
+  omega arith,
+  xor-lt 64 v _ (omega arith) (lit< tt),
+  omega arith,
+  turn (registerFrom ones (bitsOf 64 v)) (bitsOf 64 w) (run 8 (drop 16 m)) (c .long2 .ensures) (held-first ones v w (omega arith) (omega arith))
+      ∙ turn ones (bitsOf 64 v) (run 8 (drop 8 m)) (c .before .long .ensures) refl,
+)
+  where
+    m : List ℕ
+    m = c .before .before .before .args .bytes .now
+
+    v : ℕ
+    v = c .before .long .result
+
+    w : ℕ
+    w = c .long2 .result
+
+    ones : ℕ
+    ones = 2 ^ 32 - 1
+
+cast-ahead : tie.Need-cast-ahead Inv-loop μ-loop
+cast-ahead c = omega arith
+
+ahead-requires : tie.Need-ahead-requires Inv-loop μ-loop
+ahead-requires c κs = tt
+
+cast-ahead-2 : tie.Need-cast-ahead-2 Inv-loop μ-loop
+cast-ahead-2 c = omega arith
+
+ahead-requires-2 : tie.Need-ahead-requires-2 Inv-loop μ-loop
+ahead-requires-2 c κs = tt
+
+long-requires-3 : tie.Need-long-requires-3 Inv-loop μ-loop
+long-requires-3 c κs = omega arith
+
+add-i : tie.Need-add-i Inv-loop μ-loop
+add-i c = omega arith
+
+loop-less : tie.Need-loop-less Inv-loop μ-loop
+loop-less c = omega arith
+
+loop-again : tie.Need-loop-again Inv-loop μ-loop
+loop-again c = (
+  omega arith,
+  omega arith,
+  xor-lt 64 s (a / 2 ^ 32) (c .before .before .before .before .loop .inv .3) (omega arith),
+  xor-lt 64 (bitXor (a % 2 ^ 32 * 2 ^ 32 % 2 ^ 64) b) w (xor-lt 64 (a % 2 ^ 32 * 2 ^ 32 % 2 ^ 64) b (mod-lt (a % 2 ^ 32 * 2 ^ 32) (lit< tt)) (omega arith)) (omega arith),
+  turn (held r s) (bitsOf 64 w) (run 8 (drop (i + 8) m)) (c .long3 .ensures)
+      (held-turn r s w a b (c .before .before .ahead .ensures) (c .before .ahead2 .ensures) (omega arith))
+      ∙ c .before .before .before .before .loop .inv .4,
+)
+  where
+    m : List ℕ
+    m = c .before .before .before .before .before .before .before .before .args .bytes .now
+
+    r : ℕ
+    r = c .before .before .before .before .loop .r
+
+    s : ℕ
+    s = c .before .before .before .before .loop .s
+
+    i : ℕ
+    i = c .before .before .before .before .loop .i
+
+    a : ℕ
+    a = c .before .before .ahead .result
+
+    b : ℕ
+    b = c .before .ahead2 .result
+
+    w : ℕ
+    w = c .long3 .result
+
+left-by-requires : tie.Need-left-by-requires Inv-loop μ-loop
+left-by-requires c κs = tt
+
+returns : tie.Need-returns Inv-loop μ-loop
+returns c =
+    c .left-by .ensures
+    ∙ sym (none-left (held (c .before .before .loop .r) (c .before .before .loop .s)) (c .before .before .before .before .before .before .args .bytes .now) (c .before .before .loop .i) (omega arith))
+    ∙ c .before .before .loop .inv .4
+
+pub longs-in-spec : {M : Type 1} → statement M
+longs-in-spec =
+    tie.close
+    (tie.spec
+    Inv-loop
+    μ-loop
+    long-requires
+    long-requires-2
+    loop-holds
+    cast-ahead
+    ahead-requires
+    cast-ahead-2
+    ahead-requires-2
+    long-requires-3
+    add-i
+    loop-less
+    loop-again
+    left-by-requires
+    returns)
