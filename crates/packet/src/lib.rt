@@ -1,23 +1,11 @@
 // Packets of 188 bytes, of which a frame has a header and one for each slot, and what is left of a stream of them.
 use setting::SLOTS;
 ghost use mathlib.Core.Path.{_≡_};
-ghost use lib.ListN.{length};
-ghost use Rattle.packet.specs.Packets.{packetLength, unfit, placeRefusal, restOf};
+ghost use Rattle.packet.specs.Packets.{placeRefusal, restOf};
 
 pub const PACKET_BYTES: usize = 188;
 
 pub const FRAME_BYTES: usize = PACKET_BYTES * (SLOTS + 1);
-
-// 12: whether a packet lacks 0x47 or bears the header PID.
-fn is_unfit(packet: &[u8], pid: u16) -> bool
-    requires { ⌜ length (now packet) ≡ packetLength ⌝ }
-    ensures { λ r. ⌜ r ≡ unfit pid (now (packet .entry)) ⌝ }
-{
-    if packet[0] != 0x47 {
-        return true;
-    }
-    ((packet[1] % 32) as u16) * 256 + packet[2] as u16 == pid
-}
 
 // 1: not 188 bytes; 12: lacks 0x47 or bears the header PID; 0: may stand in a slot.
 pub fn place_refusal(packet: &[u8], pid: u16) -> u8
@@ -26,7 +14,10 @@ pub fn place_refusal(packet: &[u8], pid: u16) -> u8
     if packet.len() != PACKET_BYTES {
         return 1;
     }
-    if is_unfit(packet, pid) {
+    if packet[0] != 0x47 {
+        return 12;
+    }
+    if ((packet[1] % 32) as u16) * 256 + packet[2] as u16 == pid {
         return 12;
     }
     0

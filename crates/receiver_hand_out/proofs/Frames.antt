@@ -1,19 +1,19 @@
 -- What handing out was given that is not refused, and what it answers and leaves. Assumes nothing.
-use Prim.Native.Nat.{ℕ, _*_, _≤_}
+use Prim.Native.Nat.{ℕ, _*_}
 use mathlib.Core.Path.{_≡_, refl, sym, ap, _∙_}
 use mathlib.Core.Bool.{Bool, true, false, cond, not}
-use mathlib.Core.List.{List, [], _∷_, _++_}
+use mathlib.Core.List.{List, [], _∷_, _++_, append-assoc}
 use native.Mathlib.Decide.{ℕ-discrete}
 use native.Mathlib.Omega.{arith}
-use borrow.Author.Tests.{eq-eqb, ne-eqb, eqb-true, ltb-false, not-false}
+use borrow.Author.Tests.{eq-eqb, ne-eqb, eqb-true, not-false}
 use lib.Dec.{eqb, ltb}
 use lib.ListN.{length, take, drop, length-drop}
 use lib.Seq.{take-all}
 use Rattle.slices.specs.Slices.{over}
 use Rattle.setting.specs.declared.Kind.{Kind}
 use Rattle.counters.specs.Counters.{firstStream, lastStream, lastSlot, within}
-use Rattle.refusal_table.specs.Refusal.{Check, firstOf, NoneHolds}
-use Rattle.refusal_table.proofs.Refusals.{none-first, none-at, none-behind, numbered-append, kept, written}
+use Rattle.refusal_table.specs.Refusal.{Check, firstOf, NoneHolds, leaves}
+use Rattle.refusal_table.proofs.Refusals.{none-first, none-at, numbered-append, onward, at-once, kept}
 use Rattle.packet.specs.Packets.{packetLength}
 use Rattle.receiver_table.specs.declared.Stage.{Stage}
 use Rattle.receiver_table.specs.Table.{isReady}
@@ -24,6 +24,7 @@ use Rattle.receiver_in_place.specs.Receiving.{receiverChecks, handOutRefusal, h
 use Rattle.receiver_in_place.specs.InPlace.{numbersLength, receiverWith, lentRefusal, handOutWith, handOutInto}
 use Rattle.receiver_in_place.proofs.ReceiverChecks.{receiver-numbered}
 use Rattle.receiver_in_place.proofs.LentRefusal.{own-refusal, other-refusal}
+use Rattle.receiver_hand_out.specs.Ready.{readyChecks}
 
 -- the second part is all that is behind the first
 pub behind-first : (ns : List ℕ) → length ns ≡ numbersLength → take lastSlot (drop lastSlot ns) ≡ drop lastSlot ns
@@ -32,21 +33,35 @@ behind-first ns l = take-all lastSlot (drop lastSlot ns) (rw length-drop (omega 
 pub receiver-none : (c : Receiver) → firstOf (receiverChecks c) ≡ 0 → NoneHolds (receiverChecks c)
 receiver-none c e = none-first (receiverChecks c) (receiver-numbered c) e
 
--- a frame that is handed out
-module _ (c : Receiver) (r store out : ℕ) (e : handOutRefusal c r store out ≡ 0) where
-  abbrev last : List Check
-  last =
-      (17, not (within firstStream lastStream r)) ∷ (16, not (isReady (c .stage))) ∷ (15, ltb out (packetLength * slotsFor r (c .before))) ∷ []
+-- the room is asked for last
+module _ (c : Receiver) (r store : ℕ) where
+  abbrev short : ℕ → Bool
+  short out = ltb out (packetLength * slotsFor r (c .before))
 
-  handed-none : NoneHolds ((1, not (eqb store storeLength)) ∷ (receiverChecks c ++ last))
-  unfolding handOutRefusal
-  handed-none = none-first ((1, not (eqb store storeLength)) ∷ (receiverChecks c ++ last)) (numbered-append (receiverChecks c) last (receiver-numbered c) refl) e
+  room-last : (out : ℕ) → handOutRefusal c r store out ≡ firstOf (readyChecks c r store ++ ((15, short out) ∷ []))
+  unfolding handOutRefusal readyChecks
+  room-last out =
+      ap (λ (cs : List Check). firstOf ((1, not (eqb store storeLength)) ∷ cs))
+      (sym (append-assoc (receiverChecks c) ((17, not (within firstStream lastStream r)) ∷ (16, not (isReady (c .stage))) ∷ []) ((15, short out) ∷ [])))
 
-  pub handed-store : store ≡ storeLength
-  handed-store = eqb-true store storeLength (not-false _ (none-at handed-none 0))
+  pub refused-before : (out : ℕ) → (firstOf (readyChecks c r store) ≡ 0 → ⊥) → handOutRefusal c r store out ≡ firstOf (readyChecks c r store)
+  refused-before out h = room-last out ∙ at-once (readyChecks c r store) ((15, short out) ∷ []) h
 
-  pub handed-room : packetLength * slotsFor r (c .before) ≤ out
-  handed-room = ltb-false out (packetLength * slotsFor r (c .before)) (none-at (none-behind ((1, not (eqb store storeLength)) ∷ receiverChecks c) handed-none) 2)
+  -- where nothing else is refused
+  module _ (e : firstOf (readyChecks c r store) ≡ 0) where
+    none-before : NoneHolds (readyChecks c r store)
+    unfolding readyChecks
+    none-before =
+        none-first (readyChecks c r store)
+        (numbered-append (receiverChecks c) ((17, not (within firstStream lastStream r)) ∷ (16, not (isReady (c .stage))) ∷ []) (receiver-numbered c) refl) e
+
+    pub handed-store : store ≡ storeLength
+    unfolding readyChecks
+    handed-store = eqb-true store storeLength (not-false _ (none-at none-before 0))
+
+    by-room : (out : ℕ) → handOutRefusal c r store out ≡ cond (short out) 15 0
+    unfolding firstOf
+    by-room out = room-last out ∙ onward ((15, short out) ∷ []) none-before
 
 -- a refusal of the state is that of the call, where no check before it holds
 pub state-first : (numbers : List ℕ) (state all : ℕ) {n : ℕ} → n ≡ lentRefusal numbers state → (n ≡ 0 → ⊥)
@@ -73,15 +88,28 @@ module _ (c : Receiver) (r : ℕ) (store out : List ℕ) where
     unfolding handOutBuffer
     refused-buffer = kept e _ out h
 
-  module _ (e : handing ≡ 0) where
-    module _ {before : List ℕ} (b : before ≡ c .before) where
-      pub handed-frame : {k : ℕ} → k ≡ slotsFor r before → record { refusal = 0; packets = k } ≡ handOutOf c r (length store) (length out)
-      unfolding handOutOf
-      handed-frame k = rw (e, k, b) refl
+  -- where nothing but the room may be
+  module _ (e : firstOf (readyChecks c r (length store)) ≡ 0) {before : List ℕ} (b : before ≡ c .before) where
+    pub handed-frame : {handed : HandedOut}
+        → handed ≡ cond (ltb (length out) (packetLength * slotsFor r before)) (record { refusal = 15; packets = 0 }) (record { refusal = 0; packets = slotsFor r before })
+        → handed ≡ handOutOf c r (length store) (length out)
+    unfolding handOutOf
+    handed-frame h = h ∙ rw (b, by-room c r (length store) e (length out)) (by-test (short c r (length store) (length out)))
+      where
+        by-test : (t : Bool)
+            → _≡_ {A = HandedOut} (cond t (record { refusal = 15; packets = 0 }) (record { refusal = 0; packets = slotsFor r (c .before) }))
+            (record { refusal = cond t 15 0; packets = cond (eqb (cond t 15 0) 0) (slotsFor r (c .before)) 0 })
+        by-test true = refl
+        by-test false = refl
 
-      pub handed-buffer : {after : List ℕ} → after ≡ over 0 (numbered r before store) out → after ≡ handOutBuffer c r store out
-      unfolding handOutBuffer
-      handed-buffer a = a ∙ ap (λ (l : List ℕ). over 0 (numbered r l store) out) b ∙ written refl _ out e
+    pub handed-buffer : {after : List ℕ} → after ≡ cond (ltb (length out) (packetLength * slotsFor r before)) out (over 0 (numbered r before store) out)
+        → after ≡ handOutBuffer c r store out
+    unfolding handOutBuffer leaves
+    handed-buffer a = a ∙ rw (b, by-room c r (length store) e (length out)) (by-test (short c r (length store) (length out)))
+      where
+        by-test : (t : Bool) → cond t out (over 0 (numbered r (c .before) store) out) ≡ cond (eqb (cond t 15 0) 0) (over 0 (numbered r (c .before) store) out) out
+        by-test true = refl
+        by-test false = refl
 
 -- ---- over lent numbers
 

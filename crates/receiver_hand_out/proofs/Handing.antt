@@ -1,12 +1,15 @@
--- The slots with one number, gone through in turn: how many there are, and their packets one behind the other. Assumes nothing.
-use Prim.Native.Nat.{ℕ, _+_, _*_, _≤_, _<_}
+-- The slots with one number, gone through in turn: their bits, how many there are, and their packets one behind the other. Assumes
+-- nothing.
+use Prim.Native.Nat.{ℕ, zero, suc, _+_, _*_, _/_, _%_, _^_, _≤_, _<_}
 use mathlib.Core.Path.{_≡_, refl, sym, ap, ap₂, subst, _∙_}
 use mathlib.Core.Bool.{Bool, true, false, cond}
 use mathlib.Core.List.{List, [], _∷_, _++_, append-assoc}
+use native.Mathlib.Nat.{lt-of-not-le, pow-suc, mul-add, mul-comm, mul-assoc, div-div-eq-div-mul}
 use native.Mathlib.Numerals.{add-one}
 use native.Mathlib.Omega.{arith}
+use lib.Count.{ones, ones-step, under, trailingZeros}
 use lib.Dec.{eqb}
-use lib.ListN.{length, getD, take, drop, length-append, length-drop, drop-of-length-le}
+use lib.ListN.{length, getD, take, drop, length-drop, drop-of-length-le}
 use lib.Seq.{drop-cons, drop-drop, length-take-le}
 use Rattle.slices.proofs.Front.{put}
 use Rattle.slices.proofs.Toward.{Toward, toward-none, toward-part, toward-all}
@@ -14,16 +17,59 @@ use Rattle.packet.specs.Packets.{packetLength}
 use Rattle.slices.specs.Slices.{over}
 use Rattle.receiver_in_place.specs.Store.{numbered, slotsFor}
 use Rattle.receiver_in_place.proofs.Store.{length-numbered}
+use Rattle.receiver_hand_out.specs.Ready.{marked}
+
+-- as many bits as slots
+pub marked-ones : (r : ℕ) (ns : List ℕ) → ones (marked r ns) ≡ slotsFor r ns
+unfolding marked slotsFor ones
+marked-ones r [] = refl
+marked-ones r (n ∷ ns) = ones-step (cond (eqb n r) 1 0 + 2 * marked r ns) ∙ by-number (eqb n r) (marked-ones r ns)
+  where
+    by-number : (t : Bool) → ones (marked r ns) ≡ slotsFor r ns
+        → (cond t 1 0 + 2 * marked r ns) % 2 + ones ((cond t 1 0 + 2 * marked r ns) / 2) ≡ cond t 1 0 + slotsFor r ns
+    by-number true later =
+        let half : (1 + 2 * marked r ns) / 2 ≡ marked r ns = omega arith in
+        rw (half, later) (omega arith)
+    by-number false later =
+        let half : (0 + 2 * marked r ns) / 2 ≡ marked r ns = omega arith in
+        rw (half, later) (omega arith)
+
+-- no bit, no packet
+none-numbered : (r : ℕ) (ns bytes : List ℕ) → marked r ns ≡ 0 → numbered r ns bytes ≡ []
+unfolding marked numbered
+none-numbered r [] bytes z = refl
+none-numbered r (n ∷ ns) bytes z = by-number (eqb n r) z (none-numbered r ns (drop packetLength bytes))
+  where
+    by-number : (t : Bool) → cond t 1 0 + 2 * marked r ns ≡ 0 → (marked r ns ≡ 0 → numbered r ns (drop packetLength bytes) ≡ [])
+        → cond t (take packetLength bytes ++ numbered r ns (drop packetLength bytes)) (numbered r ns (drop packetLength bytes)) ≡ []
+    by-number true z later = absurd (omega arith)
+    by-number false z later = later (omega arith)
+
+-- a bit more among m, below the others
+one-bit : (t : Bool) (m p marks : ℕ) → m + p * (cond t 1 0 + 2 * marks) ≡ (m + cond t p 0) + p * 2 * marks
+one-bit true m p marks = omega (arith, mul-add p 1 (2 * marks), mul-assoc p 2 marks)
+one-bit false m p marks = omega (arith, mul-add p 0 (2 * marks), mul-assoc p 2 marks)
 
 module _ (r : ℕ) (ns : List ℕ) (i : ℕ) where
   module _ (h : i < length ns) {t : Bool} (e : eqb (getD ns i 0) r ≡ t) where
     -- slot i
-    pub count-from : slotsFor r (drop i ns) ≡ cond t 1 0 + slotsFor r (drop (i + 1) ns)
+    count-from : slotsFor r (drop i ns) ≡ cond t 1 0 + slotsFor r (drop (i + 1) ns)
     unfolding slotsFor
     count-from =
         ap (slotsFor r) (drop-cons ns i 0 h) ∙ ap₂ (λ (b : Bool) (k : ℕ). cond b 1 0 + slotsFor r (drop k ns)) e (sym (add-one i))
 
-    pub numbered-from : (store : List ℕ)
+    pub marked-from : marked r (drop i ns) ≡ cond t 1 0 + 2 * marked r (drop (i + 1) ns)
+    unfolding marked
+    marked-from =
+        ap (marked r) (drop-cons ns i 0 h) ∙ ap₂ (λ (b : Bool) (k : ℕ). cond b 1 0 + 2 * marked r (drop k ns)) e (sym (add-one i))
+
+    -- its bit is put over m, where those of the slots before it are
+    pub marked-over : (m : ℕ) → m + 2 ^ i * marked r (drop i ns) ≡ (m + cond t (2 ^ i) 0) + 2 ^ (i + 1) * marked r (drop (i + 1) ns)
+    marked-over m =
+        let power : 2 ^ (i + 1) ≡ 2 ^ i * 2 = ap (λ (k : ℕ). 2 ^ k) (add-one i) ∙ pow-suc 2 i in
+        rw (power, marked-from) (one-bit t m (2 ^ i) (marked r (drop (i + 1) ns)))
+
+    numbered-from : (store : List ℕ)
         → numbered r (drop i ns) (drop (packetLength * i) store)
         ≡ cond t
         (take packetLength (drop (packetLength * i) store) ++ numbered r (drop (i + 1) ns) (drop (packetLength * (i + 1)) store))
@@ -37,17 +83,12 @@ module _ (r : ℕ) (ns : List ℕ) (i : ℕ) where
         e (drop-drop packetLength (packetLength * i) store ∙ ap (λ (k : ℕ). drop k store) next)
 
   -- behind the last slot
-  module _ (h : length ns ≤ i) where
-    pub count-none : slotsFor r (drop i ns) ≡ 0
-    unfolding slotsFor
-    count-none = rw (drop-of-length-le ns h) refl
-
-    pub numbered-none : (bytes : List ℕ) → numbered r (drop i ns) bytes ≡ []
-    unfolding numbered
-    numbered-none bytes = rw (drop-of-length-le ns h) refl
+  pub marked-none : length ns ≤ i → marked r (drop i ns) ≡ 0
+  unfolding marked
+  marked-none h = rw (drop-of-length-le ns h) refl
 
 -- over the front
-pub over-front : (p bytes : List ℕ) (n : ℕ) → length p ≡ n → over 0 p bytes ≡ p ++ drop n bytes
+over-front : (p bytes : List ℕ) (n : ℕ) → length p ≡ n → over 0 p bytes ≡ p ++ drop n bytes
 unfolding over
 over-front p bytes n e =
     let whole : 0 + length p ≡ n = omega arith in
@@ -97,7 +138,7 @@ module _ (r : ℕ) (ns store out₀ : List ℕ) where
           }
 
       -- a slot with another
-      pub handing-passed : eqb (getD ns i 0) r ≡ false → HandingOut out (i + 1) at
+      handing-passed : eqb (getD ns i 0) r ≡ false → HandingOut out (i + 1) at
       handing-passed e =
           let more = count-from r ns i h e in
           let before = w .left in
@@ -116,10 +157,49 @@ module _ (r : ℕ) (ns store out₀ : List ℕ) where
           let before = w .left in
           omega arith
 
-    pub handing-all : length ns ≤ i → out ≡ over 0 (numbered r ns store) out₀
-    handing-all h =
-        let none = count-none r ns i h in
+    -- where no slot is left with the number
+    pub handing-all : marked r (drop i ns) ≡ 0 → out ≡ over 0 (numbered r ns store) out₀
+    unfolding ones
+    handing-all z =
+        let none : slotsFor r (drop i ns) ≡ 0 = sym (marked-ones r (drop i ns)) ∙ ap ones z in
         let before = w .left in
         let done : at ≡ packetLength * slotsFor r ns = omega arith in
         toward-all (w .front)
-        (ap (λ (k : ℕ). drop k out₀) done ∙ ap (λ (l : List ℕ). l ++ drop (packetLength * slotsFor r ns) out₀) (sym (numbered-none r ns i h (drop (packetLength * i) store))))
+        (ap (λ (k : ℕ). drop k out₀) done
+        ∙ ap (λ (l : List ℕ). l ++ drop (packetLength * slotsFor r ns) out₀) (sym (none-numbered r (drop i ns) (drop (packetLength * i) store) z)))
+
+  -- slot j is the next with the number, and n are the marks from it on
+  pub record Next (out : List ℕ) (at j n : ℕ) : Type 0 where
+    pub handed : HandingOut out j at
+    pub inside : j < length ns
+    pub here : eqb (getD ns j 0) r ≡ true
+    pub rest : n ≡ marked r (drop j ns)
+
+  -- which stands behind as many slots as the marks have zeros below
+  pub handing-next : (k : ℕ) {out : List ℕ} {i at m : ℕ} → length ns ≤ i + k → HandingOut out i at → m ≡ marked r (drop i ns) → (m ≡ 0 → ⊥)
+      → {j : ℕ} → i + trailingZeros k m ≡ j → Next out at j (m / 2 ^ trailingZeros k m)
+  unfolding trailingZeros
+  handing-next zero {out} {i} {at} {m} h w e some p =
+      let inside : i < length ns = lt-of-not-le (λ g. some (e ∙ marked-none r ns i g)) in
+      absurd (omega arith)
+  handing-next (suc k) {out} {i} {at} {m} h w e some {j} p =
+      let inside : i < length ns = lt-of-not-le (λ g. some (e ∙ marked-none r ns i g)) in
+      by-number (eqb (getD ns i 0) r) inside refl p (λ g e' some' p'. handing-next k (omega arith) g e' some' p')
+    where
+      by-number : (t : Bool) → i < length ns → eqb (getD ns i 0) r ≡ t → i + under (m % 2) (trailingZeros k (m / 2)) ≡ j
+          → (HandingOut out (i + 1) at → m / 2 ≡ marked r (drop (i + 1) ns) → (m / 2 ≡ 0 → ⊥) → i + 1 + trailingZeros k (m / 2) ≡ j → Next out at j (m / 2 / 2 ^ trailingZeros k (m / 2)))
+          → Next out at j (m / 2 ^ under (m % 2) (trailingZeros k (m / 2)))
+      by-number true inside d p later =
+          let marks = marked-from r ns i inside d in
+          let odd : m % 2 ≡ 1 = omega arith in
+          let there : i + under 1 (trailingZeros k (m / 2)) ≡ j = rw odd at p in
+          let at-it : i ≡ j = omega arith in
+          let whole : m / 2 ^ 0 ≡ m = omega arith in
+          rw (odd, whole, sym at-it) (record { handed = w; inside = inside; here = d; rest = e })
+      by-number false inside d p later =
+          let marks = marked-from r ns i inside d in
+          let even : m % 2 ≡ 0 = omega arith in
+          let t = trailingZeros k (m / 2) in
+          let there : i + under 0 t ≡ j = rw even at p in
+          let less : m / 2 ^ suc t ≡ m / 2 / 2 ^ t = ap (λ (n : ℕ). m / n) (pow-suc 2 t ∙ mul-comm (2 ^ t) 2) ∙ sym (div-div-eq-div-mul m 2 (2 ^ t)) in
+          rw (even, less) (later (handing-passed w inside d) (omega arith) (λ z. some (omega arith)) (omega arith))

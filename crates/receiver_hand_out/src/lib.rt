@@ -2,7 +2,6 @@
 mod numbered;
 
 use counters::RelativeNumber;
-use packet::PACKET_BYTES;
 use receiver_in_place::HandedOut;
 use receiver_in_place::NUMBERS_BYTES;
 use receiver_in_place::STORE_BYTES;
@@ -11,19 +10,13 @@ use setting::SLOTS;
 ghost use mathlib.Core.Path.{_≡_};
 ghost use lib.ListN.{length};
 ghost use Rattle.setting.specs.declared.Kind.{Kind};
-ghost use Rattle.receiver_in_place.specs.Receiving.{handOutRefusal};
+ghost use Rattle.refusal_table.specs.Refusal.{firstOf};
 ghost use Rattle.receiver_in_place.specs.InPlace.{receiverWith, lentRefusal, handOutWith, handOutInto};
+ghost use Rattle.receiver_hand_out.specs.Ready.{readyChecks};
 
-// The lent store, the state, and what is asked of it, in the table's order.
-fn hand_out_refusal(
-    pid: u16,
-    stage: Stage,
-    numbers: &[u8],
-    r: RelativeNumber,
-    store: usize,
-    out: usize,
-) -> u8
-    ensures { λ t. ⌜ t ≡ lentRefusal (now (numbers .entry)) (handOutRefusal (receiverWith pid Kind.Plain stage (now (numbers .entry))) (r .0) store out) ⌝ }
+// All but 15, for which the packets have to be counted, in the table's order: the lent store, the state, and what is asked of it.
+fn ready_refusal(pid: u16, stage: Stage, numbers: &[u8], r: RelativeNumber, store: usize) -> u8
+    ensures { λ t. ⌜ t ≡ lentRefusal (now (numbers .entry)) (firstOf (readyChecks (receiverWith pid Kind.Plain stage (now (numbers .entry))) (r .0) store)) ⌝ }
 {
     if store != STORE_BYTES {
         return 1;
@@ -41,9 +34,6 @@ fn hand_out_refusal(
     if !receiver_stage::is_frame_ready(stage) {
         return 16;
     }
-    if out / PACKET_BYTES < numbered::count(&numbers[SLOTS..NUMBERS_BYTES], r.0) {
-        return 15;
-    }
     0
 }
 
@@ -59,17 +49,12 @@ pub fn hand_out_in_place(
     ensures { λ t. ⌜ t ≡ handOutWith pid stage (now (numbers .entry)) (r .0) (length (now (store .entry))) (length (now (out .entry))) ⌝ }
     ensures { λ _. ⌜ now (out .exit) ≡ handOutInto pid stage (now (numbers .entry)) (r .0) (now (store .entry)) (now (out .entry)) ⌝ }
 {
-    let refusal = hand_out_refusal(pid, stage, numbers, r, store.len(), out.len());
+    let refusal = ready_refusal(pid, stage, numbers, r, store.len());
     if refusal != 0 {
         return HandedOut {
             refusal,
             packets: 0,
         };
     }
-    let before = &numbers[SLOTS..NUMBERS_BYTES];
-    numbered::copy_numbered(out, store, before, r.0);
-    HandedOut {
-        refusal: 0,
-        packets: numbered::count(before, r.0),
-    }
+    numbered::hand_out(out, store, &numbers[SLOTS..NUMBERS_BYTES], r.0)
 }

@@ -1,3 +1,4 @@
+mod Largest
 pub mod Lent
 pub mod LentRefusal
 mod Parted

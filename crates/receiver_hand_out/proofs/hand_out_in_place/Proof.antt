@@ -4,11 +4,12 @@ use borrow.Author.Needs.{needs}
 use lib.ListN.{length, take, drop}
 use Rattle.setting.specs.declared.Kind.{Kind}
 use Rattle.counters.specs.Counters.{lastSlot}
+use Rattle.refusal_table.specs.Refusal.{firstOf}
 use Rattle.receiver_in_place.specs.declared.Receiver.{Receiver}
-use Rattle.receiver_in_place.specs.Receiving.{handOutRefusal}
 use Rattle.receiver_in_place.specs.InPlace.{numbersLength, receiverWith}
 use Rattle.receiver_in_place.proofs.LentRefusal.{lent-accepted}
-use Rattle.receiver_hand_out.proofs.Frames.{behind-first, handed-store, handed-room, handed-frame, handed-buffer, hands, refuses-frame}
+use Rattle.receiver_hand_out.specs.Ready.{readyChecks}
+use Rattle.receiver_hand_out.proofs.Frames.{behind-first, state-first, refused-before, handed-store, handed-frame, handed-buffer, hands, refuses-frame}
 use Rattle.receiver_hand_out.proofs.hand_out_in_place.Statement.{statement}
 use Rattle.receiver_hand_out.proofs.hand_out_in_place.Tie as tie
 
@@ -21,45 +22,40 @@ of c = receiverWith (c .args .pid) Kind.Plain (c .args .stage) (c .args .numbers
 
 accepted : (c : tie.Else1)
     → (length (start c .args .numbers .now) ≡ numbersLength)
-    × (handOutRefusal (of (start c)) (start c .args .r .0) (length (start c .args .store .now)) (length (start c .args .out .now)) ≡ 0)
-accepted c = lent-accepted (start c .args .numbers .now) _ (c .before .hand-out-refusal .ensures) (c .if1 .left)
+    × (firstOf (readyChecks (of (start c)) (start c .args .r .0) (length (start c .args .store .now))) ≡ 0)
+accepted c = lent-accepted (start c .args .numbers .now) _ (c .before .ready-refusal .ensures) (c .if1 .left)
 
 -- the numbers of the frame before
 part : (c : tie.Else1) → take lastSlot (drop lastSlot (start c .args .numbers .now)) ≡ drop lastSlot (start c .args .numbers .now)
 part c = behind-first (start c .args .numbers .now) (accepted c .0)
 
-hand-out-refusal-requires : tie.Need-hand-out-refusal-requires
-hand-out-refusal-requires c κs = search needs
+ready-refusal-requires : tie.Need-ready-refusal-requires
+ready-refusal-requires c κs = search needs
 
 returns : tie.Need-returns
 returns c =
     let call = c .before in
-    let a = call .before .before .before .before .args in
-    refuses-frame (a .pid) (a .stage) (a .numbers .now) (a .r .0) (a .store .now) (a .out .now) (call .hand-out-refusal .ensures) (c .if1 .taken)
+    let s = call .before .before .before .before in
+    let a = s .args in
+    refuses-frame (a .pid) (a .stage) (a .numbers .now) (a .r .0) (a .store .now) (a .out .now)
+    (state-first (a .numbers .now) _ _ (call .ready-refusal .ensures) (c .if1 .taken) (refused-before (of s) (a .r .0) (length (a .store .now)) (length (a .out .now))))
+    (c .if1 .taken)
 
-sub-before : tie.Need-sub-before
-sub-before c = search needs
+sub-hand-out : tie.Need-sub-hand-out
+sub-hand-out c = search needs
 
-part-before-start : tie.Need-part-before-start
-part-before-start c = search needs
+part-hand-out-start : tie.Need-part-hand-out-start
+part-hand-out-start c = search needs
 
-part-before-end : tie.Need-part-before-end
-part-before-end c =
-    let l = accepted c .0 in
+part-hand-out-end : tie.Need-part-hand-out-end
+part-hand-out-end c =
+    let l = accepted (c .before) .0 in
     search needs
 
-copy-numbered-requires : tie.Need-copy-numbered-requires
-unfolding receiverWith
-copy-numbered-requires c κs =
+hand-out-requires : tie.Need-hand-out-requires
+hand-out-requires c κs =
     let k = c .before .before in
-    let s = start k in
-    let r = s .args .r .0 in (
-      (search needs, handed-store (of s) r _ _ (accepted k .1)),
-      rw (part k) (handed-room (of s) r _ _ (accepted k .1)),
-    )
-
-count-requires : tie.Need-count-requires
-count-requires c κs = search needs
+    (search needs, handed-store (of (start k)) (start k .args .r .0) _ (accepted k .1))
 
 same-length : tie.Need-same-length
 same-length c = search needs
@@ -67,24 +63,23 @@ same-length c = search needs
 returns-2 : tie.Need-returns-2
 unfolding receiverWith
 returns-2 c =
-    let call = c .before .before .before in
+    let call = c .before .before in
     let k = call .before .before .before in
     let s = start k in
     let a = s .args in
     hands (a .pid) (a .stage) (a .numbers .now) (a .r .0) (a .store .now) (a .out .now) (accepted k .0)
-    (handed-frame (of s) (a .r .0) (a .store .now) (a .out .now) (accepted k .1) (part k) (c .count .ensures))
-    (handed-buffer (of s) (a .r .0) (a .store .now) (a .out .now) (accepted k .1) (part k) (call .copy-numbered .ensures))
+    (handed-frame (of s) (a .r .0) (a .store .now) (a .out .now) (accepted k .1) (part k) (call .hand-out .ensures .0))
+    (handed-buffer (of s) (a .r .0) (a .store .now) (a .out .now) (accepted k .1) (part k) (call .hand-out .ensures .1))
 
 pub hand-out-in-place-spec : {M : Type 1} → statement M
 hand-out-in-place-spec =
     tie.close
     (tie.spec
-    hand-out-refusal-requires
+    ready-refusal-requires
     returns
-    sub-before
-    part-before-start
-    part-before-end
-    copy-numbered-requires
-    count-requires
+    sub-hand-out
+    part-hand-out-start
+    part-hand-out-end
+    hand-out-requires
     same-length
     returns-2)

@@ -78,15 +78,15 @@ returns-3 c kind =
     let s = start₂ (stage .before) in
     sym (past₂ (stage .before) kind ∙ at-once (stageChecks (s .args .stage)) (behind s) (λ z. c .if3 .taken (stage .stage-refusal .ensures ∙ z)) ∙ sym (stage .stage-refusal .ensures))
 
-some-at-least-requires : tie.Need-some-at-least-requires
-some-at-least-requires c κs = search needs
+some-past-last-requires : tie.Need-some-past-last-requires
+some-past-last-requires c κs = search needs
 
 returns-4 : tie.Need-returns-4
-returns-4 c kind = sym (past₃ (c .before .before) kind ∙ answers 17 [] (sym (c .before .some-at-least .ensures) ∙ c .if4 .taken))
+returns-4 c kind = sym (past₃ (c .before .before) kind ∙ answers 17 [] (sym (c .before .some-past-last .ensures) ∙ c .if4 .taken))
 
 returns-5 : tie.Need-returns-5
 unfolding firstOf
-returns-5 c kind = sym (past₃ (c .before .before) kind ∙ passed 17 [] (sym (c .before .some-at-least .ensures) ∙ c .if4 .left))
+returns-5 c kind = sym (past₃ (c .before .before) kind ∙ passed 17 [] (sym (c .before .some-past-last .ensures) ∙ c .if4 .left))
 
 pub state-refusal-spec : {M : Type 1} → statement M
 state-refusal-spec =
@@ -97,6 +97,6 @@ state-refusal-spec =
     returns-2
     stage-refusal-requires
     returns-3
-    some-at-least-requires
+    some-past-last-requires
     returns-4
     returns-5)

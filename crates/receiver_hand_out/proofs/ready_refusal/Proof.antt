@@ -1,28 +1,25 @@
--- `hand_out_refusal` meets its contract, check by check. Assumes nothing.
-use Prim.Native.Nat.{ℕ, _*_}
+-- `ready_refusal` meets its contract, check by check. Assumes nothing.
+use Prim.Native.Nat.{ℕ}
 use mathlib.Core.Path.{_≡_, refl, sym, ap, _∙_}
 use mathlib.Core.Bool.{not}
 use mathlib.Core.List.{List, [], _∷_, _++_}
-use native.Mathlib.Omega.{arith}
 use borrow.Author.Needs.{needs}
-use borrow.Author.Tests.{eq-eqb, ne-eqb, lt-ltb, le-ltb}
-use lib.Dec.{ltb}
+use borrow.Author.Tests.{eq-eqb, ne-eqb}
 use lib.ListN.{length, drop}
-use Rattle.counters.specs.Counters.{firstStream, lastStream, lastSlot, within}
+use Rattle.counters.specs.Counters.{firstStream, lastStream, within}
 use Rattle.refusal_table.specs.Refusal.{Check, firstOf}
 use Rattle.refusal_table.proofs.Refusals.{answers, passed, onward, at-once}
 use Rattle.counters.proofs.Within.{under, past, between}
-use Rattle.packet.specs.Packets.{packetLength}
-use Rattle.receiver_in_place.specs.Store.{slotsFor}
 use Rattle.setting.specs.declared.Kind.{Kind}
 use Rattle.receiver_in_place.specs.declared.Receiver.{Receiver}
 use Rattle.receiver_table.specs.Table.{isReady}
-use Rattle.receiver_in_place.specs.Receiving.{receiverChecks, handOutRefusal}
+use Rattle.receiver_in_place.specs.Receiving.{receiverChecks}
 use Rattle.receiver_in_place.specs.InPlace.{numbersLength, receiverWith, lentRefusal}
 use Rattle.receiver_in_place.proofs.LentRefusal.{own-refusal, lent-accepted, one-anyway}
-use Rattle.receiver_hand_out.proofs.Frames.{behind-first, receiver-none, state-first}
-use Rattle.receiver_hand_out.proofs.hand_out_refusal.Statement.{statement}
-use Rattle.receiver_hand_out.proofs.hand_out_refusal.Tie as tie
+use Rattle.receiver_hand_out.specs.Ready.{readyChecks}
+use Rattle.receiver_hand_out.proofs.Frames.{receiver-none, state-first}
+use Rattle.receiver_hand_out.proofs.ready_refusal.Statement.{statement}
+use Rattle.receiver_hand_out.proofs.ready_refusal.Tie as tie
 
 -- from the place after a check that did not hold to the function's start
 abbrev start₁ : tie.Else1 → tie.Start
@@ -42,18 +39,17 @@ abbrev of : tie.Start → Receiver
 of c = receiverWith (c .args .pid) Kind.Plain (c .args .stage) (c .args .numbers .now)
 
 abbrev all : tie.Start → ℕ
-all c = lentRefusal (c .args .numbers .now) (handOutRefusal (of c) (c .args .r .0) (c .args .store) (c .args .out))
+all c = lentRefusal (c .args .numbers .now) (firstOf (readyChecks (of c) (c .args .r .0) (c .args .store)))
 
 abbrev last : tie.Start → List Check
 last c =
     (17, not (within firstStream lastStream (c .args .r .0)))
     ∷ (16, not (isReady (c .args .stage)))
-    ∷ (15, ltb (c .args .out) (packetLength * slotsFor (c .args .r .0) (drop lastSlot (c .args .numbers .now))))
     ∷ []
 
 past₁ : (c : tie.Else1)
-    → handOutRefusal (of (start₁ c)) (start₁ c .args .r .0) (start₁ c .args .store) (start₁ c .args .out) ≡ firstOf (receiverChecks (of (start₁ c)) ++ last (start₁ c))
-unfolding handOutRefusal receiverWith
+    → firstOf (readyChecks (of (start₁ c)) (start₁ c .args .r .0) (start₁ c .args .store)) ≡ firstOf (receiverChecks (of (start₁ c)) ++ last (start₁ c))
+unfolding readyChecks receiverWith
 past₁ c = passed 1 _ (ap not (eq-eqb _ _ (c .if1 .left)))
 
 -- a state that is not refused
@@ -74,15 +70,8 @@ past₄ c =
 past₅ : (c : tie.Else5) → all (start₅ c) ≡ firstOf (drop 2 (last (start₅ c)))
 past₅ c = past₄ (c .before .before) ∙ passed 16 _ (ap not (sym (c .before .is-frame-ready .ensures)) ∙ c .if5 .left)
 
--- how many slots have the number
-counted : (c : tie.After-count) → c .count .result ≡ slotsFor (start₅ (c .before .before) .args .r .0) (drop lastSlot (start₅ (c .before .before) .args .numbers .now))
-counted c =
-    let k = c .before .before in
-    let s = start₅ k in
-    c .count .ensures ∙ ap (slotsFor (s .args .r .0)) (behind-first (s .args .numbers .now) (accepted (k .before .before .before .before .before .before) .0))
-
 returns : tie.Need-returns
-unfolding handOutRefusal
+unfolding readyChecks
 returns c = one-anyway _ _ (answers 1 _ (ap not (ne-eqb _ _ (c .if1 .taken))))
 
 state-refusal-requires : tie.Need-state-refusal-requires
@@ -108,37 +97,12 @@ is-frame-ready-requires c κs = search needs
 returns-5 : tie.Need-returns-5
 returns-5 c = sym (past₄ (c .before .before) ∙ answers 16 _ (ap not (sym (c .before .is-frame-ready .ensures)) ∙ c .if5 .taken))
 
-sub-count : tie.Need-sub-count
-sub-count c = search needs
-
-part-count-start : tie.Need-part-count-start
-part-count-start c = search needs
-
-part-count-end : tie.Need-part-count-end
-part-count-end c =
-    let l = accepted (c .before .before .before .before .before .before) .0 in
-    search needs
-
-count-requires : tie.Need-count-requires
-count-requires c κs = search needs
-
 returns-6 : tie.Need-returns-6
-returns-6 c =
-    let k = c .before .before .before in
-    let s = start₅ k in
-    let n = counted (c .before) in
-    sym (past₅ k ∙ answers 15 [] (lt-ltb (s .args .out) (packetLength * slotsFor (s .args .r .0) (drop lastSlot (s .args .numbers .now))) (omega (arith, n))))
-
-returns-7 : tie.Need-returns-7
 unfolding firstOf
-returns-7 c =
-    let k = c .before .before .before in
-    let s = start₅ k in
-    let n = counted (c .before) in
-    sym (past₅ k ∙ passed 15 [] (le-ltb (s .args .out) (packetLength * slotsFor (s .args .r .0) (drop lastSlot (s .args .numbers .now))) (omega (arith, n))))
+returns-6 c = sym (past₅ c)
 
-pub hand-out-refusal-spec : {M : Type 1} → statement M
-hand-out-refusal-spec =
+pub ready-refusal-spec : {M : Type 1} → statement M
+ready-refusal-spec =
     tie.close
     (tie.spec
     returns
@@ -148,9 +112,4 @@ hand-out-refusal-spec =
     returns-4
     is-frame-ready-requires
     returns-5
-    sub-count
-    part-count-start
-    part-count-end
-    count-requires
-    returns-6
-    returns-7)
+    returns-6)

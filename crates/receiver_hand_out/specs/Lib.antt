@@ -1,0 +1,2 @@
+-- What handing out a ready frame goes by.
+pub mod Ready
