@@ -1,7 +1,7 @@
 // One stream over bonded carriers: spread over the slots of their super frames, and gathered again in its first order.
 mod checks;
 mod moving;
-mod walk;
+mod rounds;
 
 use group::Bond;
 use packet::PACKET_BYTES;
@@ -72,14 +72,7 @@ pub fn gather(group: &[u8], out: &mut [u8], b: Bond) -> Moved
     }
     let frames = plan.frames;
     let slots = plan.slots;
-    moving::gather_over(
-        out,
-        group,
-        plan.packets,
-        b.carriers as usize,
-        &frames,
-        &slots,
-    );
+    moving::gather_over(out, group, b.carriers as usize, &frames, &slots);
     Moved {
         refusal: 0,
         packets: plan.packets,
