@@ -19,7 +19,7 @@ use Rattle.counters.specs.Counters.{lastPosition}
 use Rattle.places.specs.Order.{picked, framePackets}
 use Rattle.places.specs.Walk.{lastCarrier, mostFrames, twelfths, share, placeAt, framesBefore, packetAt, isStop, isMarked, stops, Walkable}
 use Rattle.bond.specs.Listing.{roundTwelfths, roundSteps, framesOf, isDue, due, Entry, Noted, packetIn, markedIn, placesFrom, Listable}
-use Rattle.places.proofs.Frames.{frames-few}
+use Rattle.places.proofs.Frames.{frames-next, frames-few}
 use Rattle.places.proofs.Sweep.{at-step}
 
 -- ---- the packet at which a step looks
@@ -209,6 +209,16 @@ module _ {carriers : ℕ} {frames : List ℕ} (a : Walkable carriers frames) (t 
   before-few : framesBefore frames k ≤ lastPosition * (lastCarrier - 1)
   before-few = let f = frames-few frames k (a .short) in let few = a .few in omega arith
 
+  -- the carrier is there, and the next one has its frames behind these
+  pub carrier-in : k < length frames
+  carrier-in = let few = a .few in let long = a .for-each in omega arith
+
+  pub carrier-next : {frame : ℕ} → frame ≡ framesBefore frames k → (frame + getD frames k 0 ≡ framesBefore frames (k + 1)) × (k + 1 ≤ carriers)
+  carrier-next is = (ap (λ (n : ℕ). n + getD frames k 0) is ∙ sym (ap (framesBefore frames) (add-one k) ∙ frames-next frames k), omega arith)
+
+  pub carrier-less : carriers - (k + 1) < carriers - k
+  carrier-less = omega arith
+
   module _ {notes : List ℕ} {n : ℕ} (c : Noted carriers frames notes n (lastCarrier * t + k)) where
     abbrev f : ℕ
     f = getD frames k 0
@@ -232,6 +242,9 @@ module _ {carriers : ℕ} {frames : List ℕ} (a : Walkable carriers frames) (t 
           frame-on = omega arith;
           on = omega arith;
         }
+
+    pub here-first : 2 * n < length notes
+    here-first = let few = a .few in let noted = c .few in let long = c .long in omega arith
 
     pub here-room : (p : ℕ) → 2 * n + 1 < length (set notes (2 * n) p)
     here-room p = let few = a .few in noted-room carriers frames c (omega arith) p
@@ -297,6 +310,10 @@ pub record Reckoned (q e x y : ℕ) : Type 0 where
   pub packet : Fits w64 (x + q * y)
   pub listed : Fits w16 (x + q * y)
   pub next : Fits w64 (e + 1)
+
+-- which is there
+pub entry-in : (notes : List ℕ) (e n : ℕ) → e < n → n ≤ roundSteps → length notes ≡ 2 * roundSteps → (2 * e < length notes) × (2 * e + 1 < length notes)
+entry-in notes e n h l long = (omega arith, omega arith)
 
 pub reckoned : (q e x y : ℕ) → e < roundSteps → x + q * y < framePackets * mostFrames → Reckoned q e x y
 reckoned q e x y h l =

@@ -34,7 +34,7 @@ pub fn spread(group: &mut [u8], stream: &[u8], b: Bond) -> Moved
         };
     }
     let plan = planned.plan;
-    let last = checks::spread_refusal(plan, stream, b.pid);
+    let last = checks::spread_refusal(plan.is_carried, plan.packets, stream, b.pid);
     if last != 0 {
         return Moved {
             refusal: last,
@@ -63,7 +63,7 @@ pub fn gather(group: &[u8], out: &mut [u8], b: Bond) -> Moved
         };
     }
     let plan = planned.plan;
-    let last = checks::gather_refusal(plan, out.len());
+    let last = checks::gather_refusal(plan.is_carried, plan.packets, out.len());
     if last != 0 {
         return Moved {
             refusal: last,

@@ -1,11 +1,11 @@
 -- `list_round` meets its contract: e of the entries were gone through. Assumes nothing.
-use Prim.Native.Nat.{_+_, _-_, _*_}
+use Prim.Native.Nat.{_+_, _-_, _*_, _<_}
 use mathlib.Core.Path.{sym, _∙_}
 use mathlib.Core.Logic.{⊎-elim}
 use native.Mathlib.Omega.{arith}
 use borrow.Author.Needs.{needs}
-use lib.ListN.{getD}
-use Rattle.bond.proofs.ByRound.{Reckoned, reckoned, Going, going-none, going-room, going-more, going-less, going-all}
+use lib.ListN.{length, getD}
+use Rattle.bond.proofs.ByRound.{entry-in, Reckoned, reckoned, Going, going-none, going-room, going-more, going-less, going-all}
 use Rattle.bond.proofs.rounds.list_round.Statement.{statement}
 use Rattle.bond.proofs.rounds.list_round.Tie as tie
 
@@ -29,6 +29,13 @@ fits c =
     let p = start c .pre in
     reckoned _ (turn c .loop .e) _ _ (omega arith) (p .1 .0 (turn c .loop .e) (c .before .loop-test .taken))
 
+there : (c : tie.In-loop Inv-loop μ-loop)
+    → (2 * c .before .loop .e < length (c .before .before .before .before .before .args .notes .now))
+    × (2 * c .before .loop .e + 1 < length (c .before .before .before .before .before .args .notes .now))
+there c =
+    let s = c .before .before .before .before .before in
+    entry-in (s .args .notes .now) (c .before .loop .e) (s .args .noted) (c .loop-test .taken) (s .pre .0 .0) (s .pre .0 .1)
+
 loop-holds : tie.Need-loop-holds Inv-loop μ-loop
 loop-holds c = going-none _ _ _ _ _ _
 
@@ -39,7 +46,7 @@ mul-m-2 : tie.Need-mul-m-2 Inv-loop μ-loop
 mul-m-2 c = search needs
 
 shared-slice-read-m : tie.Need-shared-slice-read-m Inv-loop μ-loop
-shared-slice-read-m c = search needs
+shared-slice-read-m c = there (c .before) .0
 
 mul-m-3 : tie.Need-mul-m-3 Inv-loop μ-loop
 mul-m-3 c = fits c .twice
@@ -51,7 +58,7 @@ mul-m-4 : tie.Need-mul-m-4 Inv-loop μ-loop
 mul-m-4 c = search needs
 
 shared-slice-read-m-2 : tie.Need-shared-slice-read-m-2 Inv-loop μ-loop
-shared-slice-read-m-2 c = search needs
+shared-slice-read-m-2 c = there (c .before .before) .1
 
 mul-m-5 : tie.Need-mul-m-5 Inv-loop μ-loop
 mul-m-5 c = fits (c .before) .on

@@ -1,15 +1,13 @@
 -- `note_twelfth` meets its contract: of the twelfth's carriers k were gone through. Assumes nothing.
 use Prim.Native.Nat.{_+_, _-_, _*_, _≤_}
-use mathlib.Core.Path.{_≡_, refl, sym, ap, subst, _∙_}
+use mathlib.Core.Path.{_≡_, refl, sym, subst, _∙_}
 use mathlib.Core.Logic.{⊎-elim}
 use native.Mathlib.Omega.{arith}
-use native.Mathlib.Numerals.{add-one}
 use borrow.Author.Needs.{needs}
 use lib.ListN.{getD}
 use Rattle.places.specs.Walk.{lastCarrier, framesBefore}
 use Rattle.bond.specs.Listing.{Noted}
-use Rattle.places.proofs.Frames.{frames-next}
-use Rattle.bond.proofs.ByRound.{Small, small, here-room, here-more, here-less, noted-behind}
+use Rattle.bond.proofs.ByRound.{Small, small, carrier-in, carrier-next, carrier-less, here-first, here-room, here-more, here-less, noted-behind}
 use Rattle.bond.proofs.rounds.note_twelfth.Statement.{statement}
 use Rattle.bond.proofs.rounds.note_twelfth.Tie as tie
 
@@ -41,7 +39,7 @@ loop-holds c =
     (subst (Noted (a .carriers) (a .frames .now) (a .notes .now) (a .noted)) (omega arith) (c .pre .1 .1), refl, omega arith)
 
 shared-slice-read-f : tie.Need-shared-slice-read-f Inv-loop μ-loop
-shared-slice-read-f c = search needs
+shared-slice-read-f c = let p = start c .pre in carrier-in (p .0) (start c .args .twelfth) (turn c .loop .k) (p .1 .0) (c .before .loop-test .taken)
 
 cast-f : tie.Need-cast-f Inv-loop μ-loop
 cast-f c = fits c .wide
@@ -62,7 +60,7 @@ mul-notes-3 : tie.Need-mul-notes-3 Inv-loop μ-loop
 mul-notes-3 c = search needs
 
 slice-write-notes : tie.Need-slice-write-notes Inv-loop μ-loop
-slice-write-notes c = search needs
+slice-write-notes c = let o = c .before in let p = start o .pre in here-first (p .0) (start o .args .twelfth) (turn o .loop .k) (p .1 .0) (o .before .loop-test .taken) (turn o .loop .inv .0)
 
 mul-notes-4 : tie.Need-mul-notes-4 Inv-loop μ-loop
 mul-notes-4 c = fits (c .before) .twice
@@ -90,7 +88,7 @@ add-k : tie.Need-add-k Inv-loop μ-loop
 add-k c = fits (c .before) .on
 
 loop-less : tie.Need-loop-less Inv-loop μ-loop
-loop-less c = search needs
+loop-less c = let o = c .before in let p = start o .pre in carrier-less (p .0) (start o .args .twelfth) (turn o .loop .k) (p .1 .0) (o .before .loop-test .taken)
 
 loop-again : tie.Need-loop-again Inv-loop μ-loop
 loop-again c =
@@ -99,14 +97,14 @@ loop-again c =
     let i = turn o .loop .inv in
     let k = turn o .loop .k in
     let t = start o .args .twelfth in
-    let more = ap (framesBefore (start o .args .frames .now)) (add-one k) ∙ frames-next (start o .args .frames .now) k in
+    let next = carrier-next (p .0) t k (p .1 .0) (o .before .loop-test .taken) (i .1) in
     ⊎-elim
-    (λ w. (rw (w .1, w .2, i .1) (here-more (p .0) t k (p .1 .0) (o .before .loop-test .taken) (i .0) (w .0 .taken)), omega arith, omega arith))
-    (λ w. (rw (w .1, w .2) (here-less (p .0) t k (p .1 .0) (o .before .loop-test .taken) (i .0) (w .0 .left)), omega arith, omega arith))
+    (λ w. (rw (w .1, w .2, i .1) (here-more (p .0) t k (p .1 .0) (o .before .loop-test .taken) (i .0) (w .0 .taken)), next .0, next .1))
+    (λ w. (rw (w .1, w .2) (here-less (p .0) t k (p .1 .0) (o .before .loop-test .taken) (i .0) (w .0 .left)), next .0, next .1))
     (c .if1 .came)
 
 same-length : tie.Need-same-length Inv-loop μ-loop
-same-length c = search needs
+same-length c = let l = c .before in l .loop .inv .0 .long ∙ sym (l .before .pre .1 .1 .long)
 
 returns : tie.Need-returns Inv-loop μ-loop
 returns c =
