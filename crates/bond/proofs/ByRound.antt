@@ -181,6 +181,8 @@ pub record Small (t k f n frame : ℕ) : Type 0 where
   pub part : Fits w64 (t * f)
   pub base : Fits w64 (framePackets * frame)
   pub packet : Fits w64 (framePackets * frame + t * f / roundTwelfths)
+  pub noted : Fits w16 (framePackets * frame + t * f / roundTwelfths)
+  pub further : Fits w16 f
   pub twice : Fits w64 (2 * n)
   pub beside : Fits w64 (2 * n + 1)
   pub more : Fits w64 (n + 1)
@@ -236,6 +238,8 @@ module _ {carriers : ℕ} {frames : List ℕ} (a : Walkable carriers frames) (t 
           part = omega arith;
           base = omega arith;
           packet = omega arith;
+          noted = omega arith;
+          further = omega arith;
           twice = omega arith;
           beside = omega arith;
           more = omega arith;
@@ -306,6 +310,7 @@ listing-all {whole} {list} {rest} {total} {n} c e =
 pub record Reckoned (q e x y : ℕ) : Type 0 where
   pub twice : Fits w64 (2 * e)
   pub beside : Fits w64 (2 * e + 1)
+  pub first : Fits w64 x
   pub on : Fits w64 (q * y)
   pub packet : Fits w64 (x + q * y)
   pub listed : Fits w16 (x + q * y)
@@ -317,7 +322,7 @@ entry-in notes e n h l long = (omega arith, omega arith)
 
 pub reckoned : (q e x y : ℕ) → e < roundSteps → x + q * y < framePackets * mostFrames → Reckoned q e x y
 reckoned q e x y h l =
-    record { twice = omega arith; beside = omega arith; on = omega arith; packet = omega arith; listed = omega arith; next = omega arith }
+    record { twice = omega arith; beside = omega arith; first = omega arith; on = omega arith; packet = omega arith; listed = omega arith; next = omega arith }
 
 module _ (slots notes list₀ : List ℕ) (q noted listed : ℕ) where
   abbrev marked : ℕ → List ℕ

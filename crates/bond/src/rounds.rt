@@ -25,7 +25,7 @@ pub(crate) const LISTED: usize = FRAME_PACKETS * FRAMES + 1;
 // Notes the places at a twelfth of the first round behind those noted before it, each with how far on it is in each round; answers how
 // many are noted.
 fn note_twelfth(
-    notes: &mut [usize],
+    notes: &mut [u16],
     noted: usize,
     twelfth: usize,
     carriers: usize,
@@ -43,8 +43,8 @@ fn note_twelfth(
         let f = frames[k] as usize;
         let part = twelfth * f;
         if part % ROUND_TWELFTHS == 0 {
-            notes[2 * n] = FRAME_PACKETS * frame + part / ROUND_TWELFTHS;
-            notes[2 * n + 1] = f;
+            notes[2 * n] = (FRAME_PACKETS * frame + part / ROUND_TWELFTHS) as u16;
+            notes[2 * n + 1] = f as u16;
             n += 1;
         }
         frame += f;
@@ -54,7 +54,7 @@ fn note_twelfth(
 }
 
 // Notes the places of the first round.
-fn note_round(notes: &mut [usize], carriers: usize, frames: &[u8]) -> usize
+fn note_round(notes: &mut [u16], carriers: usize, frames: &[u8]) -> usize
     requires { ⌜ Walkable carriers (now frames) ⌝ }
     requires { ⌜ length (now notes) ≡ 2 * roundSteps ⌝ }
     ensures { λ r. ⌜ Noted carriers (now (frames .entry)) (now (notes .exit)) r roundSteps ⌝ }
@@ -83,7 +83,7 @@ fn list_round(
     listed: usize,
     round: usize,
     noted: usize,
-    notes: &[usize],
+    notes: &[u16],
     slots: &[u64],
 ) -> usize
     requires { ⌜ (noted ≤ roundSteps) × (length (now notes) ≡ 2 * roundSteps) × (length (now slots) ≡ mostFrames) ⌝ }
@@ -95,7 +95,7 @@ fn list_round(
     let mut n = listed;
     let mut e = 0;
     while e < noted {
-        let m = notes[2 * e] + round * notes[2 * e + 1];
+        let m = notes[2 * e] as usize + round * notes[2 * e + 1] as usize;
         list[n] = m as u16;
         if is_marked(slots, m) {
             n += 1;
@@ -112,7 +112,7 @@ pub(crate) fn list_places(list: &mut [u16], carriers: usize, frames: &[u8], slot
     ensures { λ r. ⌜ take r (now (list .exit)) ≡ placesFrom carriers (now (frames .entry)) (now (slots .entry)) 0 ⌝ }
     ensures { λ r. ⌜ r ≡ length (placesFrom carriers (now (frames .entry)) (now (slots .entry)) 0) ⌝ }
 {
-    let mut notes = [0usize; NOTES];
+    let mut notes = [0u16; NOTES];
     let noted = note_round(&mut notes, carriers, frames);
     let mut listed = 0;
     let mut round = 0;

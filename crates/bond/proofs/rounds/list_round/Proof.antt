@@ -48,6 +48,9 @@ mul-m-2 c = search needs
 shared-slice-read-m : tie.Need-shared-slice-read-m Inv-loop μ-loop
 shared-slice-read-m c = there (c .before) .0
 
+cast-m : tie.Need-cast-m Inv-loop μ-loop
+cast-m c = fits c .first
+
 mul-m-3 : tie.Need-mul-m-3 Inv-loop μ-loop
 mul-m-3 c = fits c .twice
 
@@ -59,6 +62,9 @@ mul-m-4 c = search needs
 
 shared-slice-read-m-2 : tie.Need-shared-slice-read-m-2 Inv-loop μ-loop
 shared-slice-read-m-2 c = there (c .before .before) .1
+
+cast-m-2 : tie.Need-cast-m-2 Inv-loop μ-loop
+cast-m-2 c = omega (arith, c .shared-slice-known4 .given (2 * turn (c .before) .loop .e + 1))
 
 mul-m-5 : tie.Need-mul-m-5 Inv-loop μ-loop
 mul-m-5 c = fits (c .before) .on
@@ -114,10 +120,12 @@ list-round-spec =
     mul-m
     mul-m-2
     shared-slice-read-m
+    cast-m
     mul-m-3
     add-m
     mul-m-4
     shared-slice-read-m-2
+    cast-m-2
     mul-m-5
     add-m-2
     cast-list

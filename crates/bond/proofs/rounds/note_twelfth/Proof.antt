@@ -53,6 +53,9 @@ mul-notes c = fits (c .before) .base
 add-notes : tie.Need-add-notes Inv-loop μ-loop
 add-notes c = fits (c .before) .packet
 
+cast-notes : tie.Need-cast-notes Inv-loop μ-loop
+cast-notes c = fits (c .before) .noted
+
 mul-notes-2 : tie.Need-mul-notes-2 Inv-loop μ-loop
 mul-notes-2 c = fits (c .before) .twice
 
@@ -61,6 +64,9 @@ mul-notes-3 c = search needs
 
 slice-write-notes : tie.Need-slice-write-notes Inv-loop μ-loop
 slice-write-notes c = let o = c .before in let p = start o .pre in here-first (p .0) (start o .args .twelfth) (turn o .loop .k) (p .1 .0) (o .before .loop-test .taken) (turn o .loop .inv .0)
+
+cast-notes-2 : tie.Need-cast-notes-2 Inv-loop μ-loop
+cast-notes-2 c = fits (c .before) .further
 
 mul-notes-4 : tie.Need-mul-notes-4 Inv-loop μ-loop
 mul-notes-4 c = fits (c .before) .twice
@@ -127,9 +133,11 @@ note-twelfth-spec =
     mul-part
     mul-notes
     add-notes
+    cast-notes
     mul-notes-2
     mul-notes-3
     slice-write-notes
+    cast-notes-2
     mul-notes-4
     add-notes-2
     mul-notes-5
