@@ -26,7 +26,8 @@ use Rattle.group.specs.Standing.{shownBy, before, isEnd, standingChecks, callCh
 use Rattle.bond.specs.Bonding.{someUnfitIn, spreadChecks, gatherChecks, spreadOver, gathered, spreadRefusal, spreadOf, spreadGroup, gatherRefusal, gatherOf, gatherBuffer}
 use Rattle.group.specs.Plan.{planAfter}
 use Rattle.bond.specs.Demands.{WellFormed, Fitting, ComesBack, InThisOrder, NothingElse, OrderHolds, RefusedByTable}
-use Rattle.bond.proofs.Placed.{Apart, apart, Within, spread-other, length-spread, spread-gathered, spread-slot}
+use Rattle.bond.specs.Listing.{Within}
+use Rattle.bond.proofs.Placed.{Apart, apart, spread-other, length-spread, spread-gathered, spread-slot}
 use Rattle.places.proofs.Sorting.{among-sorted, sorted-among, among-picked, picked-among}
 use Rattle.places.proofs.Sweep.{sorted-rising}
 use Rattle.group.proofs.Standing.{whole}
@@ -35,19 +36,9 @@ use Rattle.group.proofs.Planned.{no-header}
 use Rattle.group.proofs.Passing.{Called, called}
 use Rattle.bond.proofs.Passing.{spread-none, gather-none}
 
--- ---- the order of a well-formed group
+-- ---- the order of a group
 
-module _ (b : Bond) (group : List ℕ) (w : WellFormed b group) where
-  abbrev call : Called b (length group)
-  call = called b (length group) (w .called)
-
-  rising : Rising (earlier group) (order b group)
-  unfolding order
-  rising =
-      sorted-rising (b .carriers) (framesIn group) (planAfter b group (framesIn group) .frames) (placeIn group) (bonded b group)
-      (grouped b group (call .few) (call .one) (whole b group (w .headers)))
-      (no-header b group)
-
+module _ (b : Bond) (group : List ℕ) where
   member : (m : ℕ) → Among m (order b group) → (m < packetsIn group) × (bonded b group m ≡ true)
   unfolding order
   member m a =
@@ -61,14 +52,30 @@ module _ (b : Bond) (group : List ℕ) (w : WellFormed b group) where
   bonded-member m l t =
       sorted-among (earlier group) m (picked (bonded b group) 0 (packetsIn group)) (picked-among (bonded b group) m 0 (packetsIn group) (omega arith) (omega arith) t)
 
+  pub order-within : length group % frameLength ≡ 0 → Within (order b group) group
+  order-within f m a = let l = member m a .0 in omega arith
+
+-- and of a well-formed one
+
+module _ (b : Bond) (group : List ℕ) (w : WellFormed b group) where
+  abbrev call : Called b (length group)
+  call = called b (length group) (w .called)
+
+  rising : Rising (earlier group) (order b group)
+  unfolding order
+  rising =
+      sorted-rising (b .carriers) (framesIn group) (planAfter b group (framesIn group) .frames) (placeIn group) (bonded b group)
+      (grouped b group (call .few) (call .one) (whole b group (w .headers)))
+      (no-header b group)
+
   in-group : Within (order b group) group
-  in-group m a = let l = member m a .0 in let f = call .frames in omega arith
+  in-group = order-within b group (call .frames)
 
   order-apart : Apart (order b group)
   order-apart = apart group (order b group) rising
 
 pub order-holds : OrderHolds
-order-holds b group w = (rising b group w, member b group w, bonded-member b group w)
+order-holds b group w = (rising b group w, member b group, bonded-member b group)
 
 -- ---- a group whose headers stay
 
@@ -146,7 +153,7 @@ module _ (b : Bond) (group stream : List ℕ) (w : WellFormed b group) (l : leng
 
   stays : (m : ℕ) → bonded b group m ≡ false → slot m spread ≡ slot m group
   stays m f =
-      spread-other (order b group) stream group (in-group b group w) l m (λ a. true≢false (sym (member b group w m a .1) ∙ f))
+      spread-other (order b group) stream group (in-group b group w) l m (λ a. true≢false (sym (member b group m a .1) ∙ f))
 
   same-headers : SameHeaders group spread
   same-headers = record { long = spread-long; header = λ j. stays (framePackets * j) (no-header b group j) }

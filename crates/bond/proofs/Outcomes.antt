@@ -1,11 +1,13 @@
 -- What a spread and a gather answer and leave, by the check that they stopped at. Assumes nothing.
-use Prim.Native.Nat.{ℕ, _*_, _%_, _≤_}
+use Prim.Native.Nat.{ℕ, _*_, _%_, _≤_, _<_}
 use mathlib.Core.Path.{_≡_, refl, sym, ap, subst, _∙_}
 use mathlib.Core.Bool.{Bool, false, cond, not}
-use mathlib.Core.List.{List, [], _∷_, map}
+use mathlib.Core.Logic.{_⊎_, inl, inr}
+use mathlib.Core.List.{List, [], _∷_}
+use native.Mathlib.Omega.{arith}
 use borrow.Author.Tests.{ltb-false, eq-eqb, ne-eqb}
 use lib.Dec.{ltb, eqb}
-use lib.ListN.{length, length-map}
+use lib.ListN.{length, getD}
 use Rattle.slices.specs.Slices.{copied}
 use Rattle.refusal_table.specs.Refusal.{Check, NoneHolds, firstOf}
 use Rattle.refusal_table.proofs.Refusals.{answers, passed, onward, at-once, none-first, none-at, none-before, none-behind}
@@ -16,14 +18,17 @@ use Rattle.group.specs.declared.headers.Planned.{Planned}
 use Rattle.group.specs.Group.{framesIn, order}
 use Rattle.group.specs.Standing.{callChecks, groupChecks, planChecks, someCarries}
 use Rattle.bond.specs.Bonding.{someUnfitIn, spreadChecks, gatherChecks, spreadOver, gathered, spreadRefusal, spreadOf, spreadGroup, gatherRefusal, gatherOf, gatherBuffer}
-use Rattle.places.specs.Walk.{mostFrames, packetAt, stops, Walkable, InBuffer}
+use Rattle.places.specs.Order.{framePackets}
+use Rattle.places.specs.Walk.{mostFrames, framesBefore, isMarked, Walkable}
+use Rattle.bond.specs.Listing.{Within, placesFrom, Listable}
 use Rattle.group.specs.Plan.{planAfter, plannedOf}
 use Rattle.group.proofs.Passing.{Called, called, numbered-plan}
 use Rattle.bond.proofs.Passing.{spread-none, gather-none}
 use Rattle.group.proofs.Standing.{Whole, whole}
-use Rattle.group.proofs.Grouping.{walkable}
-use Rattle.group.proofs.Planned.{carried, packets, slots-long, walked, in-buffer}
-use Rattle.bond.proofs.Demands.{exact}
+use Rattle.group.proofs.Grouping.{walkable, grouped}
+use Rattle.group.proofs.Planned.{carried, packets, packets-few, slots-long, marked-bonded, walked, no-header}
+use Rattle.bond.proofs.Demands.{exact, order-within}
+use Rattle.places.proofs.Frames.{frames-few, frames-within}
 
 -- ---- what the headers leave to know
 
@@ -68,29 +73,58 @@ module _ (b : Bond) (group : List ℕ) (p : Planned) (e : p ≡ plannedOf b grou
           packets-are = ap (λ (x : Plan). x .packets) plan-known ∙ packets b group (c .few) (c .one) w;
         }
 
--- ---- what the walk by a known plan needs, and finds
+-- a carrier has some frames
+framed-some : (f : ℕ) → (f ≡ 3) ⊎ (f ≡ 4) → 0 < f
+framed-some f (inl e) = omega arith
+framed-some f (inr e) = omega arith
+
+-- ---- what the list by a known plan needs, and is
 
 module _ (b : Bond) (group : List ℕ) (plan : Plan) (k : Known b group plan) where
-  abbrev Walks : Plan → Type 0
-  Walks p = Walkable (b .carriers) (p .frames) × (length (p .slots) ≡ mostFrames)
+  abbrev n : ℕ
+  n = framesIn group
 
-  pub walks : Walks plan
-  walks = subst Walks (sym (k .plan-is)) (walkable b group (k .call .few) (k .call .one) (k .stand), slots-long b group (k .call .few) (k .call .one) (k .stand))
+  abbrev made : Plan
+  made = planAfter b group n
 
-  pub walked-by : map (packetAt (plan .frames)) (stops (b .carriers) (plan .frames) (plan .slots) 0) ≡ order b group
-  walked-by =
-      ap (λ (p : Plan). map (packetAt (p .frames)) (stops (b .carriers) (p .frames) (p .slots) 0)) (k .plan-is)
-      ∙ walked b group (k .call .few) (k .call .one) (k .stand)
+  walks : Walkable (b .carriers) (made .frames)
+  walks = walkable b group (k .call .few) (k .call .one) (k .stand)
 
-  pub stops-counted : plan .packets ≡ length (stops (b .carriers) (plan .frames) (plan .slots) 0)
-  stops-counted =
-      k .packets-are ∙ sym (ap length walked-by)
-      ∙ length-map (stops (b .carriers) (plan .frames) (plan .slots) 0) (packetAt (plan .frames))
+  pub listed-by : placesFrom (b .carriers) (plan .frames) (plan .slots) 0 ≡ order b group
+  listed-by =
+      ap (λ (p : Plan). placesFrom (b .carriers) (p .frames) (p .slots) 0) (k .plan-is) ∙ walked b group (k .call .few) (k .call .one) (k .stand)
 
-  pub stops-in : InBuffer (b .carriers) (plan .frames) (plan .slots) (length group)
-  stops-in =
-      subst (λ (p : Plan). InBuffer (b .carriers) (p .frames) (p .slots) (length group)) (sym (k .plan-is))
-      (in-buffer b group (k .call .few) (k .call .one) (k .stand) (k .call .frames))
+  -- no header is marked
+  headers-bare : (i : ℕ) → i < b .carriers → isMarked (made .slots) (framePackets * framesBefore (made .frames) i) ≡ false
+  headers-bare i l =
+      let all = grouped b group (k .call .few) (k .call .one) (k .stand) in
+      let a = all .all in
+      let w = frames-within (made .frames) i (b .carriers) l in
+      let some = framed-some (getD (made .frames) i 0) (all .framed i l) in
+      marked-bonded b group (k .call .few) (k .call .one) (k .stand) (framePackets * framesBefore (made .frames) i) (omega arith)
+      ∙ no-header b group (framesBefore (made .frames) i)
+
+  -- there are no more packets than frames can hold
+  order-few : length (order b group) ≤ framePackets * mostFrames
+  order-few =
+      let a = grouped b group (k .call .few) (k .call .one) (k .stand) .all in
+      let f = frames-few (made .frames) (b .carriers) (walks .short) in
+      let c = k .call .few in
+      let p = packets-few b group n in
+      omega (arith, packets b group (k .call .few) (k .call .one) (k .stand))
+
+  pub listable : Listable (b .carriers) (plan .frames) (plan .slots)
+  listable =
+      subst (λ (p : Plan). Listable (b .carriers) (p .frames) (p .slots)) (sym (k .plan-is))
+      (record {
+        walk = walks;
+        long = slots-long b group (k .call .few) (k .call .one) (k .stand);
+        headers = headers-bare;
+        few = rw (walked b group (k .call .few) (k .call .one) (k .stand)) order-few;
+      })
+
+  pub listed-within : Within (placesFrom (b .carriers) (plan .frames) (plan .slots) 0) group
+  listed-within = subst (λ (ms : List ℕ). Within ms group) (sym listed-by) (order-within b group (k .call .frames))
 
 -- ---- spread
 
@@ -132,17 +166,17 @@ module _ (b : Bond) (group stream : List ℕ) where
 
   -- what the code that writes asks
   module _ (plan : Plan) (k : Known b group plan) (z : spreadRefusal b group stream ≡ 0) where
-    exact-by : length stream ≡ packetLength * length (stops (b .carriers) (plan .frames) (plan .slots) 0)
+    pub to-spread : Listable (b .carriers) (plan .frames) (plan .slots)
+        × ((length stream ≡ packetLength * length (placesFrom (b .carriers) (plan .frames) (plan .slots) 0))
+        × Within (placesFrom (b .carriers) (plan .frames) (plan .slots) 0) group)
     unfolding spreadRefusal
-    exact-by =
-        exact b group stream (spread-none b group stream z)
-        ∙ ap (λ (n : ℕ). packetLength * n) (sym (k .packets-are) ∙ stops-counted b group plan k)
-
-    pub to-spread : Walkable (b .carriers) (plan .frames)
-        × ((length (plan .slots) ≡ mostFrames)
-        × ((length stream ≡ packetLength * length (stops (b .carriers) (plan .frames) (plan .slots) 0))
-        × InBuffer (b .carriers) (plan .frames) (plan .slots) (length group)))
-    to-spread = (walks b group plan k .0, (walks b group plan k .1, (exact-by, stops-in b group plan k)))
+    to-spread = (
+      listable b group plan k,
+      (
+        exact b group stream (spread-none b group stream z) ∙ ap (λ (ms : List ℕ). packetLength * length ms) (sym (listed-by b group plan k)),
+        listed-within b group plan k,
+      ),
+    )
 
 -- ---- gather
 
@@ -176,16 +210,13 @@ module _ (b : Bond) (group out : List ℕ) where
 
   -- what the code that copies asks
   module _ (plan : Plan) (k : Known b group plan) (z : gatherRefusal b group (length out) ≡ 0) where
-    room : packetLength * plan .packets ≤ length out
+    room : packetLength * length (order b group) ≤ length out
     unfolding gatherRefusal gatherChecks
     room =
-        rw (k .packets-are)
-        (ltb-false (length out) (packetLength * length (order b group))
-        (none-at (none-behind (planChecks b group) (gather-none b group (length out) z)) 1))
+        ltb-false (length out) (packetLength * length (order b group))
+        (none-at (none-behind (planChecks b group) (gather-none b group (length out) z)) 1)
 
-    pub to-gather : Walkable (b .carriers) (plan .frames)
-        × ((length (plan .slots) ≡ mostFrames)
-        × ((plan .packets ≡ length (stops (b .carriers) (plan .frames) (plan .slots) 0))
-        × ((packetLength * plan .packets ≤ length out)
-        × InBuffer (b .carriers) (plan .frames) (plan .slots) (length group))))
-    to-gather = (walks b group plan k .0, (walks b group plan k .1, (stops-counted b group plan k, (room, stops-in b group plan k))))
+    pub to-gather : Listable (b .carriers) (plan .frames) (plan .slots)
+        × ((packetLength * length (placesFrom (b .carriers) (plan .frames) (plan .slots) 0) ≤ length out)
+        × Within (placesFrom (b .carriers) (plan .frames) (plan .slots) 0) group)
+    to-gather = (listable b group plan k, (rw (listed-by b group plan k) room, listed-within b group plan k))

@@ -11,6 +11,7 @@ use Rattle.packet.specs.Packets.{packetLength, slot}
 use Rattle.places.specs.Order.{Rising, none, more}
 use Rattle.group.specs.Group.{placeIn, earlier}
 use Rattle.bond.specs.Bonding.{spreadOver, gathered}
+use Rattle.bond.specs.Listing.{Within}
 use Rattle.places.proofs.Order.{strict-total}
 
 -- a packet that lies in the front of a buffer is one of the front
@@ -27,7 +28,7 @@ module _ (n : ℕ) (p g : List ℕ) (l : length p ≡ packetLength) (h : packetL
   front-long : length (take at g) ≡ at
   front-long = length-take-le at g (omega arith)
 
-  length-over : length (over at p g) ≡ length g
+  pub length-over : length (over (packetLength * n) p g) ≡ length g
   unfolding over
   length-over =
       length-append (take at g) (p ++ drop (at + length p) g)
@@ -84,10 +85,6 @@ pub data Apart : List ℕ → Type 0 where
 pub apart : (group ms : List ℕ) → Rising (earlier group) ms → Apart ms
 apart group [] none = empty
 apart group (m ∷ ms) (more h r) = beside (λ a. strict-total .irreflexive (placeIn group m) (h m a)) (apart group ms r)
-
--- all of them in the buffer
-abbrev pub Within : List ℕ → List ℕ → Type 0
-Within ms g = (m : ℕ) → Among m ms → packetLength * m + packetLength ≤ length g
 
 module _ (m : ℕ) (ms stream g : List ℕ) (w : Within (m ∷ ms) g) (l : length stream ≡ packetLength * length (m ∷ ms)) where
   abbrev one : List ℕ

@@ -1,4 +1,4 @@
 -- One stream spread over the slots of bonded carriers, and gathered again.
-pub mod Walking
+pub mod Listing
 pub mod Bonding
 pub mod Demands

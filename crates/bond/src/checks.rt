@@ -1,5 +1,4 @@
 // What each call asks of what it is lent, in the table's order, but for the headers.
-use group::headers::Plan;
 use packet::PACKET_BYTES;
 ghost use mathlib.Core.Path.{_≡_};
 ghost use mathlib.Core.Bool.{not};
@@ -28,14 +27,14 @@ fn has_unfit(stream: &[u8], pid: u16) -> bool
 }
 
 // 13, 15, 12: the stream by the plan.
-pub(crate) fn spread_refusal(plan: Plan, stream: &[u8], pid: u16) -> u8
+pub(crate) fn spread_refusal(is_carried: bool, packets: usize, stream: &[u8], pid: u16) -> u8
     requires { ⌜ length (now stream) % packetLength ≡ 0 ⌝ }
-    ensures { λ r. ⌜ r ≡ firstOf ((13, not (plan .«is_carried»)) ∷ (15, not (eqb (length (now (stream .entry))) (packetLength * plan .packets))) ∷ (12, someUnfitIn pid (now (stream .entry))) ∷ []) ⌝ }
+    ensures { λ r. ⌜ r ≡ firstOf ((13, not («is_carried»)) ∷ (15, not (eqb (length (now (stream .entry))) (packetLength * packets))) ∷ (12, someUnfitIn pid (now (stream .entry))) ∷ []) ⌝ }
 {
-    if !plan.is_carried {
+    if !is_carried {
         return 13;
     }
-    if stream.len() / PACKET_BYTES != plan.packets {
+    if stream.len() / PACKET_BYTES != packets {
         return 15;
     }
     if has_unfit(stream, pid) {
@@ -45,13 +44,13 @@ pub(crate) fn spread_refusal(plan: Plan, stream: &[u8], pid: u16) -> u8
 }
 
 // 13, 15: the lent buffer by the plan.
-pub(crate) fn gather_refusal(plan: Plan, out: usize) -> u8
-    ensures { λ r. ⌜ r ≡ firstOf ((13, not (plan .«is_carried»)) ∷ (15, ltb out (packetLength * plan .packets)) ∷ []) ⌝ }
+pub(crate) fn gather_refusal(is_carried: bool, packets: usize, out: usize) -> u8
+    ensures { λ r. ⌜ r ≡ firstOf ((13, not («is_carried»)) ∷ (15, ltb out (packetLength * packets)) ∷ []) ⌝ }
 {
-    if !plan.is_carried {
+    if !is_carried {
         return 13;
     }
-    if out / PACKET_BYTES < plan.packets {
+    if out / PACKET_BYTES < packets {
         return 15;
     }
     0

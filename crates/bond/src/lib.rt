@@ -1,7 +1,7 @@
 // One stream over bonded carriers: spread over the slots of their super frames, and gathered again in its first order.
 mod checks;
 mod moving;
-mod walk;
+mod rounds;
 
 use group::Bond;
 use packet::PACKET_BYTES;
@@ -34,7 +34,7 @@ pub fn spread(group: &mut [u8], stream: &[u8], b: Bond) -> Moved
         };
     }
     let plan = planned.plan;
-    let last = checks::spread_refusal(plan, stream, b.pid);
+    let last = checks::spread_refusal(plan.is_carried, plan.packets, stream, b.pid);
     if last != 0 {
         return Moved {
             refusal: last,
@@ -63,7 +63,7 @@ pub fn gather(group: &[u8], out: &mut [u8], b: Bond) -> Moved
         };
     }
     let plan = planned.plan;
-    let last = checks::gather_refusal(plan, out.len());
+    let last = checks::gather_refusal(plan.is_carried, plan.packets, out.len());
     if last != 0 {
         return Moved {
             refusal: last,
@@ -72,14 +72,7 @@ pub fn gather(group: &[u8], out: &mut [u8], b: Bond) -> Moved
     }
     let frames = plan.frames;
     let slots = plan.slots;
-    moving::gather_over(
-        out,
-        group,
-        plan.packets,
-        b.carriers as usize,
-        &frames,
-        &slots,
-    );
+    moving::gather_over(out, group, b.carriers as usize, &frames, &slots);
     Moved {
         refusal: 0,
         packets: plan.packets,

@@ -279,9 +279,6 @@ module _ (b : Bond) (group : List ℕ) (few : b .carriers ≤ lastCarrier) where
     all-gone : Gone group (framesAfter n) (before group n) n
     all-gone = gone n (w .each)
 
-    pub walkable : Walkable (b .carriers) (framesAfter n)
-    walkable = record { some = omega (arith, some); few = few; for-each = all-gone .long; short = all-gone .short }
-
     ended-carrier : before group n .«carrier_sequence» ≡ b .carriers
     unfolding isEnd
     ended-carrier = eqb-true (before group n .«carrier_sequence») (b .carriers) (both (isLast (before group n)) _ (w .ended) .1)
@@ -289,6 +286,12 @@ module _ (b : Bond) (group : List ℕ) (few : b .carriers ≤ lastCarrier) where
     ended-frames : before group n .«frame_position» .0 ≡ before group n .«number_of_frames»
     unfolding isEnd
     ended-frames = last-is (before group n) (both (isLast (before group n)) _ (w .ended) .0)
+
+    framed-each : (k : ℕ) → k < b .carriers → (getD (framesAfter n) k 0 ≡ 3) ⊎ (getD (framesAfter n) k 0 ≡ 4)
+    framed-each k l = all-gone .framed k (rw ended-carrier l)
+
+    pub walkable : Walkable (b .carriers) (framesAfter n)
+    walkable = record { few = few; for-each = all-gone .long; short = all-gone .short; framed = framed-each }
 
     -- each header says where its frame stands
     pub says-each : (k q : ℕ) → k < b .carriers → q < getD (framesAfter n) k 0 → Says group (framesAfter n) k q
@@ -317,7 +320,7 @@ module _ (b : Bond) (group : List ℕ) (few : b .carriers ≤ lastCarrier) where
     grouped =
         record {
           few = few;
-          framed = λ k l. all-gone .framed k (rw ended-carrier l);
+          framed = framed-each;
           all = ap (framesBefore (framesAfter n)) (sym ended-carrier) ∙ full group (framesAfter n) (before group n) n all-gone ended-frames;
           placed = placed;
         }

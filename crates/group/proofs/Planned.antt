@@ -6,16 +6,14 @@ use mathlib.Core.Bool.{Bool, true, false, cond, _&&_, _||_, true≢false}
 use mathlib.Core.List.{List, [], _∷_, _++_, map}
 use native.Mathlib.Omega.{arith}
 use native.Mathlib.Decide.{decLt, ℕ-discrete}
-use borrow.Author.Tests.{ltb-true, le-ltb}
+use borrow.Author.Tests.{le-ltb}
 use lib.Dec.{ltb, eqb}
 use lib.ListN.{length, getD, set, length-set, length-replicate, length-append}
 use lib.Seq.{getD-set-same, getD-set-other}
 use Rattle.slices.specs.Slices.{anyBelow}
-use Rattle.slices.proofs.Any.{both}
-use Rattle.packet.specs.Packets.{frameLength}
 use Rattle.group.specs.declared.Bond.{Bond}
 use Rattle.places.specs.Order.{picked, framePackets}
-use Rattle.places.specs.Walk.{lastCarrier, mostFrames, twelfths, placeAt, packetAt, isStop, isMarked, stops, InBuffer}
+use Rattle.places.specs.Walk.{lastCarrier, mostFrames, twelfths, placeAt, packetAt, isStop, isMarked, stops}
 use Rattle.group.specs.Group.{framesIn, packetsIn, said, carries, bondedSlot, bonded, placeIn, earlier, order}
 use Rattle.group.specs.Plan.{marks, nothingSeen, seen, planAfter}
 use Rattle.group.proofs.Marks.{marks-bit, marks-ones}
@@ -161,7 +159,7 @@ module _ (b : Bond) (group : List ℕ) where
       slots-long = marked n (w .each) .long
 
       -- marked and bonded are the same
-      marked-bonded : (m : ℕ) → m < framePackets * n → isMarked slots m ≡ bonded b group m
+      pub marked-bonded : (m : ℕ) → m < framePackets * n → isMarked slots m ≡ bonded b group m
       unfolding isMarked bonded marks
       marked-bonded m l =
           rw (marked n (w .each) .each (m / framePackets) (omega arith))
@@ -195,12 +193,6 @@ module _ (b : Bond) (group : List ℕ) where
           ap (map (packetAt frames))
           (picked-same (isStop (b .carriers) frames (isMarked slots)) (isStop (b .carriers) frames (bonded b group)) 0 (lastCarrier * twelfths) (λ u l m. stop-same u (omega arith)))
           ∙ swept (b .carriers) n frames (placeIn group) (bonded b group) all no-header
-
-      pub in-buffer : length group % frameLength ≡ 0 → InBuffer (b .carriers) frames slots (length group)
-      unfolding isStop
-      in-buffer whole u l e =
-          let m = in-group u l (ltb-true (u % lastCarrier) (b .carriers) (both (ltb (u % lastCarrier) (b .carriers)) _ e .0)) in
-          omega arith
 
       pub packets : planAfter b group n .packets ≡ length (order b group)
       unfolding order

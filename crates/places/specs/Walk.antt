@@ -2,12 +2,12 @@
 -- promised.
 use Prim.Native.Nat.{ℕ, zero, suc, _+_, _-_, _*_, _/_, _%_, _^_, _≤_, _<_}
 use mathlib.Core.Path.{_≡_}
-use mathlib.Core.Bool.{Bool, true, cond, _&&_}
+use mathlib.Core.Logic.{_⊎_}
+use mathlib.Core.Bool.{Bool, cond, _&&_}
 use mathlib.Core.List.{List, [], _∷_}
 use lib.Dec.{ltb, eqb}
 use lib.ListN.{length, getD}
 use Rattle.counters.specs.Counters.{lastPosition}
-use Rattle.packet.specs.Packets.{packetLength}
 use Rattle.places.specs.Order.{framePackets, picked}
 
 -- a group has up to 8 carriers
@@ -56,15 +56,9 @@ isMarked slots m = eqb (getD slots (m / framePackets) 0 / 2 ^ (m % framePackets)
 unfoldable pub stops : ℕ → List ℕ → List ℕ → ℕ → List ℕ
 stops carriers frames slots u = picked (isStop carriers frames (isMarked slots)) u (lastCarrier * twelfths - u)
 
--- what a walk goes by: up to 8 carriers with up to 4 frames each
+-- what a walk goes by: up to 8 carriers with 3 frames or 4 each
 pub record Walkable (carriers : ℕ) (frames : List ℕ) : Type 0 where
-  pub some : 0 < carriers
   pub few : carriers ≤ lastCarrier
   pub for-each : length frames ≡ lastCarrier
   pub short : (k : ℕ) → getD frames k 0 ≤ lastPosition
-
--- each packet that it stops at lies in a buffer of so many bytes
-abbrev pub InBuffer : ℕ → List ℕ → List ℕ → ℕ → Type 0
-InBuffer carriers frames slots bytes =
-    (u : ℕ) → u < lastCarrier * twelfths → isStop carriers frames (isMarked slots) u ≡ true
-    → packetLength * packetAt frames u + packetLength ≤ bytes
+  pub framed : (k : ℕ) → k < carriers → (getD frames k 0 ≡ 3) ⊎ (getD frames k 0 ≡ 4)

@@ -6,7 +6,7 @@ use borrow.Author.Needs.{needs}
 use lib.ListN.{length}
 use Rattle.slices.specs.Slices.{copied}
 use Rattle.bond.specs.Bonding.{gatherRefusal, gathered}
-use Rattle.bond.proofs.Outcomes.{Known, refusal-is, known, gather-refused, gather-left, gather-headed, gather-rest, gather-granted, gather-made, to-gather, walked-by}
+use Rattle.bond.proofs.Outcomes.{Known, refusal-is, known, gather-refused, gather-left, gather-headed, gather-rest, gather-granted, gather-made, to-gather, listed-by}
 use Rattle.bond.proofs.gather.Statement.{statement}
 use Rattle.bond.proofs.gather.Tie as tie
 
@@ -76,7 +76,7 @@ returns-3 c =
     let plan = d .before .before .read-headers .result .plan in
     let granted = rest (t .before) ∙ t .if2 .left in (
       gather-granted (s .args .b) (s .args .group .now) (s .args .out .now) (plan .packets) granted (planned d .packets-are),
-      o .gather-over .ensures ∙ ap (λ (ms : List ℕ). copied (s .args .out .now) (gathered ms (s .args .group .now))) (walked-by (s .args .b) (s .args .group .now) plan (planned d))
+      o .gather-over .ensures ∙ ap (λ (ms : List ℕ). copied (s .args .out .now) (gathered ms (s .args .group .now))) (listed-by (s .args .b) (s .args .group .now) plan (planned d))
           ∙ gather-made (s .args .b) (s .args .group .now) (s .args .out .now) granted,
     )
 

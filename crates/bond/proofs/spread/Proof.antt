@@ -5,7 +5,7 @@ use mathlib.Core.List.{List}
 use native.Mathlib.Omega.{arith}
 use borrow.Author.Needs.{needs}
 use Rattle.bond.specs.Bonding.{spreadRefusal, spreadOver}
-use Rattle.bond.proofs.Outcomes.{Known, refusal-is, known, spread-refused, spread-left, spread-uncut, spread-headed, spread-rest, spread-granted, spread-made, to-spread, walked-by}
+use Rattle.bond.proofs.Outcomes.{Known, refusal-is, known, spread-refused, spread-left, spread-uncut, spread-headed, spread-rest, spread-granted, spread-made, to-spread, listed-by}
 use Rattle.bond.proofs.spread.Statement.{statement}
 use Rattle.bond.proofs.spread.Tie as tie
 
@@ -89,7 +89,7 @@ returns-4 c =
     let plan = d .before .before .read-headers .result .plan in
     let granted = rest (t .before) ∙ t .if3 .left in (
       spread-granted (s .args .b) (s .args .group .now) (s .args .stream .now) (plan .packets) granted (planned d .packets-are),
-      o .spread-over .ensures ∙ ap (λ (ms : List ℕ). spreadOver ms (s .args .stream .now) (s .args .group .now)) (walked-by (s .args .b) (s .args .group .now) plan (planned d))
+      o .spread-over .ensures ∙ ap (λ (ms : List ℕ). spreadOver ms (s .args .stream .now) (s .args .group .now)) (listed-by (s .args .b) (s .args .group .now) plan (planned d))
           ∙ spread-made (s .args .b) (s .args .group .now) (s .args .stream .now) granted,
     )
 

@@ -16,16 +16,16 @@ returns c = sym (answers 13 _ (c .if1 .taken))
 
 returns-2 : tie.Need-returns-2
 returns-2 c =
-    let carried = c .before .before in
-    let s = carried .before .before in
-    sym (passed 13 _ (carried .if1 .left) ∙ answers 15 [] (lt-ltb (s .args .out) (packetLength * s .args .plan .packets) (omega arith)))
+    let carried = c .before in
+    let s = carried .before in
+    sym (passed 13 _ (carried .if1 .left) ∙ answers 15 [] (lt-ltb (s .args .out) (packetLength * s .args .packets) (omega arith)))
 
 returns-3 : tie.Need-returns-3
 unfolding firstOf
 returns-3 c =
-    let carried = c .before .before in
-    let s = carried .before .before in
-    let asked = packetLength * s .args .plan .packets in
+    let carried = c .before in
+    let s = carried .before in
+    let asked = packetLength * s .args .packets in
     sym (passed 13 ((15, ltb (s .args .out) asked) ∷ []) (carried .if1 .left) ∙ passed 15 [] (le-ltb (s .args .out) asked (omega arith)))
 
 pub gather-refusal-spec : {M : Type 1} → statement M

@@ -16,21 +16,21 @@ use Rattle.bond.proofs.checks.spread_refusal.Statement.{statement}
 use Rattle.bond.proofs.checks.spread_refusal.Tie as tie
 
 abbrev start₁ : tie.Else1 → tie.Start
-start₁ c = c .before .before .before
+start₁ c = c .before .before
 
 abbrev start₂ : tie.Else2 → tie.Start
-start₂ c = start₁ (c .before .before)
+start₂ c = start₁ (c .before)
 
--- the stream's length and what the plan asks for
+-- the stream's length and what is asked for
 abbrev lent : tie.Start → ℕ
 lent c = length (c .args .stream .now)
 
 abbrev asked : tie.Start → ℕ
-asked c = packetLength * c .args .plan .packets
+asked c = packetLength * c .args .packets
 
 abbrev all : tie.Start → List Check
 all c =
-    (13, not (c .args .plan .«is_carried»))
+    (13, not (c .args .is-carried))
     ∷ (15, not (eqb (lent c) (asked c)))
     ∷ (12, someUnfitIn (c .args .pid) (c .args .stream .now))
     ∷ []
@@ -41,14 +41,14 @@ past-1 c = passed 13 _ (c .if1 .left)
 past-2 : (c : tie.Else2) → Past 2 (all (start₂ c))
 past-2 c =
     let same : lent (start₂ c) ≡ asked (start₂ c) = omega arith in
-    past-1 (c .before .before) ∙ passed 15 _ (ap not (eq-eqb _ _ same))
+    past-1 (c .before) ∙ passed 15 _ (ap not (eq-eqb _ _ same))
 
 returns : tie.Need-returns
 returns c = sym (answers 13 _ (c .if1 .taken))
 
 returns-2 : tie.Need-returns-2
 returns-2 c =
-    let carried = c .before .before in
+    let carried = c .before in
     let s = start₁ carried in
     sym (past-1 carried ∙ answers 15 _ (ap not (ne-eqb (lent s) (asked s) (λ e. c .if2 .taken (omega arith)))))
 

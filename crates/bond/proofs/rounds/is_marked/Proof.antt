@@ -2,8 +2,8 @@
 use mathlib.Core.Path.{refl}
 use borrow.Author.Needs.{needs}
 use Rattle.places.specs.Walk.{isMarked}
-use Rattle.bond.proofs.walk.is_marked.Statement.{statement}
-use Rattle.bond.proofs.walk.is_marked.Tie as tie
+use Rattle.bond.proofs.rounds.is_marked.Statement.{statement}
+use Rattle.bond.proofs.rounds.is_marked.Tie as tie
 
 mul-result : tie.Need-mul-result
 mul-result c = search needs

@@ -1,0 +1,77 @@
+-- The places of a group as a list, made round by round: the means by which the code finds their order, not a part of what is promised.
+use Prim.Native.Nat.{ℕ, zero, suc, _+_, _-_, _*_, _/_, _%_, _≤_, _<_}
+use mathlib.Core.Path.{_≡_}
+use mathlib.Core.Bool.{Bool, true, false, cond, _&&_}
+use mathlib.Core.List.{List, [], _∷_, _++_, map}
+use lib.Dec.{ltb, eqb}
+use lib.ListN.{length, getD, drop}
+use Rattle.slices.specs.Slices.{Among}
+use Rattle.packet.specs.Packets.{packetLength}
+use Rattle.places.specs.Order.{framePackets, picked}
+use Rattle.places.specs.Walk.{lastCarrier, mostFrames, share, framesBefore, packetAt, isMarked, stops, Walkable}
+
+-- all of these packets lie in the group
+abbrev pub Within : List ℕ → List ℕ → Type 0
+Within ms group = (m : ℕ) → Among m ms → packetLength * m + packetLength ≤ length group
+
+-- ---- a round
+
+-- A round is twelve twelfths, the time of one packet of each frame. A carrier with F frames has F places in it, in each round the same ones
+-- and F further on than in the round before
+
+-- how many twelfths it has, and how many steps of the walk
+abbrev pub roundTwelfths : ℕ
+roundTwelfths = 12
+
+abbrev pub roundSteps : ℕ
+roundSteps = lastCarrier * roundTwelfths
+
+-- the frames of the carrier that step v looks at
+abbrev pub framesOf : List ℕ → ℕ → ℕ
+framesOf frames v = getD frames (v % lastCarrier) 0
+
+-- whether it looks at a place of it
+unfoldable pub isDue : ℕ → List ℕ → ℕ → Bool
+isDue carriers frames v = ltb (v % lastCarrier) carriers && eqb (v / lastCarrier % share (framesOf frames v)) 0
+
+-- the steps of a round from v on that do
+unfoldable pub due : ℕ → List ℕ → ℕ → List ℕ
+due carriers frames v = picked (isDue carriers frames) v (roundSteps - v)
+
+-- entry e is noted for step v, which does: the step's packet in the first round, and how far on it is in each
+pub record Entry (carriers : ℕ) (frames notes : List ℕ) (e v : ℕ) : Type 0 where
+  pub early : v < roundSteps
+  pub looks : isDue carriers frames v ≡ true
+  pub packet : getD notes (2 * e) 0 ≡ packetAt frames v
+  pub further : getD notes (2 * e + 1) 0 ≡ framesOf frames v
+
+-- of the steps that do, the n before v are noted
+pub record Noted (carriers : ℕ) (frames notes : List ℕ) (n v : ℕ) : Type 0 where
+  pub left : drop n (due carriers frames 0) ≡ due carriers frames v
+  pub those : n ≤ length (due carriers frames 0)
+  pub few : n ≤ v
+  pub each : (e : ℕ) → e < n → Entry carriers frames notes e (getD (due carriers frames 0) e 0)
+  pub long : length notes ≡ 2 * roundSteps
+
+-- ---- the list
+
+-- the packet of entry e in round q
+abbrev pub packetIn : List ℕ → ℕ → ℕ → ℕ
+packetIn notes q e = getD notes (2 * e) 0 + q * getD notes (2 * e + 1) 0
+
+-- those of n entries from e on that are marked
+unfoldable pub markedIn : List ℕ → List ℕ → ℕ → ℕ → ℕ → List ℕ
+markedIn slots notes q e zero = []
+markedIn slots notes q e (suc n) =
+    cond (isMarked slots (packetIn notes q e)) (packetIn notes q e ∷ []) [] ++ markedIn slots notes q (e + 1) n
+
+-- the packets at which the walk stops from step u on
+abbrev pub placesFrom : ℕ → List ℕ → List ℕ → ℕ → List ℕ
+placesFrom carriers frames slots u = map (packetAt frames) (stops carriers frames slots u)
+
+-- what the list is made of: a walk, and marks for each frame, among which is no header
+pub record Listable (carriers : ℕ) (frames slots : List ℕ) : Type 0 where
+  pub walk : Walkable carriers frames
+  pub long : length slots ≡ mostFrames
+  pub headers : (k : ℕ) → k < carriers → isMarked slots (framePackets * framesBefore frames k) ≡ false
+  pub few : length (placesFrom carriers frames slots 0) ≤ framePackets * mostFrames

@@ -1,0 +1,124 @@
+// The marked places of a group as a list, in order. A round is twelve twelfths of the super frame. A carrier with F frames has F places in
+// it, in each round the same ones and F further on: so those of one round are noted, and gone through once for each round.
+use group::headers::CARRIERS;
+use group::headers::FRAMES;
+use setting::SLOTS;
+ghost use mathlib.Core.Path.{_≡_};
+ghost use mathlib.Core.List.{_++_};
+ghost use Prim.Native.Nat.{ℕ, _+_, _*_, _≤_, _<_};
+ghost use lib.ListN.{length, take};
+ghost use Rattle.places.specs.Order.{framePackets};
+ghost use Rattle.places.specs.Walk.{lastCarrier, mostFrames, isMarked, Walkable};
+ghost use Rattle.bond.specs.Listing.{roundTwelfths, roundSteps, Noted, packetIn, markedIn, placesFrom, Listable};
+
+// The packets of a frame, and so the rounds of a super frame.
+const FRAME_PACKETS: usize = SLOTS + 1;
+
+// The twelfths of a round, and room for two numbers for each place that it can have.
+const ROUND_TWELFTHS: usize = 12;
+
+const NOTES: usize = 2 * CARRIERS * ROUND_TWELFTHS;
+
+// Room for each packet of a group, and for one that is written before it is looked at.
+pub(crate) const LISTED: usize = FRAME_PACKETS * FRAMES + 1;
+
+// Notes the places at a twelfth of the first round behind those noted before it, each with how far on it is in each round; answers how
+// many are noted.
+fn note_twelfth(
+    notes: &mut [u16],
+    noted: usize,
+    twelfth: usize,
+    carriers: usize,
+    frames: &[u8],
+) -> usize
+    requires { ⌜ Walkable carriers (now frames) ⌝ }
+    requires { ⌜ twelfth < roundTwelfths ⌝ }
+    requires { ⌜ Noted carriers (now frames) (now notes) noted (lastCarrier * twelfth) ⌝ }
+    ensures { λ r. ⌜ Noted carriers (now (frames .entry)) (now (notes .exit)) r (lastCarrier * (twelfth + 1)) ⌝ }
+{
+    let mut n = noted;
+    let mut frame = 0;
+    let mut k = 0;
+    while k < carriers {
+        let f = frames[k] as usize;
+        let part = twelfth * f;
+        if part % ROUND_TWELFTHS == 0 {
+            notes[2 * n] = (FRAME_PACKETS * frame + part / ROUND_TWELFTHS) as u16;
+            notes[2 * n + 1] = f as u16;
+            n += 1;
+        }
+        frame += f;
+        k += 1;
+    }
+    n
+}
+
+// Notes the places of the first round.
+fn note_round(notes: &mut [u16], carriers: usize, frames: &[u8]) -> usize
+    requires { ⌜ Walkable carriers (now frames) ⌝ }
+    requires { ⌜ length (now notes) ≡ 2 * roundSteps ⌝ }
+    ensures { λ r. ⌜ Noted carriers (now (frames .entry)) (now (notes .exit)) r roundSteps ⌝ }
+{
+    let mut noted = 0;
+    let mut twelfth = 0;
+    while twelfth < ROUND_TWELFTHS {
+        noted = note_twelfth(notes, noted, twelfth, carriers, frames);
+        twelfth += 1;
+    }
+    noted
+}
+
+// Whether packet m of the group is marked.
+fn is_marked(slots: &[u64], m: usize) -> bool
+    requires { ⌜ (length (now slots) ≡ mostFrames) × (m < framePackets * mostFrames) ⌝ }
+    ensures { λ r. ⌜ r ≡ isMarked (now (slots .entry)) m ⌝ }
+{
+    (slots[m / FRAME_PACKETS] >> ((m % FRAME_PACKETS) as u32)) % 2 == 1
+}
+
+// Lists the marked packets of a round behind those listed before it; answers how many are listed. Each is written and then counted
+// if it is marked, so that nothing hangs on a guess.
+fn list_round(
+    list: &mut [u16],
+    listed: usize,
+    round: usize,
+    noted: usize,
+    notes: &[u16],
+    slots: &[u64],
+) -> usize
+    requires { ⌜ (noted ≤ roundSteps) × (length (now notes) ≡ 2 * roundSteps) × (length (now slots) ≡ mostFrames) ⌝ }
+    requires { ⌜ ((e : ℕ) → e < noted → packetIn (now notes) round e < framePackets * mostFrames) ⌝ }
+    requires { ⌜ listed + length (markedIn (now slots) (now notes) round 0 noted) < length (now list) ⌝ }
+    ensures { λ r. ⌜ take r (now (list .exit)) ≡ take listed (now (list .entry)) ++ markedIn (now (slots .entry)) (now (notes .entry)) round 0 noted ⌝ }
+    ensures { λ r. ⌜ r ≡ listed + length (markedIn (now (slots .entry)) (now (notes .entry)) round 0 noted) ⌝ }
+{
+    let mut n = listed;
+    let mut e = 0;
+    while e < noted {
+        let m = notes[2 * e] as usize + round * notes[2 * e + 1] as usize;
+        list[n] = m as u16;
+        if is_marked(slots, m) {
+            n += 1;
+        }
+        e += 1;
+    }
+    n
+}
+
+// Lists the marked packets of the group in the order of their places; answers how many they are.
+pub(crate) fn list_places(list: &mut [u16], carriers: usize, frames: &[u8], slots: &[u64]) -> usize
+    requires { ⌜ Listable carriers (now frames) (now slots) ⌝ }
+    requires { ⌜ framePackets * mostFrames < length (now list) ⌝ }
+    ensures { λ r. ⌜ take r (now (list .exit)) ≡ placesFrom carriers (now (frames .entry)) (now (slots .entry)) 0 ⌝ }
+    ensures { λ r. ⌜ r ≡ length (placesFrom carriers (now (frames .entry)) (now (slots .entry)) 0) ⌝ }
+{
+    let mut notes = [0u16; NOTES];
+    let noted = note_round(&mut notes, carriers, frames);
+    let mut listed = 0;
+    let mut round = 0;
+    while round < FRAME_PACKETS {
+        listed = list_round(list, listed, round, noted, &notes, slots);
+        round += 1;
+    }
+    listed
+}
