@@ -6,7 +6,8 @@ use borrow.Author.Tests.{ne-eqb}
 use lib.ListN.{length}
 use Rattle.counters.specs.Counters.{lastSlot}
 use Rattle.composer_state.specs.Composing.{marked, putOf, putFrame}
-use Rattle.refusal_table.proofs.Refusals.{kept, written}
+use Rattle.refusal_table.specs.Refusal.{leaves}
+use Rattle.refusal_table.proofs.Refusals.{kept}
 use Rattle.composer_put.proofs.Passed.{PutPassed, put-passed}
 use Rattle.composer_put.proofs.Rest.{left-within, counted}
 use Rattle.composer_put.proofs.put.Statement.{statement}
@@ -37,7 +38,7 @@ slice-aggregate-place : tie.Need-slice-aggregate-place
 slice-aggregate-place c = sym (slots (start (c .before .before .before .before .before)) .0)
 
 slice-aggregate-place-2 : tie.Need-slice-aggregate-place-2
-slice-aggregate-place-2 c = search needs
+slice-aggregate-place-2 c = sym (slots (start (c .before .before .before .before .before .before)) .1)
 
 place-requires : tie.Need-place-requires
 place-requires c κs =
@@ -45,20 +46,20 @@ place-requires c κs =
     (past checked .long, slots (start checked))
 
 sub-placed : tie.Need-sub-placed
-sub-placed c = omega (arith, left-within _ _ _ _ (c .before .before .before .place .ensures .0))
+sub-placed c = left-within _ _ _ _ (c .before .before .before .place .ensures .0)
 
 same-length : tie.Need-same-length
-same-length c = search needs
+same-length c = c .before .before .before .place .kept .0
 
 returns-2 : tie.Need-returns-2
-unfolding putOf putFrame marked
+unfolding putOf putFrame leaves marked
 returns-2 c =
     let place = c .before .before .before in
     let checked = place .before .before .before .before .before .before .before in
     let e = checked .before .put-refusal .ensures in
     let z = checked .if1 .left in (
       rw (counted _ _ _ _ (place .place .ensures .0), place .place .ensures .1 .1, sym e ∙ z),
-      place .place .ensures .1 .0 ∙ written e _ _ z,
+      rw (sym e ∙ z) (place .place .ensures .1 .0),
     )
 
 pub put-spec : {M : Type 1} → statement M

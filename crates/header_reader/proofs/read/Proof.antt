@@ -12,7 +12,6 @@ use Rattle.header_reader.specs.Reader.{readRefusal}
 use Rattle.layout.proofs.Calls.{wrong-length, wrong-pid, right-call}
 use Rattle.header_reader.proofs.Calls.{refused, accepted}
 use Rattle.layout.proofs.Packet.{packet-none}
-use borrow.Author.Needs.{needs}
 use Rattle.header_reader.proofs.read.Statement.{statement}
 use Rattle.header_reader.proofs.read.Tie as tie
 
@@ -53,7 +52,7 @@ ruled c =
     ap (λ r. firstOf (ruleChecks (s .args .kind) r)) (sym (c .before .setting-of .ensures)) ∙ sym (c .rule-refusal .ensures)
 
 refused-requires : tie.Need-refused-requires
-refused-requires c κs = search needs
+refused-requires c κs = omega arith
 
 returns : tie.Need-returns
 unfolding readRefusal
@@ -63,10 +62,10 @@ returns c =
     (c .refused .result) (c .refused .ensures .0) (c .refused .ensures .1)
 
 pid-allowed-requires : tie.Need-pid-allowed-requires
-pid-allowed-requires c κs = search needs
+pid-allowed-requires c κs = omega arith
 
 refused-requires-2 : tie.Need-refused-requires-2
-refused-requires-2 c κs = search needs
+refused-requires-2 c κs = omega arith
 
 returns-2 : tie.Need-returns-2
 unfolding readRefusal
@@ -77,10 +76,10 @@ returns-2 c =
     (c .refused2 .result) (c .refused2 .ensures .0) (c .refused2 .ensures .1)
 
 packet-refusal-requires : tie.Need-packet-refusal-requires
-packet-refusal-requires c κs = search needs
+packet-refusal-requires c κs = omega arith
 
 refused-requires-3 : tie.Need-refused-requires-3
-refused-requires-3 c κs = search needs
+refused-requires-3 c κs = omega arith
 
 returns-3 : tie.Need-returns-3
 returns-3 c =
@@ -91,13 +90,13 @@ returns-3 c =
     (c .refused3 .result) (c .refused3 .ensures .0) (c .refused3 .ensures .1)
 
 setting-of-requires : tie.Need-setting-of-requires
-setting-of-requires c κs = search needs
+setting-of-requires c κs = omega arith
 
 rule-refusal-requires : tie.Need-rule-refusal-requires
-rule-refusal-requires c κs = search needs
+rule-refusal-requires c κs = omega arith
 
 refused-requires-4 : tie.Need-refused-requires-4
-refused-requires-4 c κs = search needs
+refused-requires-4 c κs = omega arith
 
 returns-4 : tie.Need-returns-4
 returns-4 c =

@@ -14,7 +14,6 @@ use Rattle.rules.proofs.Checked.{width-none, rule-none}
 use Rattle.header_writer.specs.Writing.{writeRefusal}
 use Rattle.layout.proofs.Calls.{wrong-length, wrong-pid, right-call}
 use Rattle.header_writer.proofs.Calls.{left, made}
-use borrow.Author.Needs.{needs}
 use Rattle.header_writer.proofs.write.Statement.{statement}
 use Rattle.header_writer.proofs.write.Tie as tie
 
@@ -65,7 +64,7 @@ returns c =
     (sym e, left (start .args .kind) (start .args .pid) (start .args .s) (start .args .buffer .now) e (omega arith))
 
 pid-allowed-requires : tie.Need-pid-allowed-requires
-pid-allowed-requires c κs = search needs
+pid-allowed-requires c κs = omega arith
 
 returns-2 : tie.Need-returns-2
 unfolding writeRefusal
@@ -75,7 +74,7 @@ returns-2 c =
     (sym e, left (start .args .kind) (start .args .pid) (start .args .s) (start .args .buffer .now) e (omega arith))
 
 width-refusal-requires : tie.Need-width-refusal-requires
-width-refusal-requires c κs = search needs
+width-refusal-requires c κs = omega arith
 
 returns-3 : tie.Need-returns-3
 returns-3 c =
@@ -85,7 +84,7 @@ returns-3 c =
     (sym e, left (start .args .kind) (start .args .pid) (start .args .s) (start .args .buffer .now) e (c .if3 .taken))
 
 rule-refusal-requires : tie.Need-rule-refusal-requires
-rule-refusal-requires c κs = search needs
+rule-refusal-requires c κs = omega arith
 
 returns-4 : tie.Need-returns-4
 returns-4 c =
@@ -107,7 +106,7 @@ write-header-requires c κs =
     )
 
 same-length : tie.Need-same-length
-same-length c = search needs
+same-length c = omega arith
 
 returns-5 : tie.Need-returns-5
 returns-5 c =

@@ -1,13 +1,13 @@
 -- `list` meets its contract: a call is refused, or lists. Assumes nothing.
 use mathlib.Core.Path.{refl, sym, _∙_}
-use borrow.Author.Needs.{needs}
+use native.Mathlib.Omega.{arith}
 use lib.ListN.{length}
 use Rattle.listing.proofs.Calls.{let-through, stopped, done}
 use Rattle.listing.proofs.list.Statement.{statement}
 use Rattle.listing.proofs.list.Tie as tie
 
 list-refusal-requires : tie.Need-list-refusal-requires
-list-refusal-requires c κs = search needs
+list-refusal-requires c κs = omega arith
 
 returns : tie.Need-returns
 returns c =
@@ -22,7 +22,7 @@ put-listing-requires c κs =
     (through .1, through .0)
 
 same-length : tie.Need-same-length
-same-length c = search needs
+same-length c = omega arith
 
 returns-2 : tie.Need-returns-2
 returns-2 c =

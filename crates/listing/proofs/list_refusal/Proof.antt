@@ -3,7 +3,6 @@ use Prim.Native.Nat.{_+_, _^_, _≤_}
 use mathlib.Core.Path.{sym}
 use mathlib.Core.Logic.{⊎-elim}
 use native.Mathlib.Omega.{arith}
-use borrow.Author.Needs.{needs}
 use borrow.Author.Tests.{ltb-true, ltb-false}
 use Rattle.listing.specs.Listing.{packetsIn}
 use Rattle.listing.proofs.Calls.{large-number, little-room, right-call}
@@ -11,10 +10,10 @@ use Rattle.listing.proofs.list_refusal.Statement.{statement}
 use Rattle.listing.proofs.list_refusal.Tie as tie
 
 sub-if2 : tie.Need-sub-if2
-sub-if2 c = search needs
+sub-if2 c = omega arith
 
 sub-if2-2 : tie.Need-sub-if2-2
-sub-if2-2 c = search needs
+sub-if2-2 c = omega arith
 
 returns : tie.Need-returns
 returns c = let a = c .before .before .args in sym (large-number (a .first) (a .lent) (a .room) (omega (arith, ltb-true)))
@@ -24,10 +23,10 @@ fit : (c : tie.Joined1) → c .before .args .first + packetsIn (c .before .args 
 fit c = ⊎-elim (λ w. omega (arith, ltb-false)) (λ w. omega arith) (c .if1 .came)
 
 add-if3 : tie.Need-add-if3
-add-if3 c = search needs
+add-if3 c = omega arith
 
 mul-if3 : tie.Need-mul-if3
-mul-if3 c = search needs
+mul-if3 c = omega arith
 
 returns-2 : tie.Need-returns-2
 returns-2 c = let a = c .before .before .args in sym (little-room (a .first) (a .lent) (a .room) (fit (c .before)) (omega arith))

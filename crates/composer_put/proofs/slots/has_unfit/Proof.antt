@@ -83,13 +83,13 @@ loop-holds : tie.Need-loop-holds Inv-loop μ-loop
 loop-holds c = (omega arith, omega arith, refl)
 
 shared-slice-read-is-taken : tie.Need-shared-slice-read-is-taken Inv-loop μ-loop
-shared-slice-read-is-taken c = search needs
+shared-slice-read-is-taken c = rw (start (c .before .before) .pre .0) (c .before .loop-test .taken)
 
 shared-slice-read-is-taken-2 : tie.Need-shared-slice-read-is-taken-2 Inv-loop μ-loop
-shared-slice-read-is-taken-2 c = search needs
+shared-slice-read-is-taken-2 c = rw (start (c .before .before .before) .pre .1) (c .before .before .loop-test .taken)
 
 sub-is-taken : tie.Need-sub-is-taken Inv-loop μ-loop
-sub-is-taken c = search needs
+sub-is-taken c = c .before .before .before .loop .inv .1
 
 is-taken-requires : tie.Need-is-taken-requires Inv-loop μ-loop
 is-taken-requires c κs = search needs
@@ -106,9 +106,7 @@ part-place-refusal-start : tie.Need-part-place-refusal-start Inv-loop μ-loop
 part-place-refusal-start c = search needs
 
 part-place-refusal-end : tie.Need-part-place-refusal-end Inv-loop μ-loop
-part-place-refusal-end c =
-    let r = room c in
-    search needs
+part-place-refusal-end c = room c
 
 place-refusal-requires : tie.Need-place-refusal-requires Inv-loop μ-loop
 place-refusal-requires c κs = search needs
@@ -121,9 +119,7 @@ returns c =
     sym (unfit-by slot (call .before .before .if1 .taken) unfit-one)
 
 add-at : tie.Need-add-at Inv-loop μ-loop
-add-at c =
-    let r = room (c .before .before .before) in
-    search needs
+add-at c = add-place-refusal (c .before .before .before)
 
 add-i : tie.Need-add-i Inv-loop μ-loop
 add-i c = search needs

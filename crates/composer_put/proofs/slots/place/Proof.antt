@@ -33,6 +33,13 @@ turn c = c .before .before .before .before
 abbrev start : tie.At-loop Inv-loop μ-loop → tie.Start Inv-loop μ-loop
 start c = c .before .before .before .before .before
 
+-- slot i is in the plan, and has its mark
+planned : (c : tie.In-loop Inv-loop μ-loop) → c .before .loop .i < length (start (c .before) .args .plan .now)
+planned c = rw (start (c .before) .pre .1 .0) (c .loop-test .taken)
+
+marked : (c : tie.In-loop Inv-loop μ-loop) → c .before .loop .i < length (c .before .loop .filled)
+marked c = rw (c .before .loop .inv .3) (c .loop-test .taken)
+
 -- what is asked of a slot, by the mark that it had
 asked : (c : tie.After-is-taken Inv-loop μ-loop) {t : Bool} → c .is-taken .result ≡ t
     → takes (start (turn c) .args .r) (getD (start (turn c) .args .plan .now) (turn c .loop .i) 0) (getD (start (turn c) .args .filled .now) (turn c .loop .i) false) (length (start (turn c) .args .stream .now) - turn c .loop .at)
@@ -78,13 +85,13 @@ loop-holds c =
     (omega arith, omega arith, s .pre .0, s .pre .1 .1, placing-none _ _ _ _ _ (omega arith))
 
 shared-slice-read-is-taken : tie.Need-shared-slice-read-is-taken Inv-loop μ-loop
-shared-slice-read-is-taken c = search needs
+shared-slice-read-is-taken c = planned (c .before)
 
 slice-read-is-taken : tie.Need-slice-read-is-taken Inv-loop μ-loop
-slice-read-is-taken c = search needs
+slice-read-is-taken c = marked (c .before .before)
 
 sub-is-taken : tie.Need-sub-is-taken Inv-loop μ-loop
-sub-is-taken c = search needs
+sub-is-taken c = c .before .before .before .loop .inv .1
 
 is-taken-requires : tie.Need-is-taken-requires Inv-loop μ-loop
 is-taken-requires c κs = search needs
@@ -119,20 +126,16 @@ part-copy-start-2 : tie.Need-part-copy-start-2 Inv-loop μ-loop
 part-copy-start-2 c = search needs
 
 part-copy-end-2 : tie.Need-part-copy-end-2 Inv-loop μ-loop
-part-copy-end-2 c =
-    let left = room (c .before) in
-    search needs
+part-copy-end-2 c = room (c .before)
 
 copy-requires : tie.Need-copy-requires Inv-loop μ-loop
 copy-requires c κs = search needs
 
 slice-write-filled : tie.Need-slice-write-filled Inv-loop μ-loop
-slice-write-filled c = search needs
+slice-write-filled c = marked (c .before .before .before .before .before .before .before .before .before)
 
 add-at : tie.Need-add-at Inv-loop μ-loop
-add-at c =
-    let left = room (c .before .before .before .before .before) in
-    search needs
+add-at c = add-copy-2 (c .before .before .before .before)
 
 add-i : tie.Need-add-i Inv-loop μ-loop
 add-i c = search needs
@@ -145,20 +148,20 @@ loop-again c =
     let k = turn (c .before) in
     let a = start k .args in
     let slot = packetLength * (k .loop .i + 1) in
-    let planned : k .loop .i < length (a .plan .now) = omega arith in
-    let marked : k .loop .i < length (a .filled .now) = omega arith in
+    let slot-planned = planned (c .before .before .before .before) in
+    let slot-marked : k .loop .i < length (a .filled .now) = rw (start k .pre .1 .1) (c .before .before .before .before .loop-test .taken) in
     let walked : Placing (a .r) (a .plan .now) (a .filled .now) (a .stream .now) (a .frame .now) (c .if1 .frame) (c .if1 .filled) (k .loop .i + 1) (c .if1 .at) =
     ⊎-elim
     (λ w.
     rw (w .6, w .7, w .8)
-    (placing-placed _ _ _ _ _ (k .loop .inv .4) planned marked (asked (c .before) (w .0 .taken)) (slot + packetLength - slot) (omega arith)
+    (placing-placed _ _ _ _ _ (k .loop .inv .4) slot-planned slot-marked (asked (c .before) (w .0 .taken)) (slot + packetLength - slot) (omega arith)
     (w .3 .last .0)
     (taken (record {
       before = record { before = record { before = record { before = c .before; if1 = w .0 }; copy-arg = w .1 }; copy-arg2 = w .2 };
       copy = w .3;
     }))))
     (λ w.
-    rw (w .1, w .2, w .3) (placing-passed _ _ _ _ _ (k .loop .inv .4) planned marked (asked (c .before) (w .0 .left)) (omega arith)))
+    rw (w .1, w .2, w .3) (placing-passed _ _ _ _ _ (k .loop .inv .4) slot-planned slot-marked (asked (c .before) (w .0 .left)) (omega arith)))
     (c .if1 .came) in (
       omega arith,
       ⊎-elim (λ w. rw (w .8) (room (record { before = c .before; if1 = w .0 }))) (λ w. rw (w .3) (k .loop .inv .1)) (c .if1 .came),

@@ -2,7 +2,6 @@
 use Prim.Native.Nat.{ℕ, _-_, _≤_}
 use mathlib.Core.Path.{_≡_, refl, ap, _∙_}
 use native.Mathlib.Omega.{arith}
-use borrow.Author.Needs.{needs}
 use lib.ListN.{length, length-set}
 use Rattle.bits.specs.Fields.{run, cut}
 use Rattle.layout.proofs.Halves.{Halved, halved-none, halved-next, halved-all}
@@ -20,31 +19,31 @@ loop-holds : tie.Need-loop-holds Inv-loop μ-loop
 loop-holds c = let args = c .args in (omega arith, refl, halved-none (args .values .now) (args .part .now))
 
 shared-slice-read-values : tie.Need-shared-slice-read-values Inv-loop μ-loop
-shared-slice-read-values c = search needs
+shared-slice-read-values c = omega arith
 
 mul-values : tie.Need-mul-values Inv-loop μ-loop
-mul-values c = search needs
+mul-values c = omega arith
 
 slice-write-values : tie.Need-slice-write-values Inv-loop μ-loop
-slice-write-values c = search needs
+slice-write-values c = omega arith
 
 shared-slice-read-values-2 : tie.Need-shared-slice-read-values-2 Inv-loop μ-loop
-shared-slice-read-values-2 c = search needs
+shared-slice-read-values-2 c = omega arith
 
 mul-values-2 : tie.Need-mul-values-2 Inv-loop μ-loop
-mul-values-2 c = search needs
+mul-values-2 c = omega arith
 
 add-values : tie.Need-add-values Inv-loop μ-loop
-add-values c = search needs
+add-values c = omega arith
 
 slice-write-values-2 : tie.Need-slice-write-values-2 Inv-loop μ-loop
 slice-write-values-2 c = simp length-set (omega (arith, c .before .before .before .before .pre))
 
 add-k : tie.Need-add-k Inv-loop μ-loop
-add-k c = search needs
+add-k c = omega arith
 
 loop-less : tie.Need-loop-less Inv-loop μ-loop
-loop-less c = search needs
+loop-less c = omega arith
 
 loop-again : tie.Need-loop-again Inv-loop μ-loop
 loop-again c =
@@ -57,7 +56,7 @@ loop-again c =
     )
 
 same-length : tie.Need-same-length Inv-loop μ-loop
-same-length c = search needs
+same-length c = omega arith
 
 returns : tie.Need-returns Inv-loop μ-loop
 returns c =

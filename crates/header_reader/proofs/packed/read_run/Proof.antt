@@ -4,7 +4,6 @@ use mathlib.Core.Path.{_≡_, refl, sym, ap, _∙_}
 use mathlib.Core.Logic.{⊎-elim}
 use native.Mathlib.Omega.{arith}
 use native.Mathlib.Nat.{mod-lt}
-use borrow.Author.Needs.{needs}
 use lib.Pow.{pow-pos}
 use lib.ListN.{length, take, length-set}
 use lib.Seq.{take-length}
@@ -21,14 +20,14 @@ abbrev μ-loop : tie.MeasureT-loop
 μ-loop values₀ part width limit held₀ bits₀ at₀ i₀ values held bits at i = length values₀ - i
 
 shl-limit : tie.Need-shl-limit Inv-loop μ-loop
-shl-limit c = search needs
+shl-limit c = omega arith
 
 loop-holds : tie.Need-loop-holds Inv-loop μ-loop
 loop-holds c =
     (omega arith, omega arith, refl, taken-none (c .args .values .now) (c .args .part .now) (c .args .width))
 
 mul-held : tie.Need-mul-held Inv-loop μ-loop
-mul-held c = search needs
+mul-held c = omega arith
 
 -- where bits are missing there is a byte more
 there : (c : tie.Then1 Inv-loop μ-loop) → c .before .before .loop .at < length (c .before .before .before .args .part .now)
@@ -48,7 +47,7 @@ add-held : tie.Need-add-held Inv-loop μ-loop
 add-held c = omega (arith, c .shared-slice-known .given (c .before .before .before .loop .at))
 
 add-bits : tie.Need-add-bits Inv-loop μ-loop
-add-bits c = search needs
+add-bits c = omega arith
 
 add-at : tie.Need-add-at Inv-loop μ-loop
 add-at c = let r = there (c .before) in let l = c .before .before .before .before .good .1 .0 in omega arith
@@ -92,13 +91,13 @@ cast-values c =
     rw (limit-is (args .width) (pre .0)) (omega arith)
 
 slice-write-values : tie.Need-slice-write-values Inv-loop μ-loop
-slice-write-values c = search needs
+slice-write-values c = omega arith
 
 add-i : tie.Need-add-i Inv-loop μ-loop
-add-i c = search needs
+add-i c = omega arith
 
 loop-less : tie.Need-loop-less Inv-loop μ-loop
-loop-less c = search needs
+loop-less c = omega arith
 
 loop-again : tie.Need-loop-again Inv-loop μ-loop
 loop-again c =
@@ -113,7 +112,7 @@ loop-again c =
     )
 
 same-length : tie.Need-same-length Inv-loop μ-loop
-same-length c = search needs
+same-length c = omega arith
 
 returns : tie.Need-returns Inv-loop μ-loop
 returns c =

@@ -1,36 +1,36 @@
 -- `bonding_of` meets its contract, by the kind. Assumes nothing.
 use Rattle.bits.proofs.Laws.{fit-of}
 use Rattle.layout.proofs.Said.{no-bonding, bonding-are}
-use borrow.Author.Needs.{needs}
+use native.Mathlib.Omega.{arith}
 use Rattle.header_reader.proofs.reader.bonding_of.Statement.{statement}
 use Rattle.header_reader.proofs.reader.bonding_of.Tie as tie
 
 enum-told : tie.Need-enum-told
-enum-told c = search needs
+enum-told c = omega arith
 
 enum-told-2 : tie.Need-enum-told-2
-enum-told-2 c = search needs
+enum-told-2 c = omega arith
 
 add-frames : tie.Need-add-frames
-add-frames c = search needs
+add-frames c = omega arith
 
 shared-slice-read-frames : tie.Need-shared-slice-read-frames
-shared-slice-read-frames c = search needs
+shared-slice-read-frames c = omega arith
 
 shared-slice-read-t7 : tie.Need-shared-slice-read-t7
-shared-slice-read-t7 c = search needs
+shared-slice-read-t7 c = omega arith
 
 add-t5 : tie.Need-add-t5
-add-t5 c = search needs
+add-t5 c = omega arith
 
 shared-slice-read-t10 : tie.Need-shared-slice-read-t10
-shared-slice-read-t10 c = search needs
+shared-slice-read-t10 c = omega arith
 
 add-t11 : tie.Need-add-t11
-add-t11 c = search needs
+add-t11 c = omega arith
 
 shared-slice-read-t13 : tie.Need-shared-slice-read-t13
-shared-slice-read-t13 c = search needs
+shared-slice-read-t13 c = omega arith
 
 returns : tie.Need-returns
 returns c = let start = c .before .before in no-bonding (start .args .packet .now) (c .enum-told .given .1)

@@ -3,24 +3,24 @@ use Prim.Native.Nat.{ℕ, _/_}
 use mathlib.Core.Path.{ap, _∙_}
 use Rattle.bits.proofs.Laws.{fit-of}
 use Rattle.layout.proofs.Said.{fields-are}
-use borrow.Author.Needs.{needs}
+use native.Mathlib.Omega.{arith}
 use Rattle.header_reader.proofs.reader.fields_of.Statement.{statement}
 use Rattle.header_reader.proofs.reader.fields_of.Tie as tie
 
 shared-slice-read-types : tie.Need-shared-slice-read-types
-shared-slice-read-types c = search needs
+shared-slice-read-types c = omega arith
 
 shared-slice-read-t4 : tie.Need-shared-slice-read-t4
-shared-slice-read-t4 c = search needs
+shared-slice-read-t4 c = omega arith
 
 word-at-requires : tie.Need-word-at-requires
-word-at-requires c κs = search needs
+word-at-requires c κs = omega arith
 
 add-t13 : tie.Need-add-t13
-add-t13 c = search needs
+add-t13 c = omega arith
 
 shared-slice-read-t15 : tie.Need-shared-slice-read-t15
-shared-slice-read-t15 c = search needs
+shared-slice-read-t15 c = omega arith
 
 returns : tie.Need-returns
 returns c =

@@ -14,7 +14,6 @@ use Rattle.refusal_table.proofs.Refusals.{Past, answers, passed}
 use Rattle.layout.specs.Layout.{syncByte, tsmfSync}
 use Rattle.layout.specs.Header.{startValue, packetChecks}
 use Rattle.layout.proofs.Packet.{differs, agrees, first-differs, second-differs, both-agree, sync-byte, zeros, header-pid, one, tsmf-sync}
-use borrow.Author.Needs.{needs}
 use Rattle.header_reader.proofs.reader.packet_refusal.Statement.{statement}
 use Rattle.header_reader.proofs.reader.packet_refusal.Tie as tie
 
@@ -77,7 +76,7 @@ remainder c =
     sym (c .register .ensures ∙ ap registerOf (take-all 184 (drop 4 (packet k)) (rw length-drop (omega arith))))
 
 shared-slice-read-if1 : tie.Need-shared-slice-read-if1
-shared-slice-read-if1 c = search needs
+shared-slice-read-if1 c = omega arith
 
 returns : tie.Need-returns
 unfolding packetChecks
@@ -86,7 +85,7 @@ returns c =
     sym (answers 3 _ (differs syncByte (sync-byte (packet k) (bytes k) (k .before .pre)) (c .if1 .taken)))
 
 word-at-requires : tie.Need-word-at-requires
-word-at-requires c κs = search needs
+word-at-requires c κs = omega arith
 
 returns-2 : tie.Need-returns-2
 unfolding packetChecks
@@ -97,7 +96,7 @@ returns-2 c =
     ∙ answers 4 _ (differs (k .before .args .pid) (header-pid (packet k) (bytes k) (k .before .pre) ∙ ap (λ (n : ℕ). n % 8192) (sym (c .before .word-at .ensures))) (c .if2 .taken)))
 
 shared-slice-read-if3 : tie.Need-shared-slice-read-if3
-shared-slice-read-if3 c = search needs
+shared-slice-read-if3 c = omega arith
 
 returns-3 : tie.Need-returns-3
 unfolding packetChecks
@@ -106,7 +105,7 @@ returns-3 c =
     sym (past₂ (c .before .before) ∙ answers 5 _ (first-differs 0 _ (zeros (packet k) (bytes k) (k .before .pre)) (c .if3 .taken)))
 
 shared-slice-read-if4 : tie.Need-shared-slice-read-if4
-shared-slice-read-if4 c = search needs
+shared-slice-read-if4 c = omega arith
 
 returns-4 : tie.Need-returns-4
 unfolding packetChecks
@@ -115,7 +114,7 @@ returns-4 c =
     sym (past₂ (c .before .before .before .before) ∙ answers 5 _ (second-differs 1 (eqb (startValue (packet k) 1) 0) (one (packet k) (bytes k) (k .before .pre)) (c .if4 .taken)))
 
 word-at-requires-2 : tie.Need-word-at-requires-2
-word-at-requires-2 c κs = search needs
+word-at-requires-2 c κs = omega arith
 
 returns-5 : tie.Need-returns-5
 unfolding packetChecks
@@ -124,16 +123,16 @@ returns-5 c =
     sym (past₃ (c .before .before) ∙ answers 6 _ (differs tsmfSync (tsmf-sync (packet k) (bytes k) (k .before .pre) ∙ ap (λ (n : ℕ). n % 8192) (sym (c .before .word-at2 .ensures))) (c .if5 .taken)))
 
 sub-register : tie.Need-sub-register
-sub-register c = search needs
+sub-register c = omega arith
 
 part-register-start : tie.Need-part-register-start
-part-register-start c = search needs
+part-register-start c = omega arith
 
 part-register-end : tie.Need-part-register-end
-part-register-end c = search needs
+part-register-end c = omega arith
 
 register-requires : tie.Need-register-requires
-register-requires c κs = search needs
+register-requires c κs = omega arith
 
 returns-6 : tie.Need-returns-6
 unfolding packetChecks

@@ -2,7 +2,6 @@
 use Prim.Native.Nat.{ℕ, _-_, _*_, _≤_}
 use mathlib.Core.Path.{_≡_, refl, sym, ap, _∙_}
 use native.Mathlib.Omega.{arith}
-use borrow.Author.Needs.{needs}
 use lib.ListN.{length, length-set}
 use lib.Seq.{take-all}
 use Rattle.bits.specs.Fields.{run, cut}
@@ -25,34 +24,34 @@ loop-holds c =
     (omega arith, omega arith, refl, refl, apart-none (args .ts .now) (args .os .now) (args .part .now))
 
 word-at-requires : tie.Need-word-at-requires Inv-loop μ-loop
-word-at-requires c κs = search needs
+word-at-requires c κs = omega arith
 
 mul-ts : tie.Need-mul-ts Inv-loop μ-loop
-mul-ts c = search needs
+mul-ts c = omega arith
 
 slice-write-ts : tie.Need-slice-write-ts Inv-loop μ-loop
-slice-write-ts c = search needs
+slice-write-ts c = omega arith
 
 add-word-at : tie.Need-add-word-at Inv-loop μ-loop
-add-word-at c = search needs
+add-word-at c = omega arith
 
 word-at-requires-2 : tie.Need-word-at-requires-2 Inv-loop μ-loop
-word-at-requires-2 c κs = search needs
+word-at-requires-2 c κs = omega arith
 
 mul-os : tie.Need-mul-os Inv-loop μ-loop
-mul-os c = search needs
+mul-os c = omega arith
 
 slice-write-os : tie.Need-slice-write-os Inv-loop μ-loop
-slice-write-os c = search needs
+slice-write-os c = omega arith
 
 add-at : tie.Need-add-at Inv-loop μ-loop
-add-at c = search needs
+add-at c = omega arith
 
 add-k : tie.Need-add-k Inv-loop μ-loop
-add-k c = search needs
+add-k c = omega arith
 
 loop-less : tie.Need-loop-less Inv-loop μ-loop
-loop-less c = search needs
+loop-less c = omega arith
 
 loop-again : tie.Need-loop-again Inv-loop μ-loop
 loop-again c =

@@ -8,7 +8,6 @@ use Rattle.setting.specs.declared.Kind.{Kind}
 use Rattle.rules.specs.Rules.{byKind}
 use Rattle.layout.proofs.Cut.{length-part}
 use Rattle.layout.proofs.Private.{copied-all}
-use borrow.Author.Needs.{needs}
 use Rattle.header_reader.proofs.reader.read_private.Statement.{statement}
 use Rattle.header_reader.proofs.reader.read_private.Tie as tie
 
@@ -17,37 +16,37 @@ by-kind : (a b : List ℕ) {kind known : Kind} → kind ≡ known → byKind kno
 by-kind a b e = ap (λ (k : Kind). byKind k a b) (sym e)
 
 enum-told : tie.Need-enum-told
-enum-told c = search needs
+enum-told c = omega arith
 
 sub-copy : tie.Need-sub-copy
-sub-copy c = search needs
+sub-copy c = omega arith
 
 part-copy-start : tie.Need-part-copy-start
-part-copy-start c = search needs
+part-copy-start c = omega arith
 
 part-copy-end : tie.Need-part-copy-end
-part-copy-end c = search needs
+part-copy-end c = omega arith
 
 copy-requires : tie.Need-copy-requires
-copy-requires c κs = search needs
+copy-requires c κs = omega arith
 
 enum-told-2 : tie.Need-enum-told-2
-enum-told-2 c = search needs
+enum-told-2 c = omega arith
 
 sub-copy-2 : tie.Need-sub-copy-2
-sub-copy-2 c = search needs
+sub-copy-2 c = omega arith
 
 part-copy-start-2 : tie.Need-part-copy-start-2
-part-copy-start-2 c = search needs
+part-copy-start-2 c = omega arith
 
 part-copy-end-2 : tie.Need-part-copy-end-2
-part-copy-end-2 c = search needs
+part-copy-end-2 c = omega arith
 
 copy-requires-2 : tie.Need-copy-requires-2
-copy-requires-2 c κs = search needs
+copy-requires-2 c κs = omega arith
 
 same-length : tie.Need-same-length
-same-length c = search needs
+same-length c = omega arith
 
 returns : tie.Need-returns
 returns c =
@@ -62,7 +61,7 @@ returns c =
     )
 
 same-length-2 : tie.Need-same-length-2
-same-length-2 c = search needs
+same-length-2 c = omega arith
 
 returns-2 : tie.Need-returns-2
 returns-2 c =

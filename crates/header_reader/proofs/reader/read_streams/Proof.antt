@@ -4,42 +4,42 @@ use lib.ListN.{length}
 use Rattle.bits.proofs.Laws.{fit-of}
 use Rattle.layout.specs.Header.{firsts, seconds, reading}
 use Rattle.layout.proofs.Said.{identifiers, status}
-use borrow.Author.Needs.{needs}
+use native.Mathlib.Omega.{arith}
 use Rattle.header_reader.proofs.reader.read_streams.Statement.{statement}
 use Rattle.header_reader.proofs.reader.read_streams.Tie as tie
 
 sub-read-identifiers : tie.Need-sub-read-identifiers
-sub-read-identifiers c = search needs
+sub-read-identifiers c = omega arith
 
 part-read-identifiers-start : tie.Need-part-read-identifiers-start
-part-read-identifiers-start c = search needs
+part-read-identifiers-start c = omega arith
 
 part-read-identifiers-end : tie.Need-part-read-identifiers-end
-part-read-identifiers-end c = search needs
+part-read-identifiers-end c = omega arith
 
 read-identifiers-requires : tie.Need-read-identifiers-requires
-read-identifiers-requires c κs = search needs
+read-identifiers-requires c κs = omega arith
 
 sub-read-run : tie.Need-sub-read-run
-sub-read-run c = search needs
+sub-read-run c = omega arith
 
 part-read-run-start : tie.Need-part-read-run-start
-part-read-run-start c = search needs
+part-read-run-start c = omega arith
 
 part-read-run-end : tie.Need-part-read-run-end
-part-read-run-end c = search needs
+part-read-run-end c = omega arith
 
 read-run-requires : tie.Need-read-run-requires
-read-run-requires c κs = search needs
+read-run-requires c κs = omega arith
 
 same-length : tie.Need-same-length
-same-length c = search needs
+same-length c = omega arith
 
 same-length-2 : tie.Need-same-length-2
-same-length-2 c = search needs
+same-length-2 c = omega arith
 
 same-length-3 : tie.Need-same-length-3
-same-length-3 c = search needs
+same-length-3 c = omega arith
 
 returns : tie.Need-returns
 unfolding reading

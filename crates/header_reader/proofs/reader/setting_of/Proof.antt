@@ -2,51 +2,51 @@
 use mathlib.Core.Path.{_∙_}
 use Rattle.bits.proofs.Laws.{fit-of}
 use Rattle.layout.proofs.Said.{privates-are, auxiliaries-are, numbers-are, said}
-use borrow.Author.Needs.{needs}
+use native.Mathlib.Omega.{arith}
 use Rattle.header_reader.proofs.reader.setting_of.Statement.{statement}
 use Rattle.header_reader.proofs.reader.setting_of.Tie as tie
 
 slice-aggregate-read-streams : tie.Need-slice-aggregate-read-streams
-slice-aggregate-read-streams c = search needs
+slice-aggregate-read-streams c = omega arith
 
 slice-aggregate-read-streams-2 : tie.Need-slice-aggregate-read-streams-2
-slice-aggregate-read-streams-2 c = search needs
+slice-aggregate-read-streams-2 c = omega arith
 
 slice-aggregate-read-streams-3 : tie.Need-slice-aggregate-read-streams-3
-slice-aggregate-read-streams-3 c = search needs
+slice-aggregate-read-streams-3 c = omega arith
 
 read-streams-requires : tie.Need-read-streams-requires
-read-streams-requires c κs = search needs
+read-streams-requires c κs = omega arith
 
 slice-aggregate-read-halves : tie.Need-slice-aggregate-read-halves
-slice-aggregate-read-halves c = search needs
+slice-aggregate-read-halves c = omega arith
 
 sub-read-halves : tie.Need-sub-read-halves
-sub-read-halves c = search needs
+sub-read-halves c = omega arith
 
 part-read-halves-start : tie.Need-part-read-halves-start
-part-read-halves-start c = search needs
+part-read-halves-start c = omega arith
 
 part-read-halves-end : tie.Need-part-read-halves-end
-part-read-halves-end c = search needs
+part-read-halves-end c = omega arith
 
 read-halves-requires : tie.Need-read-halves-requires
-read-halves-requires c κs = search needs
+read-halves-requires c κs = omega arith
 
 slice-aggregate-read-private : tie.Need-slice-aggregate-read-private
-slice-aggregate-read-private c = search needs
+slice-aggregate-read-private c = omega arith
 
 slice-aggregate-read-private-2 : tie.Need-slice-aggregate-read-private-2
-slice-aggregate-read-private-2 c = search needs
+slice-aggregate-read-private-2 c = omega arith
 
 read-private-requires : tie.Need-read-private-requires
-read-private-requires c κs = search needs
+read-private-requires c κs = omega arith
 
 fields-of-requires : tie.Need-fields-of-requires
-fields-of-requires c κs = search needs
+fields-of-requires c κs = omega arith
 
 bonding-of-requires : tie.Need-bonding-of-requires
-bonding-of-requires c κs = search needs
+bonding-of-requires c κs = omega arith
 
 returns : tie.Need-returns
 returns c =

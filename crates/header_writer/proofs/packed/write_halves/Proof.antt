@@ -2,7 +2,6 @@
 use Prim.Native.Nat.{_+_, _-_, _*_, _≤_}
 use mathlib.Core.Path.{_≡_, refl, sym, ap, _∙_}
 use native.Mathlib.Omega.{arith}
-use borrow.Author.Needs.{needs}
 use lib.ListN.{length, take, length-set}
 use lib.Seq.{take-all}
 use Rattle.bits.specs.Fields.{run}
@@ -23,22 +22,22 @@ unfolding run
 loop-holds c = (omega arith, refl, refl)
 
 mul-part : tie.Need-mul-part Inv-loop μ-loop
-mul-part c = search needs
+mul-part c = omega arith
 
 shared-slice-read-part : tie.Need-shared-slice-read-part Inv-loop μ-loop
-shared-slice-read-part c = search needs
+shared-slice-read-part c = omega arith
 
 mul-part-2 : tie.Need-mul-part-2 Inv-loop μ-loop
 mul-part-2 c = let start = c .before .before .before in omega (arith, fit-getD (start .pre .0) (2 * c .before .before .loop .k))
 
 mul-part-3 : tie.Need-mul-part-3 Inv-loop μ-loop
-mul-part-3 c = search needs
+mul-part-3 c = omega arith
 
 add-part : tie.Need-add-part Inv-loop μ-loop
-add-part c = search needs
+add-part c = omega arith
 
 shared-slice-read-part-2 : tie.Need-shared-slice-read-part-2 Inv-loop μ-loop
-shared-slice-read-part-2 c = search needs
+shared-slice-read-part-2 c = omega arith
 
 add-part-2 : tie.Need-add-part-2 Inv-loop μ-loop
 add-part-2 c =
@@ -47,13 +46,13 @@ add-part-2 c =
     omega (arith, fit-getD (start .pre .0) (2 * k), fit-getD (start .pre .0) (2 * k + 1))
 
 slice-write-part : tie.Need-slice-write-part Inv-loop μ-loop
-slice-write-part c = search needs
+slice-write-part c = omega arith
 
 add-k : tie.Need-add-k Inv-loop μ-loop
-add-k c = search needs
+add-k c = omega arith
 
 loop-less : tie.Need-loop-less Inv-loop μ-loop
-loop-less c = search needs
+loop-less c = omega arith
 
 loop-again : tie.Need-loop-again Inv-loop μ-loop
 loop-again c =
@@ -66,7 +65,7 @@ loop-again c =
     )
 
 same-length : tie.Need-same-length Inv-loop μ-loop
-same-length c = search needs
+same-length c = omega arith
 
 returns : tie.Need-returns Inv-loop μ-loop
 returns c =

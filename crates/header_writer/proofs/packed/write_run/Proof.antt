@@ -4,7 +4,6 @@ use mathlib.Core.Path.{_≡_, refl, sym, ap, _∙_}
 use mathlib.Core.Logic.{⊎-elim}
 use mathlib.Core.List.{List, _++_}
 use native.Mathlib.Omega.{arith}
-use borrow.Author.Needs.{needs}
 use lib.ListN.{length, take, getD, length-set}
 use lib.Seq.{take-all, take-length}
 use Rattle.bits.specs.Fields.{bitsOf, run}
@@ -48,10 +47,10 @@ room c =
     omega arith
 
 shl-held : tie.Need-shl-held Inv-loop μ-loop
-shl-held c = search needs
+shl-held c = omega arith
 
 shared-slice-read-held : tie.Need-shared-slice-read-held Inv-loop μ-loop
-shared-slice-read-held c = search needs
+shared-slice-read-held c = omega arith
 
 cast-held : tie.Need-cast-held Inv-loop μ-loop
 cast-held c = omega (arith, c .shared-slice-known .given (c .before .before .loop .i))
@@ -61,13 +60,13 @@ add-held c =
     record { fits = moved-fits (c .before .before .before .args .width) (c .before .before .loop .held) _ (c .before .before .before .pre .0) (c .shared-slice-known .given (c .before .before .loop .i) .fits) }
 
 add-bits : tie.Need-add-bits Inv-loop μ-loop
-add-bits c = search needs
+add-bits c = omega arith
 
 shr-part : tie.Need-shr-part Inv-loop μ-loop
-shr-part c = search needs
+shr-part c = omega arith
 
 cast-part : tie.Need-cast-part Inv-loop μ-loop
-cast-part c = search needs
+cast-part c = omega arith
 
 slice-write-part : tie.Need-slice-write-part Inv-loop μ-loop
 slice-write-part c = room c
@@ -76,10 +75,10 @@ add-at : tie.Need-add-at Inv-loop μ-loop
 add-at c = let r = room c in let l = c .before .before .before .before .good .0 .0 in omega arith
 
 add-i : tie.Need-add-i Inv-loop μ-loop
-add-i c = search needs
+add-i c = omega arith
 
 loop-less : tie.Need-loop-less Inv-loop μ-loop
-loop-less c = search needs
+loop-less c = omega arith
 
 loop-again : tie.Need-loop-again Inv-loop μ-loop
 loop-again c =
@@ -99,7 +98,7 @@ loop-again c =
     (c .if1 .came)
 
 same-length : tie.Need-same-length Inv-loop μ-loop
-same-length c = search needs
+same-length c = omega arith
 
 returns : tie.Need-returns Inv-loop μ-loop
 returns c =

@@ -76,7 +76,7 @@ part-write-start-start : tie.Need-part-write-start-start
 part-write-start-start c = omega arith
 
 part-write-start-end : tie.Need-part-write-start-end
-part-write-start-end c = search needs
+part-write-start-end c = omega arith
 
 write-start-requires : tie.Need-write-start-requires
 write-start-requires c κs = search needs
@@ -144,10 +144,10 @@ part-write-private-end : tie.Need-part-write-private-end
 part-write-private-end c = omega (arith, whole₄ (c .before .before))
 
 write-private-requires : tie.Need-write-private-requires
-write-private-requires c κs = search needs
+write-private-requires c κs = omega arith
 
 same-length : tie.Need-same-length
-same-length c = search needs
+same-length c = omega arith
 
 returns : tie.Need-returns
 returns c =

@@ -16,7 +16,7 @@ unfolding bondingChecks
 small c = bonded (none-first (bondingChecks Kind.Extended (c .args .s)) refl (c .pre .1))
 
 slice-write-part : tie.Need-slice-write-part
-slice-write-part c = search needs
+slice-write-part c = omega arith
 
 slice-write-part-2 : tie.Need-slice-write-part-2
 slice-write-part-2 c = search needs

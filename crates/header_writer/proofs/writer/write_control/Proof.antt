@@ -14,13 +14,13 @@ statuses : (c : tie.Start) → length (c .args .s .«receive_status») ≡ lastS
 statuses c = search needs
 
 sub-write-run : tie.Need-sub-write-run
-sub-write-run c = search needs
+sub-write-run c = omega arith
 
 part-write-run-start : tie.Need-part-write-run-start
-part-write-run-start c = search needs
+part-write-run-start c = omega arith
 
 part-write-run-end : tie.Need-part-write-run-end
-part-write-run-end c = search needs
+part-write-run-end c = omega arith
 
 slice-aggregate-write-run : tie.Need-slice-aggregate-write-run
 slice-aggregate-write-run c = search needs
@@ -32,22 +32,22 @@ write-run-requires c κs =
     (omega arith, (start .pre .1 .statuses, length-take-le 3 (start .args .part .now) (omega (arith, start .pre)) ∙ omega arith))
 
 mul-part : tie.Need-mul-part
-mul-part c = search needs
+mul-part c = omega arith
 
 cast-part : tie.Need-cast-part
-cast-part c = search needs
+cast-part c = omega arith
 
 mul-part-2 : tie.Need-mul-part-2
-mul-part-2 c = search needs
+mul-part-2 c = omega arith
 
 add-part : tie.Need-add-part
-add-part c = search needs
+add-part c = omega arith
 
 add-part-2 : tie.Need-add-part-2
-add-part-2 c = search needs
+add-part-2 c = omega arith
 
 slice-write-part : tie.Need-slice-write-part
-slice-write-part c = search needs
+slice-write-part c = omega arith
 
 same-length : tie.Need-same-length
 same-length c = search needs

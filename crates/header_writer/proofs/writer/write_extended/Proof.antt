@@ -16,52 +16,52 @@ auxiliaries : (c : tie.Start) → length (c .args .s .auxiliary) ≡ auxiliaryBy
 auxiliaries c = search needs
 
 sub-copy : tie.Need-sub-copy
-sub-copy c = search needs
+sub-copy c = omega arith
 
 part-copy-start : tie.Need-part-copy-start
-part-copy-start c = search needs
+part-copy-start c = omega arith
 
 part-copy-end : tie.Need-part-copy-end
-part-copy-end c = search needs
+part-copy-end c = omega arith
 
 slice-aggregate-copy : tie.Need-slice-aggregate-copy
 slice-aggregate-copy c = search needs
 
 copy-requires : tie.Need-copy-requires
-copy-requires c κs = search needs
+copy-requires c κs = omega arith
 
 add-write-bonding : tie.Need-add-write-bonding
-add-write-bonding c = search needs
+add-write-bonding c = omega arith
 
 sub-write-bonding : tie.Need-sub-write-bonding
-sub-write-bonding c = search needs
+sub-write-bonding c = omega arith
 
 part-write-bonding-start : tie.Need-part-write-bonding-start
-part-write-bonding-start c = search needs
+part-write-bonding-start c = omega arith
 
 part-write-bonding-end : tie.Need-part-write-bonding-end
-part-write-bonding-end c = search needs
+part-write-bonding-end c = omega arith
 
 write-bonding-requires : tie.Need-write-bonding-requires
-write-bonding-requires c κs = search needs
+write-bonding-requires c κs = omega arith
 
 add-fill : tie.Need-add-fill
-add-fill c = search needs
+add-fill c = omega arith
 
 sub-fill : tie.Need-sub-fill
-sub-fill c = search needs
+sub-fill c = omega arith
 
 part-fill-start : tie.Need-part-fill-start
-part-fill-start c = search needs
+part-fill-start c = omega arith
 
 part-fill-end : tie.Need-part-fill-end
-part-fill-end c = search needs
+part-fill-end c = omega arith
 
 fill-requires : tie.Need-fill-requires
-fill-requires c κs = search needs
+fill-requires c κs = omega arith
 
 same-length : tie.Need-same-length
-same-length c = search needs
+same-length c = omega arith
 
 returns : tie.Need-returns
 unfolding bondingChecks

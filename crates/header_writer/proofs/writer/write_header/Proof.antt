@@ -10,43 +10,43 @@ use Rattle.header_writer.proofs.writer.write_header.Statement.{statemen
 use Rattle.header_writer.proofs.writer.write_header.Tie as tie
 
 sub-write-body : tie.Need-sub-write-body
-sub-write-body c = search needs
+sub-write-body c = omega arith
 
 part-write-body-start : tie.Need-part-write-body-start
-part-write-body-start c = search needs
+part-write-body-start c = omega arith
 
 part-write-body-end : tie.Need-part-write-body-end
-part-write-body-end c = search needs
+part-write-body-end c = omega arith
 
 write-body-requires : tie.Need-write-body-requires
 write-body-requires c κs = search needs
 
 sub-register : tie.Need-sub-register
-sub-register c = search needs
+sub-register c = omega arith
 
 part-register-start : tie.Need-part-register-start
-part-register-start c = search needs
+part-register-start c = omega arith
 
 part-register-end : tie.Need-part-register-end
-part-register-end c = search needs
+part-register-end c = omega arith
 
 register-requires : tie.Need-register-requires
-register-requires c κs = search needs
+register-requires c κs = omega arith
 
 sub-write-word : tie.Need-sub-write-word
-sub-write-word c = search needs
+sub-write-word c = omega arith
 
 part-write-word-start : tie.Need-part-write-word-start
-part-write-word-start c = search needs
+part-write-word-start c = omega arith
 
 part-write-word-end : tie.Need-part-write-word-end
-part-write-word-end c = search needs
+part-write-word-end c = omega arith
 
 write-word-requires : tie.Need-write-word-requires
-write-word-requires c κs = search needs
+write-word-requires c κs = omega arith
 
 same-length : tie.Need-same-length
-same-length c = search needs
+same-length c = omega arith
 
 returns : tie.Need-returns
 returns c =

@@ -3,7 +3,6 @@ use Prim.Native.Nat.{ℕ, _-_, _*_, _≤_}
 use mathlib.Core.Path.{_≡_, refl, sym, ap, ap₂, _∙_}
 use mathlib.Core.List.{List}
 use native.Mathlib.Omega.{arith}
-use borrow.Author.Needs.{needs}
 use lib.ListN.{length, take, length-set}
 use lib.Seq.{take-all}
 use Rattle.bits.specs.Fields.{run}
@@ -24,16 +23,16 @@ unfolding paired run
 loop-holds c = (omega arith, omega arith, refl, refl)
 
 mul-ts-id : tie.Need-mul-ts-id Inv-loop μ-loop
-mul-ts-id c = search needs
+mul-ts-id c = omega arith
 
 shared-slice-read-ts-id : tie.Need-shared-slice-read-ts-id Inv-loop μ-loop
-shared-slice-read-ts-id c = search needs
+shared-slice-read-ts-id c = omega arith
 
 mul-network-id : tie.Need-mul-network-id Inv-loop μ-loop
-mul-network-id c = search needs
+mul-network-id c = omega arith
 
 shared-slice-read-network-id : tie.Need-shared-slice-read-network-id Inv-loop μ-loop
-shared-slice-read-network-id c = search needs
+shared-slice-read-network-id c = omega arith
 
 cast-part : tie.Need-cast-part Inv-loop μ-loop
 cast-part c = omega (arith, c .before .shared-slice-known .given (c .before .before .before .loop .k))
@@ -42,10 +41,10 @@ slice-write-part : tie.Need-slice-write-part Inv-loop μ-loop
 slice-write-part c = omega arith
 
 cast-part-2 : tie.Need-cast-part-2 Inv-loop μ-loop
-cast-part-2 c = search needs
+cast-part-2 c = omega arith
 
 add-part : tie.Need-add-part Inv-loop μ-loop
-add-part c = search needs
+add-part c = omega arith
 
 slice-write-part-2 : tie.Need-slice-write-part-2 Inv-loop μ-loop
 slice-write-part-2 c = simp length-set (omega arith)
@@ -54,28 +53,28 @@ cast-part-3 : tie.Need-cast-part-3 Inv-loop μ-loop
 cast-part-3 c = omega (arith, c .shared-slice-known2 .given (c .before .before .before .loop .k))
 
 add-part-2 : tie.Need-add-part-2 Inv-loop μ-loop
-add-part-2 c = search needs
+add-part-2 c = omega arith
 
 slice-write-part-3 : tie.Need-slice-write-part-3 Inv-loop μ-loop
 slice-write-part-3 c = simp length-set (omega arith)
 
 cast-part-4 : tie.Need-cast-part-4 Inv-loop μ-loop
-cast-part-4 c = search needs
+cast-part-4 c = omega arith
 
 add-part-3 : tie.Need-add-part-3 Inv-loop μ-loop
-add-part-3 c = search needs
+add-part-3 c = omega arith
 
 slice-write-part-4 : tie.Need-slice-write-part-4 Inv-loop μ-loop
 slice-write-part-4 c = simp length-set (omega arith)
 
 add-at : tie.Need-add-at Inv-loop μ-loop
-add-at c = search needs
+add-at c = omega arith
 
 add-k : tie.Need-add-k Inv-loop μ-loop
-add-k c = search needs
+add-k c = omega arith
 
 loop-less : tie.Need-loop-less Inv-loop μ-loop
-loop-less c = search needs
+loop-less c = omega arith
 
 loop-again : tie.Need-loop-again Inv-loop μ-loop
 loop-again c =

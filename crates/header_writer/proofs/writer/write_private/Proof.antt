@@ -11,6 +11,7 @@ use Rattle.layout.specs.Rows.{pack}
 use Rattle.layout.specs.Layout.{privateRows}
 use Rattle.layout.specs.Header.{privateContent}
 use Rattle.layout.proofs.Private.{copied-all}
+use native.Mathlib.Omega.{arith}
 use borrow.Author.Needs.{needs}
 use Rattle.header_writer.proofs.writer.write_private.Statement.{statement}
 use Rattle.header_writer.proofs.writer.write_private.Tie as tie
@@ -19,16 +20,16 @@ privates : (c : tie.Start) → length (c .args .s .«private_data») ≡ private
 privates c = search needs
 
 enum-told : tie.Need-enum-told
-enum-told c = search needs
+enum-told c = omega arith
 
 slice-aggregate-copy : tie.Need-slice-aggregate-copy
 slice-aggregate-copy c = search needs
 
 copy-requires : tie.Need-copy-requires
-copy-requires c κs = search needs
+copy-requires c κs = omega arith
 
 enum-told-2 : tie.Need-enum-told-2
-enum-told-2 c = search needs
+enum-told-2 c = omega arith
 
 write-extended-requires : tie.Need-write-extended-requires
 write-extended-requires c κs =
@@ -36,7 +37,7 @@ write-extended-requires c κs =
     (start .pre .0, subst (λ (k : Kind). firstOf (bondingChecks k (start .args .s)) ≡ 0) (c .before .enum-told2 .given .1) (start .pre .1))
 
 same-length : tie.Need-same-length
-same-length c = search needs
+same-length c = omega arith
 
 returns : tie.Need-returns
 unfolding pack privateRows privateContent
@@ -49,7 +50,7 @@ returns c =
     ∙ sym (ap (λ (k : Kind). pack (privateRows k) (privateContent k s)) (told .enum-told .given .1) ∙ append-nil (run 8 (s .«private_data»)))
 
 same-length-2 : tie.Need-same-length-2
-same-length-2 c = search needs
+same-length-2 c = omega arith
 
 returns-2 : tie.Need-returns-2
 returns-2 c =

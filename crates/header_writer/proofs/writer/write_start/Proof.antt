@@ -3,51 +3,51 @@ use mathlib.Core.Path.{ap, _∙_}
 use Rattle.bits.specs.Fields.{run}
 use Rattle.layout.proofs.Private.{copied-all}
 use Rattle.layout.proofs.Start.{startBytes, start-bits}
-use borrow.Author.Needs.{needs}
+use native.Mathlib.Omega.{arith}
 use Rattle.header_writer.proofs.writer.write_start.Statement.{statement}
 use Rattle.header_writer.proofs.writer.write_start.Tie as tie
 
 cast-t6 : tie.Need-cast-t6
-cast-t6 c = search needs
+cast-t6 c = omega arith
 
 cast-t8 : tie.Need-cast-t8
-cast-t8 c = search needs
+cast-t8 c = omega arith
 
 add-t9 : tie.Need-add-t9
-add-t9 c = search needs
+add-t9 c = omega arith
 
 mul-t10 : tie.Need-mul-t10
-mul-t10 c = search needs
+mul-t10 c = omega arith
 
 mul-t11 : tie.Need-mul-t11
-mul-t11 c = search needs
+mul-t11 c = omega arith
 
 add-t12 : tie.Need-add-t12
-add-t12 c = search needs
+add-t12 c = omega arith
 
 add-t13 : tie.Need-add-t13
-add-t13 c = search needs
+add-t13 c = omega arith
 
 cast-t15 : tie.Need-cast-t15
-cast-t15 c = search needs
+cast-t15 c = omega arith
 
 mul-t17 : tie.Need-mul-t17
-mul-t17 c = search needs
+mul-t17 c = omega arith
 
 add-t18 : tie.Need-add-t18
-add-t18 c = search needs
+add-t18 c = omega arith
 
 cast-t19 : tie.Need-cast-t19
-cast-t19 c = search needs
+cast-t19 c = omega arith
 
 slice-aggregate-copy : tie.Need-slice-aggregate-copy
-slice-aggregate-copy c = search needs
+slice-aggregate-copy c = omega arith
 
 copy-requires : tie.Need-copy-requires
-copy-requires c κs = search needs
+copy-requires c κs = omega arith
 
 same-length : tie.Need-same-length
-same-length c = search needs
+same-length c = omega arith
 
 returns : tie.Need-returns
 returns c =

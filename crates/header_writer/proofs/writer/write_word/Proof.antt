@@ -12,25 +12,25 @@ use Rattle.header_writer.proofs.writer.write_word.Statement.{statement}
 use Rattle.header_writer.proofs.writer.write_word.Tie as tie
 
 cast-part : tie.Need-cast-part
-cast-part c = search needs
+cast-part c = omega arith
 
 slice-write-part : tie.Need-slice-write-part
-slice-write-part c = search needs
+slice-write-part c = omega arith
 
 cast-part-2 : tie.Need-cast-part-2
-cast-part-2 c = search needs
+cast-part-2 c = omega arith
 
 slice-write-part-2 : tie.Need-slice-write-part-2
 slice-write-part-2 c = search needs
 
 cast-part-3 : tie.Need-cast-part-3
-cast-part-3 c = search needs
+cast-part-3 c = omega arith
 
 slice-write-part-3 : tie.Need-slice-write-part-3
 slice-write-part-3 c = search needs
 
 cast-part-4 : tie.Need-cast-part-4
-cast-part-4 c = search needs
+cast-part-4 c = omega arith
 
 slice-write-part-4 : tie.Need-slice-write-part-4
 slice-write-part-4 c = search needs

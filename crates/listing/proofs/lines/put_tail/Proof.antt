@@ -1,6 +1,5 @@
 -- `put_tail` meets its contract: nothing, or the word and the number behind it. Assumes nothing.
 use native.Mathlib.Omega.{arith}
-use borrow.Author.Needs.{needs}
 use borrow.Author.Tests.{eq-eqb, ne-eqb}
 use Rattle.listing.specs.Listing.{tailLine}
 use Rattle.listing.proofs.Putting.{puts-none, puts-then}
@@ -12,16 +11,16 @@ unfolding tailLine
 returns c = (rw (eq-eqb _ _ (c .if1 .taken)) (puts-none _ _), omega arith)
 
 slice-aggregate-put-field : tie.Need-slice-aggregate-put-field
-slice-aggregate-put-field c = search needs
+slice-aggregate-put-field c = omega arith
 
 put-field-requires : tie.Need-put-field-requires
-put-field-requires c κs = search needs
+put-field-requires c κs = omega arith
 
 put-number-requires : tie.Need-put-number-requires
-put-number-requires c κs = search needs
+put-number-requires c κs = omega arith
 
 same-length : tie.Need-same-length
-same-length c = search needs
+same-length c = omega arith
 
 returns-2 : tie.Need-returns-2
 unfolding tailLine

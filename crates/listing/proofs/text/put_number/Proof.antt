@@ -1,19 +1,18 @@
 -- `put_number` meets its contract: what `decimal` gives is the number's text. Assumes nothing.
 use Prim.Native.Nat.{_≤_}
-use borrow.Author.Needs.{needs}
 use native.Mathlib.Omega.{arith}
 use Rattle.listing.proofs.Decimal.{at-most-twenty, is-decimal}
 use Rattle.listing.proofs.text.put_number.Statement.{statement}
 use Rattle.listing.proofs.text.put_number.Tie as tie
 
 decimal-requires : tie.Need-decimal-requires
-decimal-requires c κs = search needs
+decimal-requires c κs = omega arith
 
 array-share-prefix-digits : tie.Need-array-share-prefix-digits
-array-share-prefix-digits c = search needs
+array-share-prefix-digits c = omega arith
 
 slice-aggregate-put-field : tie.Need-slice-aggregate-put-field
-slice-aggregate-put-field c = search needs
+slice-aggregate-put-field c = omega arith
 
 put-field-requires : tie.Need-put-field-requires
 put-field-requires c κs =
@@ -22,7 +21,7 @@ put-field-requires c κs =
     omega (arith, few, d .ensures .0 .1)
 
 same-length : tie.Need-same-length
-same-length c = search needs
+same-length c = omega arith
 
 returns : tie.Need-returns
 returns c =
