@@ -31,11 +31,12 @@ await() {
 }
 
 # The archive is made when its crates are proved, while rt proves the tools, the longest crate, alone; one crate of it at a time, since the
-# other core is taken. The programs are there when rt goes on to the wrong programs.
+# other core is taken. The programs are there when rt goes on to the wrong programs. All of it takes what rt leaves: where one of two checks
+# ends before the other, a core is free.
+aside() { nice -n 19 make --no-print-directory "$@"; }
 beside() {
-    nice -n 19 make --no-print-directory x86-64 rust-test &&
-        await "${@/#/target/stamp/}" && nice -n 19 make --no-print-directory AT_ONCE=1 archive archive-test &&
-        await target/must-fail && make --no-print-directory tools-test limits-test
+    aside x86-64 rust-test && await "${@/#/target/stamp/}" && aside AT_ONCE=1 archive archive-test &&
+        await target/must-fail && aside tools-test limits-test
 }
 beside "$@" >"$logs/beside" 2>&1 &
 others=$!

@@ -215,10 +215,11 @@ fn frames_lost_in_both_carriers() {
 }
 
 /// Nothing of the super frame in which it ends comes out, and nothing later.
+/// An emulator tries one carrier in so many.
 #[test]
 fn one_carrier_cut_short() {
     let sent = Sent::new(25, &EIGHT, 6);
-    for c in 0..EIGHT.len() {
+    for c in (0..EIGHT.len()).step_by(part()) {
         for bytes_behind in [0, 1, 187] {
             let mut arrived = sent.arrived();
             let packets = FRAME_PACKETS * EIGHT[c].0 * 4;
