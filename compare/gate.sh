@@ -35,7 +35,7 @@ await() {
 # ends before the other, a core is free.
 aside() { nice -n 19 make --no-print-directory "$@"; }
 beside() {
-    aside x86-64 rust-test && await "${@/#/target/stamp/}" && aside AT_ONCE=1 archive archive-test &&
+    aside x86-64 && await "${@/#/target/stamp/}" && aside AT_ONCE=1 archive archive-test && aside rust-test &&
         await target/must-fail && aside tools-test limits-test
 }
 beside "$@" >"$logs/beside" 2>&1 &
@@ -46,5 +46,6 @@ wait "$proofs" || failed=1
 wait "$others" || failed=1
 cat "$logs/beside"
 [ "$failed" -eq 0 ] || echo 'the gate FAILED: see above'
+echo "the gate took $((SECONDS / 60)) min $((SECONDS % 60)) s"
 tail -n 1 "$logs/proofs"
 exit "$failed"
