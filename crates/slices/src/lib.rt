@@ -1,5 +1,7 @@
 // Slices of bytes: copied, filled, tested.
 ghost use mathlib.Core.Path.{_≡_};
+ghost use mathlib.Core.Bool.{false};
+ghost use Prim.Native.Nat.{_<_};
 ghost use lib.ListN.{length, replicate};
 ghost use Rattle.slices.specs.Slices.{copied, someAtLeast};
 
@@ -46,4 +48,21 @@ pub fn some_at_least(xs: &[u8], limit: u8) -> bool
         i += 1;
     }
     limit <= most
+}
+
+// What is handed over as a byte is below 256.
+fn is_byte(x: u8)
+    ensures { λ _. ⌜ x < 256 ⌝ }
+{
+}
+
+// Looks at each element and does nothing with it, so that a compiler leaves it out: a slice's elements are bytes.
+pub fn look(xs: &[u8])
+    ensures { λ _. ⌜ someAtLeast 256 (now (xs .entry)) ≡ false ⌝ }
+{
+    let mut i = 0;
+    while i < xs.len() {
+        is_byte(xs[i]);
+        i += 1;
+    }
 }
