@@ -37,6 +37,10 @@ composerBytes c =
     ++ (settingBytes (c .setting)
     ++ map markByte (c .filled))))
 
+-- the marks that bytes are
+abbrev pub marksOf : List ℕ → List Bool
+marksOf bytes = map (λ (n : ℕ). eqb n 1) bytes
+
 -- whether bytes are a state's, whatever its numbers: the kind is one, and every mark is 0 or 1
 unfoldable pub isCoded : List ℕ → Bool
 isCoded b = isKind (getD b 2 0) && (ltb (getD b 85 0) 2 && not (someAtLeast 2 (part 338 52 b)))
@@ -55,7 +59,7 @@ composerOf b =
       last = announcedOf (part 5 80 b);
       «is_open» = eqb (getD b 85 0) 1;
       setting = settingOf (part 86 252 b);
-      filled = map (λ (n : ℕ). eqb n 1) (part 338 52 b);
+      filled = marksOf (part 338 52 b);
     }
 
 -- bytes of a state's length are taken as they are, any others for zeros

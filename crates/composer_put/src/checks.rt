@@ -1,31 +1,43 @@
 // What put asks of its state and of what it is lent, in the table's order.
 use crate::slots;
-use composer_state::Composer;
+use composer_bytes::AVAILABILITY;
+use composer_bytes::COMPOSER_BYTES;
+use composer_bytes::FILLED;
+use composer_bytes::PLAN;
 use counters::RelativeNumber;
 use packet::FRAME_BYTES;
 use packet::PACKET_BYTES;
+use setting::SLOTS;
 ghost use mathlib.Core.Path.{_≡_};
+ghost use lib.ListN.{length};
 ghost use Rattle.refusal_table.specs.Refusal.{firstOf};
 ghost use Rattle.composer_state.specs.Composing.{streamChecks, putRefusal};
+ghost use Rattle.composer_bytes.specs.States.{composerLength, composerOf};
 
 // 13 and 12: what is asked of the packets that would be placed.
-fn stream_refusal(c: Composer, stream: &[u8], r: RelativeNumber) -> u8
-    ensures { λ t. ⌜ t ≡ firstOf (streamChecks c (r .0) (now (stream .entry))) ⌝ }
+fn stream_refusal(state: &[u8], stream: &[u8], r: RelativeNumber) -> u8
+    requires { ⌜ length (now state) ≡ composerLength ⌝ }
+    ensures { λ t. ⌜ t ≡ firstOf (streamChecks (composerOf (now (state .entry))) (r .0) (now (stream .entry))) ⌝ }
 {
-    let setting = c.setting;
-    if !r.is_available(setting.availability) {
+    if !r.is_available(words::word(state[AVAILABILITY], state[AVAILABILITY + 1])) {
         return 13;
     }
-    let plan = setting.relative_ts_number;
-    let filled = c.filled;
-    if slots::has_unfit(stream, &plan, &filled, r.0, c.pid) {
+    let pid = words::word(state[0], state[1]);
+    if slots::has_unfit(
+        stream,
+        &state[PLAN..PLAN + SLOTS],
+        &state[FILLED..COMPOSER_BYTES],
+        r.0,
+        pid,
+    ) {
         return 12;
     }
     0
 }
 
-pub(crate) fn put_refusal(c: Composer, stream: &[u8], r: RelativeNumber, lent: usize) -> u8
-    ensures { λ t. ⌜ t ≡ putRefusal c (r .0) (now (stream .entry)) lent ⌝ }
+pub(crate) fn put_refusal(state: &[u8], stream: &[u8], r: RelativeNumber, lent: usize) -> u8
+    requires { ⌜ length (now state) ≡ composerLength ⌝ }
+    ensures { λ t. ⌜ t ≡ putRefusal (composerOf (now (state .entry))) (r .0) (now (stream .entry)) lent ⌝ }
 {
     if lent != FRAME_BYTES {
         return 1;
@@ -33,9 +45,9 @@ pub(crate) fn put_refusal(c: Composer, stream: &[u8], r: RelativeNumber, lent: u
     if stream.len() % PACKET_BYTES != 0 {
         return 1;
     }
-    let state = composer_state::state_refusal(c);
-    if state != 0 {
-        return state;
+    let refused = composer_in_place::state_refusal(state);
+    if refused != 0 {
+        return refused;
     }
     if r.0 < RelativeNumber::FIRST {
         return 17;
@@ -43,9 +55,9 @@ pub(crate) fn put_refusal(c: Composer, stream: &[u8], r: RelativeNumber, lent: u
     if RelativeNumber::LAST < r.0 {
         return 17;
     }
-    let not_open = composer_open::open_refusal(c);
+    let not_open = composer_in_place::open_refusal(state);
     if not_open != 0 {
         return not_open;
     }
-    stream_refusal(c, stream, r)
+    stream_refusal(state, stream, r)
 }

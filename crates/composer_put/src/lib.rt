@@ -1,39 +1,49 @@
-// Packets of a stream put into the slots of an open frame.
+// Packets of a stream put into the slots of an open frame. The run's state is lent bytes, of which the filled marks change.
 mod checks;
 mod slots;
 
-use composer_state::Composer;
-use composer_state::Placed;
+use composer_bytes::COMPOSER_BYTES;
+use composer_bytes::FILLED;
+use composer_bytes::PLAN;
 use counters::RelativeNumber;
 use packet::PACKET_BYTES;
+use setting::SLOTS;
 ghost use mathlib.Core.Path.{_≡_};
-ghost use lib.ListN.{length};
-ghost use Rattle.composer_state.specs.Composing.{putOf, putFrame};
+ghost use Rattle.board_frame.specs.Calls.{putRefused, putPlaced, putState, putMemory};
 
 // Fills the still empty slots planned for stream r, in rising order, from the front of the lent stream, until slots or
 // packets run out. `rest` answers what is left of the stream.
-pub fn put(run: Composer, frame: &mut [u8], stream: &[u8], r: RelativeNumber) -> Placed
-    ensures { λ t. ⌜ t ≡ putOf run (r .0) (now (stream .entry)) (length (now (frame .entry))) ⌝ }
-    ensures { λ _. ⌜ now (frame .exit) ≡ putFrame run (r .0) (now (stream .entry)) (now (frame .entry)) ⌝ }
+#[no_mangle]
+pub extern "C" fn niranbok_composer_put(
+    state: &mut [u8],
+    frame: &mut [u8],
+    stream: &[u8],
+    r: u8,
+    placed: &mut usize,
+) -> u8
+    ensures { λ t. ⌜ t ≡ putRefused (now (state .entry)) r (now (stream .entry)) (now (frame .entry)) ⌝ }
+    ensures { λ _. ⌜ now (placed .exit) ≡ putPlaced (now (state .entry)) r (now (stream .entry)) (now (frame .entry)) ⌝ }
+    ensures { λ _. ⌜ now (state .exit) ≡ putState (now (state .entry)) r (now (stream .entry)) (now (frame .entry)) ⌝ }
+    ensures { λ _. ⌜ now (frame .exit) ≡ putMemory (now (state .entry)) r (now (stream .entry)) (now (frame .entry)) ⌝ }
 {
-    let refusal = checks::put_refusal(run, stream, r, frame.len());
+    *placed = 0;
+    if state.len() != COMPOSER_BYTES {
+        return 1;
+    }
+    let refusal = checks::put_refusal(state, stream, RelativeNumber(r), frame.len());
     if refusal != 0 {
-        return Placed {
-            refusal,
-            placed: 0,
-            state: run,
-        };
+        return refusal;
     }
-    let setting = run.setting;
-    let plan = setting.relative_ts_number;
-    let mut filled = run.filled;
-    let left = slots::place(frame, stream, &plan, &mut filled, r.0);
-    let placed = (stream.len() - left.len()) / PACKET_BYTES;
-    let mut state = run;
-    state.filled = filled;
-    Placed {
-        refusal: 0,
-        placed,
-        state,
-    }
+    slices::look(state);
+    let mut plan = [0u8; SLOTS];
+    slices::copy(&mut plan, &state[PLAN..PLAN + SLOTS]);
+    let left = slots::place(
+        frame,
+        stream,
+        &plan,
+        &mut state[FILLED..COMPOSER_BYTES],
+        r,
+    );
+    *placed = (stream.len() - left.len()) / PACKET_BYTES;
+    0
 }
