@@ -1,12 +1,12 @@
 -- What was decoded is encoded again, where every element is a byte. Assumes nothing.
-use Prim.Native.Nat.{ℕ, suc, _+_, _*_, _≤_, _<_}
+use Prim.Native.Nat.{ℕ, zero, suc, _+_, _*_, _≤_, _<_}
 use mathlib.Core.Path.{_≡_, refl, sym, ap, _∙_}
-use mathlib.Core.List.{List, [], _∷_, _++_}
+use mathlib.Core.List.{List, [], _∷_, _++_, append-assoc}
 use native.Mathlib.Omega.{arith}
 use native.Mathlib.Numerals.{add-one}
 use borrow.Author.Tests.{eq-eqb}
 use lib.ListN.{length, getD, take, drop}
-use lib.Seq.{take-add, take-all, drop-cons, drop-drop}
+use lib.Seq.{take-add, take-all, take-take, drop-cons, drop-drop}
 use Rattle.bits.specs.Fields.{Fit}
 use Rattle.bits.proofs.Laws.{fit-take, fit-drop}
 use Rattle.announced.specs.Announcing.{announced}
@@ -18,6 +18,20 @@ use Rattle.coding.proofs.Parts.{length-part}
 -- two parts side by side are one
 pub part-joined : (k n m : ℕ) (b : List ℕ) → part k n b ++ part (k + n) m b ≡ part k (n + m) b
 part-joined k n m b = ap (λ (l : List ℕ). part k n b ++ take m l) (sym (drop-drop n k b)) ∙ sym (take-add n m (drop k b))
+
+-- and so they are before others
+pub part-joined-before : (k n m : ℕ) (b r : List ℕ) → part k n b ++ (part (k + n) m b ++ r) ≡ part k (n + m) b ++ r
+part-joined-before k n m b r = sym (append-assoc (part k n b) (part (k + n) m b) r) ∙ ap (λ (l : List ℕ). l ++ r) (part-joined k n m b)
+
+-- a part of a part is one of the whole
+pub part-inside : (j n k m : ℕ) (b : List ℕ) → j + n ≤ m → part j n (part k m b) ≡ part (k + j) n b
+part-inside j n k m b h = front j n m (drop k b) h ∙ ap (take n) (drop-drop j k b)
+  where
+    front : (j n m : ℕ) (l : List ℕ) → j + n ≤ m → part j n (take m l) ≡ part j n l
+    front zero n m l h = take-take n m l (omega arith)
+    front (suc j) n zero l h = absurd (omega arith)
+    front (suc j) n (suc m) [] h = refl
+    front (suc j) n (suc m) (x ∷ l) h = front j n m l (omega arith)
 
 -- a part is its first byte and the part behind it
 pub part-first-byte : (k n : ℕ) (b : List ℕ) → k < length b → getD b k 0 ∷ part (k + 1) n b ≡ part k (suc n) b
