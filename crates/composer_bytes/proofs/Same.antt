@@ -6,17 +6,17 @@ use mathlib.Core.List.{List, [], _∷_, _++_, map}
 use native.Mathlib.Omega.{arith}
 use borrow.Author.Tests.{ltb-true}
 use lib.Dec.{eqb, ltb}
-use lib.ListN.{length, getD, take}
+use lib.ListN.{length, getD, take, replicate}
 use lib.Seq.{take-suc, append-snoc}
 use Rattle.bits.specs.Fields.{Fit}
 use Rattle.slices.specs.Slices.{someAtLeast}
 use Rattle.slices.proofs.Any.{both}
 use Rattle.words.specs.Words.{wordBytes}
 use Rattle.words.specs.Kinds.{isKind, kindOf, kindNumber}
-use Rattle.coding.specs.Settings.{part, announcedBytes, settingBytes}
+use Rattle.coding.specs.Settings.{part, announcedBytes, settingLength, settingBytes, settingOf}
 use Rattle.coding.proofs.Parts.{length-part}
 use Rattle.coding.proofs.Same.{part-joined, part-joined-before, part-first-byte, fit-part, word-same, announced-same, setting-same}
-use Rattle.composer_state.specs.Composing.{marked}
+use Rattle.composer_state.specs.Composing.{opened, marked}
 use Rattle.composer_bytes.specs.States.{composerLength, markByte, composerBytes, isCoded, composerOf}
 use Rattle.composer_bytes.proofs.Parts.{frontBytes}
 
@@ -77,3 +77,10 @@ module _ (b : List ℕ) (long : length b ≡ composerLength) (fit : Fit 8 b) (co
   pub marked-bytes : (ms : List Bool) → composerBytes (marked (composerOf b) ms) ≡ take 338 b ++ map markByte ms
   unfolding composerBytes marked
   marked-bytes ms = joined (map markByte ms) front-same last-same open-same setting-part-same
+
+  -- with a frame begun: behind what was announced an open mark, the setting's bytes and no filled slot
+  pub opened-bytes : (s : List ℕ) → length s ≡ settingLength → Fit 8 s
+      → composerBytes (opened (composerOf b) (settingOf s)) ≡ take 85 b ++ (1 ∷ (s ++ replicate 52 0))
+  unfolding composerBytes opened markByte
+  opened-bytes s l f =
+      rw (front-same, last-same, setting-same s l f) (part-joined-before 0 5 80 b (1 ∷ (s ++ replicate 52 0)))
