@@ -2,7 +2,7 @@
 use Prim.Native.Nat.{ℕ, zero, suc, _<_}
 use mathlib.Core.Path.{_≡_, refl, sym, ap, _∙_}
 use mathlib.Core.Bool.{Bool, true, false, not, _&&_}
-use mathlib.Core.List.{List, [], _∷_, _++_, map}
+use mathlib.Core.List.{List, [], _∷_, _++_, map, append-assoc}
 use native.Mathlib.Omega.{arith}
 use borrow.Author.Tests.{ltb-true}
 use lib.Dec.{eqb, ltb}
@@ -11,12 +11,14 @@ use lib.Seq.{take-suc, append-snoc}
 use Rattle.bits.specs.Fields.{Fit}
 use Rattle.slices.specs.Slices.{someAtLeast}
 use Rattle.slices.proofs.Any.{both}
+use Rattle.setting.specs.Setting.{blank}
+use Rattle.announced.specs.Announcing.{announced}
 use Rattle.words.specs.Words.{wordBytes}
 use Rattle.words.specs.Kinds.{isKind, kindOf, kindNumber}
 use Rattle.coding.specs.Settings.{part, announcedBytes, settingLength, settingBytes, settingOf}
 use Rattle.coding.proofs.Parts.{length-part}
-use Rattle.coding.proofs.Same.{part-joined, part-joined-before, part-first-byte, fit-part, word-same, announced-same, setting-same}
-use Rattle.composer_state.specs.Composing.{opened, marked}
+use Rattle.coding.proofs.Same.{part-joined, part-joined-before, part-inside, part-first-byte, fit-part, word-same, announced-same, announced-part-same, setting-same}
+use Rattle.composer_state.specs.Composing.{opened, marked, closedWith}
 use Rattle.composer_bytes.specs.States.{composerLength, markByte, composerBytes, isCoded, composerOf}
 use Rattle.composer_bytes.proofs.Parts.{frontBytes}
 
@@ -32,6 +34,11 @@ unfolding markByte
 mark-same zero h = refl
 mark-same (suc zero) h = refl
 mark-same (suc (suc n)) h = absurd (omega arith)
+
+-- the blank setting is zeros
+blank-bytes : settingBytes blank ≡ replicate settingLength 0
+unfolding settingBytes blank announced announcedBytes wordBytes
+blank-bytes = refl
 
 module _ (b : List ℕ) (long : length b ≡ composerLength) (fit : Fit 8 b) (coded : isCoded b ≡ true) where
   tests : (isKind (getD b 2 0) ≡ true) × (ltb (getD b 85 0) 2 && not (someAtLeast 2 (part 338 52 b)) ≡ true)
@@ -67,6 +74,11 @@ module _ (b : List ℕ) (long : length b ≡ composerLength) (fit : Fit 8 b) (co
   unfolding composerOf
   setting-part-same = setting-same (part 86 252 b) (length-part 86 252 b (omega arith)) (fit-part 86 252 b fit)
 
+  announced-said : announcedBytes (announced (composerOf b .setting)) ≡ part 88 80 b
+  unfolding composerOf
+  announced-said =
+      announced-part-same (part 86 252 b) (length-part 86 252 b (omega arith)) (fit-part 86 252 b fit) ∙ part-inside 2 80 86 252 b (omega arith)
+
   -- side by side
   joined : {f a o s : List ℕ} (m : List ℕ) → f ≡ part 0 5 b → a ≡ part 5 80 b → o ≡ part 85 1 b → s ≡ part 86 252 b
       → f ++ (a ++ (o ++ (s ++ m))) ≡ take 338 b ++ m
@@ -84,3 +96,11 @@ module _ (b : List ℕ) (long : length b ≡ composerLength) (fit : Fit 8 b) (co
   unfolding composerBytes opened markByte
   opened-bytes s l f =
       rw (front-same, last-same, setting-same s l f) (part-joined-before 0 5 80 b (1 ∷ (s ++ replicate 52 0)))
+
+  -- with a frame closed: behind PID and kind the counter, the version, what the setting announced, and zeros
+  pub closed-bytes : (counter version : ℕ)
+      → composerBytes (closedWith (composerOf b) counter version) ≡ take 3 b ++ (counter ∷ version ∷ (part 88 80 b ++ replicate 305 0))
+  unfolding composerBytes closedWith markByte
+  closed-bytes counter version =
+      rw (pid-kind (counter ∷ version ∷ []), announced-said, blank-bytes)
+      (append-assoc (take 3 b) (counter ∷ version ∷ []) (part 88 80 b ++ replicate 305 0))
