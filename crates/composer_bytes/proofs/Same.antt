@@ -11,6 +11,7 @@ use lib.Seq.{take-suc, append-snoc}
 use Rattle.bits.specs.Fields.{Fit}
 use Rattle.slices.specs.Slices.{someAtLeast}
 use Rattle.slices.proofs.Any.{both}
+use Rattle.setting.specs.declared.Kind.{Kind}
 use Rattle.setting.specs.Setting.{blank}
 use Rattle.announced.specs.Announcing.{announced}
 use Rattle.words.specs.Words.{wordBytes}
@@ -18,7 +19,7 @@ use Rattle.words.specs.Kinds.{isKind, kindOf, kindNumber}
 use Rattle.coding.specs.Settings.{part, announcedBytes, settingLength, settingBytes, settingOf}
 use Rattle.coding.proofs.Parts.{length-part}
 use Rattle.coding.proofs.Same.{part-joined, part-joined-before, part-inside, part-first-byte, fit-part, word-same, announced-same, announced-part-same, setting-same}
-use Rattle.composer_state.specs.Composing.{opened, marked, closedWith}
+use Rattle.composer_state.specs.Composing.{fresh, opened, marked, closedWith}
 use Rattle.composer_bytes.specs.States.{composerLength, markByte, composerBytes, isCoded, composerOf}
 use Rattle.composer_bytes.proofs.Parts.{frontBytes}
 
@@ -104,3 +105,8 @@ module _ (b : List ℕ) (long : length b ≡ composerLength) (fit : Fit 8 b) (co
   closed-bytes counter version =
       rw (pid-kind (counter ∷ version ∷ []), announced-said, blank-bytes)
       (append-assoc (take 3 b) (counter ∷ version ∷ []) (part 88 80 b ++ replicate 305 0))
+
+-- before the first frame: PID, kind, the counter and the version before the first, and zeros
+pub fresh-bytes : (kind : Kind) (pid : ℕ) → composerBytes (fresh kind pid) ≡ wordBytes (pid ∷ []) ++ (kindNumber kind ∷ 15 ∷ 7 ∷ replicate 385 0)
+unfolding composerBytes fresh markByte announced blank announcedBytes settingBytes wordBytes
+fresh-bytes kind pid = refl
