@@ -6,6 +6,7 @@ use native.Mathlib.Omega.{arith}
 use native.Mathlib.Numerals.{add-one}
 use lib.ListN.{length, take, getD, set}
 use lib.Seq.{take-suc-set}
+use Rattle.bits.specs.Fields.{Fit, none, more}
 use Rattle.slices.proofs.Front.{stored-behind}
 use Rattle.words.specs.Words.{wordBytes, wordAt, wordsOf}
 
@@ -71,3 +72,14 @@ words-back [] = refl
 words-back (w ∷ ws) =
     let same : w / 256 * 256 + w % 256 ≡ w = omega arith in
     ap₂ (λ (x : ℕ) (l : List ℕ). x ∷ l) same (words-back ws)
+
+-- the numbers of bytes, two by two, say the bytes
+pub bytes-same : (b : List ℕ) (n : ℕ) → length b ≡ 2 * n → Fit 8 b → wordBytes (wordsOf b) ≡ b
+unfolding wordBytes wordsOf
+bytes-same [] n long none = refl
+bytes-same (x ∷ []) n long fit = absurd (omega arith)
+bytes-same (x ∷ y ∷ b) zero long fit = absurd (omega arith)
+bytes-same (x ∷ y ∷ b) (suc n) long (more f (more g fit)) =
+    let high : (x * 256 + y) / 256 ≡ x = omega arith in
+    let low : (x * 256 + y) % 256 ≡ y = omega arith in
+    rw (high, low, bytes-same b n (omega arith) fit)
