@@ -7,11 +7,14 @@ use mathlib.Core.List.{List}
 use native.Mathlib.Omega.{arith}
 use borrow.Author.Needs.{needs}
 use borrow.Rule.Slice.PartMut.{mid-len}
-use lib.ListN.{length, getD, take, drop}
+use lib.Dec.{eqb}
+use lib.ListN.{length, getD, take, drop, length-map}
 use Rattle.counters.specs.Counters.{lastSlot}
 use Rattle.packet.specs.Packets.{packetLength, unfit}
 use Rattle.packet.proofs.Fit.{may-stand, may-not-stand}
-use Rattle.composer_state.specs.Slots.{someUnfit}
+use Rattle.composer_state.specs.Slots.{takes, someUnfit}
+use Rattle.composer_bytes.specs.States.{marksOf}
+use Rattle.composer_put.proofs.Placing.{mark-at}
 use Rattle.composer_put.proofs.Walk.{packet-left, unfit-from, unfit-none}
 use Rattle.composer_put.proofs.slots.has_unfit.Statement.{statement}
 use Rattle.composer_put.proofs.slots.has_unfit.Tie as tie
@@ -19,7 +22,7 @@ use Rattle.composer_put.proofs.slots.has_unfit.Tie as tie
 abbrev Inv-loop : tie.InvT-loop
 Inv-loop stream plan filled r pid i₀ at₀ i at =
     (i ≤ lastSlot) × (at ≤ length stream)
-    × (someUnfit pid r plan filled stream ≡ someUnfit pid r (drop i plan) (drop i filled) (drop at stream))
+    × (someUnfit pid r plan (marksOf filled) stream ≡ someUnfit pid r (drop i plan) (drop i (marksOf filled)) (drop at stream))
 
 abbrev μ-loop : tie.MeasureT-loop
 μ-loop stream plan filled r pid i₀ at₀ i at = lastSlot - i
@@ -35,10 +38,20 @@ abbrev plan : tie.After-is-taken Inv-loop μ-loop → List ℕ
 plan c = start (turn c) .args .plan .now
 
 abbrev marks : tie.After-is-taken Inv-loop μ-loop → List Bool
-marks c = start (turn c) .args .filled .now
+marks c = marksOf (start (turn c) .args .filled .now)
 
 abbrev stream : tie.After-is-taken Inv-loop μ-loop → List ℕ
 stream c = start (turn c) .args .stream .now
+
+-- what is asked of a slot
+asked : (c : tie.After-is-taken Inv-loop μ-loop) {t : Bool} → c .is-taken .result ≡ t
+    → takes (start (turn c) .args .r) (getD (plan c) (turn c .loop .i) 0) (getD (marks c) (turn c .loop .i) false) (length (stream c) - turn c .loop .at) ≡ t
+asked c e =
+    let k = turn c in
+    ap
+    (λ (m : Bool). takes (start k .args .r) (getD (plan c) (k .loop .i) 0) m (length (stream c) - k .loop .at))
+    (mark-at (start k .args .filled .now) (k .loop .i))
+    ∙ sym (c .is-taken .ensures) ∙ e
 
 -- a slot that takes a packet finds one
 room : (c : tie.Then1 Inv-loop μ-loop) → turn (c .before) .loop .at + packetLength ≤ length (stream (c .before))
@@ -47,7 +60,7 @@ room c =
     let k = turn slot in
     let left =
     packet-left (start k .args .r) (getD (plan slot) (k .loop .i) 0) (getD (marks slot) (k .loop .i) false) (length (stream slot) - k .loop .at)
-    (sym (slot .is-taken .ensures) ∙ c .if1 .taken) in
+    (asked slot (c .if1 .taken)) in
     omega arith
 
 -- the packet that is lent, which has its 188 bytes
@@ -76,8 +89,8 @@ module _ (c : tie.After-is-taken Inv-loop μ-loop) where
       let k = turn c in
       let whole : k .loop .at + packetLength - k .loop .at ≡ packetLength = omega arith in
       k .loop .inv .2
-      ∙ unfit-from (start k .args .r) (plan c) (marks c) (stream c) (k .loop .i) (k .loop .at) (omega arith) (omega arith)
-      (sym (c .is-taken .ensures) ∙ e) (start k .args .pid) (rw whole at f)
+      ∙ unfit-from (start k .args .r) (plan c) (marks c) (stream c) (k .loop .i) (k .loop .at) (omega arith) (rw (length-map (start k .args .filled .now) (λ (n : ℕ). eqb n 1)) (omega arith))
+      (asked c e) (start k .args .pid) (rw whole at f)
 
 loop-holds : tie.Need-loop-holds Inv-loop μ-loop
 loop-holds c = (omega arith, omega arith, refl)
@@ -142,7 +155,7 @@ loop-again c =
 returns-2 : tie.Need-returns-2 Inv-loop μ-loop
 returns-2 c =
     let k = c .before in
-    sym (k .loop .inv .2 ∙ unfit-none (start k .args .r) (start k .args .plan .now) (drop (k .loop .i) (start k .args .filled .now)) (drop (k .loop .at) (start k .args .stream .now)) (k .loop .i) (omega arith) (start k .args .pid))
+    sym (k .loop .inv .2 ∙ unfit-none (start k .args .r) (start k .args .plan .now) (drop (k .loop .i) (marksOf (start k .args .filled .now))) (drop (k .loop .at) (start k .args .stream .now)) (k .loop .i) (omega arith) (start k .args .pid))
 
 pub has-unfit-spec : {M : Type 1} → statement M
 has-unfit-spec =

@@ -6,6 +6,7 @@ use mathlib.Core.Logic.{⊎-elim}
 use native.Mathlib.Omega.{arith}
 use borrow.Author.Needs.{needs}
 use borrow.Rule.Slice.PartMut.{mid-len}
+use lib.Dec.{eqb}
 use lib.ListN.{length, getD, take, drop, length-drop}
 use lib.Seq.{take-all}
 use Rattle.slices.proofs.Front.{copied-over}
@@ -14,7 +15,8 @@ use Rattle.counters.specs.Counters.{lastSlot}
 use Rattle.packet.specs.Packets.{packetLength, frameLength}
 use Rattle.composer_state.specs.Slots.{takes}
 use Rattle.composer_put.proofs.Walk.{packet-left}
-use Rattle.composer_put.proofs.Placing.{Placing, placing-none, placing-placed, placing-passed, all-placed, all-marked, all-rest}
+use Rattle.composer_bytes.specs.States.{marksOf}
+use Rattle.composer_put.proofs.Placing.{mark-at, Placing, placing-none, placing-placed, placing-passed, all-placed, all-marked, all-rest}
 use Rattle.composer_put.proofs.slots.place.Statement.{statement}
 use Rattle.composer_put.proofs.slots.place.Tie as tie
 
@@ -42,14 +44,14 @@ marked c = rw (c .before .loop .inv .3) (c .loop-test .taken)
 
 -- what is asked of a slot, by the mark that it had
 asked : (c : tie.After-is-taken Inv-loop μ-loop) {t : Bool} → c .is-taken .result ≡ t
-    → takes (start (turn c) .args .r) (getD (start (turn c) .args .plan .now) (turn c .loop .i) 0) (getD (start (turn c) .args .filled .now) (turn c .loop .i) false) (length (start (turn c) .args .stream .now) - turn c .loop .at)
+    → takes (start (turn c) .args .r) (getD (start (turn c) .args .plan .now) (turn c .loop .i) 0) (getD (marksOf (start (turn c) .args .filled .now)) (turn c .loop .i) false) (length (start (turn c) .args .stream .now) - turn c .loop .at)
     ≡ t
 asked c e =
     let k = turn c in
     let a = start k .args in
     ap
     (λ (m : Bool). takes (a .r) (getD (a .plan .now) (k .loop .i) 0) m (length (a .stream .now) - k .loop .at))
-    (sym (toward-next (k .loop .inv .4 .filled) false (omega arith)))
+    (mark-at (a .filled .now) (k .loop .i) ∙ ap (λ (n : ℕ). eqb n 1) (sym (toward-next (k .loop .inv .4 .filled) 0 (omega arith))))
     ∙ sym (c .is-taken .ensures) ∙ e
 
 -- a slot that takes a packet finds one
@@ -58,7 +60,7 @@ room c =
     let k = turn (c .before) in
     let a = start k .args in
     let left =
-    packet-left (a .r) (getD (a .plan .now) (k .loop .i) 0) (getD (a .filled .now) (k .loop .i) false) (length (a .stream .now) - k .loop .at)
+    packet-left (a .r) (getD (a .plan .now) (k .loop .i) 0) (getD (marksOf (a .filled .now)) (k .loop .i) false) (length (a .stream .now) - k .loop .at)
     (asked (c .before) (c .if1 .taken)) in
     omega arith
 
@@ -154,14 +156,14 @@ loop-again c =
     ⊎-elim
     (λ w.
     rw (w .6, w .7, w .8)
-    (placing-placed _ _ _ _ _ (k .loop .inv .4) slot-planned slot-marked (asked (c .before) (w .0 .taken)) (slot + packetLength - slot) (omega arith)
+    (placing-placed _ _ _ _ _ (start k .pre .2) (k .loop .inv .4) slot-planned slot-marked (asked (c .before) (w .0 .taken)) (slot + packetLength - slot) (omega arith)
     (w .3 .last .0)
     (taken (record {
       before = record { before = record { before = record { before = c .before; if1 = w .0 }; copy-arg = w .1 }; copy-arg2 = w .2 };
       copy = w .3;
     }))))
     (λ w.
-    rw (w .1, w .2, w .3) (placing-passed _ _ _ _ _ (k .loop .inv .4) slot-planned slot-marked (asked (c .before) (w .0 .left)) (omega arith)))
+    rw (w .1, w .2, w .3) (placing-passed _ _ _ _ _ (start k .pre .2) (k .loop .inv .4) slot-planned slot-marked (asked (c .before) (w .0 .left)) (omega arith)))
     (c .if1 .came) in (
       omega arith,
       ⊎-elim (λ w. rw (w .8) (room (record { before = c .before; if1 = w .0 }))) (λ w. rw (w .3) (k .loop .inv .1)) (c .if1 .came),
@@ -191,9 +193,10 @@ returns c =
     let a = start k .args in
     let stream = a .stream .now in
     let placing = k .loop .inv .4 in
+    let low = start k .pre .2 in
     let all : length (a .plan .now) ≤ k .loop .i = omega arith in (
-      take-all (length stream - k .loop .at) (drop (k .loop .at) stream) (rw length-drop (omega arith)) ∙ all-rest _ _ _ _ _ placing all,
-      (all-placed _ _ _ _ _ placing all, all-marked _ _ _ _ _ placing all),
+      take-all (length stream - k .loop .at) (drop (k .loop .at) stream) (rw length-drop (omega arith)) ∙ all-rest _ _ _ _ _ low placing all,
+      (all-placed _ _ _ _ _ low placing all, all-marked _ _ _ _ _ low placing all),
     )
 
 pub place-spec : {M : Type 1} → statement M
