@@ -1,6 +1,6 @@
 -- A state that was decoded, changed and encoded again: which of its bytes are the old ones. Assumes nothing.
 use Prim.Native.Nat.{ℕ, zero, suc, _<_}
-use mathlib.Core.Path.{_≡_, refl, sym, ap, _∙_}
+use mathlib.Core.Path.{_≡_, refl, sym, ap, ap₂, _∙_}
 use mathlib.Core.Bool.{Bool, true, false, not, _&&_}
 use mathlib.Core.List.{List, [], _∷_, _++_, map, append-assoc}
 use native.Mathlib.Omega.{arith}
@@ -8,7 +8,7 @@ use borrow.Author.Tests.{ltb-true}
 use lib.Dec.{eqb, ltb}
 use lib.ListN.{length, getD, take, replicate}
 use lib.Seq.{take-suc, append-snoc}
-use Rattle.bits.specs.Fields.{Fit}
+use Rattle.bits.specs.Fields.{Fit, none, more}
 use Rattle.slices.specs.Slices.{someAtLeast}
 use Rattle.slices.proofs.Any.{both}
 use Rattle.setting.specs.declared.Kind.{Kind}
@@ -17,24 +17,39 @@ use Rattle.announced.specs.Announcing.{announced}
 use Rattle.words.specs.Words.{wordBytes}
 use Rattle.words.specs.Kinds.{isKind, kindOf, kindNumber}
 use Rattle.coding.specs.Settings.{part, announcedBytes, settingLength, settingBytes, settingOf}
+use Rattle.rules.proofs.Fields.{fit-some}
 use Rattle.coding.proofs.Parts.{length-part}
-use Rattle.coding.proofs.Same.{part-joined, part-joined-before, part-inside, part-first-byte, fit-part, word-same, announced-same, announced-part-same, setting-same}
+use Rattle.coding.proofs.Same.{part-joined, part-joined-before, part-inside, part-first-byte, fit-part}
+use Rattle.coding.proofs.Same.{word-same, announced-same, announced-part-same, setting-same}
 use Rattle.composer_state.specs.Composing.{fresh, opened, marked, closedWith}
 use Rattle.composer_bytes.specs.States.{composerLength, markByte, composerBytes, isCoded, composerOf}
 use Rattle.composer_bytes.proofs.Parts.{frontBytes}
 
--- a byte that is a kind says itself, and so does one that is a mark
+-- a byte that is a kind says itself
 kind-same : (n : ℕ) → n < 2 → kindNumber (kindOf n) ≡ n
 unfolding kindNumber kindOf
 kind-same zero h = refl
 kind-same (suc zero) h = refl
 kind-same (suc (suc n)) h = absurd (omega arith)
 
+-- and so does one that is a mark
 mark-same : (n : ℕ) → n < 2 → markByte (eqb n 1) ≡ n
 unfolding markByte
 mark-same zero h = refl
 mark-same (suc zero) h = refl
 mark-same (suc (suc n)) h = absurd (omega arith)
+
+-- bytes of which none is 2 or more, read as marks, say themselves
+pub marks-same : (m : List ℕ) → someAtLeast 2 m ≡ false → map markByte (map (λ (n : ℕ). eqb n 1) m) ≡ m
+marks-same m e = each m (fit-some 1 m e)
+  where
+    each : (m : List ℕ) → Fit 1 m → map markByte (map (λ (n : ℕ). eqb n 1) m) ≡ m
+    each [] none = refl
+    each (n ∷ m) (more h f) = ap₂ (λ (x : ℕ) (l : List ℕ). x ∷ l) (mark-same n h) (each m f)
+
+-- numbers of which none is 256 or more are bytes
+pub all-bytes : (b : List ℕ) → someAtLeast 256 b ≡ false → Fit 8 b
+all-bytes b e = fit-some 8 b e
 
 -- the blank setting is zeros
 blank-bytes : settingBytes blank ≡ replicate settingLength 0
@@ -42,6 +57,7 @@ unfolding settingBytes blank announced announcedBytes wordBytes
 blank-bytes = refl
 
 module _ (b : List ℕ) (long : length b ≡ composerLength) (fit : Fit 8 b) (coded : isCoded b ≡ true) where
+  -- what the test of the bytes says of the kind, and of the open mark
   tests : (isKind (getD b 2 0) ≡ true) × (ltb (getD b 85 0) 2 && not (someAtLeast 2 (part 338 52 b)) ≡ true)
   unfolding isCoded
   tests = both (isKind (getD b 2 0)) (ltb (getD b 85 0) 2 && not (someAtLeast 2 (part 338 52 b))) coded
@@ -56,7 +72,7 @@ module _ (b : List ℕ) (long : length b ≡ composerLength) (fit : Fit 8 b) (co
       rw (word-same 0 b (omega arith) fit, kind-same (getD b 2 0) (ltb-true (getD b 2 0) 2 (tests .0)))
       (sym (append-snoc (take 2 b) (getD b 2 0) r) ∙ ap (λ (l : List ℕ). l ++ r) (sym (take-suc b 2 0 (omega arith))))
 
-  -- the parts
+  -- the parts of the state, and what its setting announces
   front-same : frontBytes (composerOf b) ≡ part 0 5 b
   unfolding composerOf
   front-same =
@@ -80,7 +96,7 @@ module _ (b : List ℕ) (long : length b ≡ composerLength) (fit : Fit 8 b) (co
   announced-said =
       announced-part-same (part 86 252 b) (length-part 86 252 b (omega arith)) (fit-part 86 252 b fit) ∙ part-inside 2 80 86 252 b (omega arith)
 
-  -- side by side
+  -- four of them side by side, before others
   joined : {f a o s : List ℕ} (m : List ℕ) → f ≡ part 0 5 b → a ≡ part 5 80 b → o ≡ part 85 1 b → s ≡ part 86 252 b
       → f ++ (a ++ (o ++ (s ++ m))) ≡ take 338 b ++ m
   joined m pf pa po ps =
