@@ -1,7 +1,7 @@
 -- A state that was decoded, changed and encoded again: which of its bytes are the old ones. Assumes nothing.
 use Prim.Native.Nat.{ℕ, zero, suc, _<_}
 use mathlib.Core.Path.{_≡_, refl, sym, ap, ap₂, _∙_}
-use mathlib.Core.Bool.{Bool, true, false, not, _&&_}
+use mathlib.Core.Bool.{Bool, true, false, cond, not, _&&_}
 use mathlib.Core.List.{List, [], _∷_, _++_, map, append-assoc}
 use native.Mathlib.Omega.{arith}
 use borrow.Author.Tests.{ltb-true}
@@ -22,7 +22,7 @@ use Rattle.coding.proofs.Parts.{length-part}
 use Rattle.coding.proofs.Same.{part-joined, part-joined-before, part-inside, part-first-byte, fit-part}
 use Rattle.coding.proofs.Same.{word-same, announced-same, announced-part-same, setting-same}
 use Rattle.composer_state.specs.Composing.{fresh, opened, marked, closedWith}
-use Rattle.composer_bytes.specs.States.{composerLength, markByte, composerBytes, isCoded, composerOf}
+use Rattle.composer_bytes.specs.States.{composerLength, markByte, composerBytes, isCoded, noCounter, composerOf}
 use Rattle.composer_bytes.proofs.Parts.{frontBytes}
 
 -- a byte that is a kind says itself
@@ -126,3 +126,17 @@ module _ (b : List ℕ) (long : length b ≡ composerLength) (fit : Fit 8 b) (co
 pub fresh-bytes : (kind : Kind) (pid : ℕ) → composerBytes (fresh kind pid) ≡ wordBytes (pid ∷ []) ++ (kindNumber kind ∷ 15 ∷ 7 ∷ replicate 385 0)
 unfolding composerBytes fresh markByte announced blank announcedBytes settingBytes wordBytes
 fresh-bytes kind pid = refl
+
+-- a counter that a header has tells that the bytes are a state's, and is the one that stands there
+module _ (b : List ℕ) (low : composerOf b .counter < 16) where
+  pub coded-by-counter : isCoded b ≡ true
+  unfolding composerOf
+  coded-by-counter = told (isCoded b) low
+    where
+      told : (t : Bool) → cond t (getD b 3 0) noCounter < 16 → t ≡ true
+      told true h = refl
+      told false h = absurd (omega arith)
+
+  pub counter-there : composerOf b .counter ≡ getD b 3 0
+  unfolding composerOf
+  counter-there = rw coded-by-counter refl
