@@ -1,3 +1,4 @@
 pub mod Marks
 pub mod Parts
 pub mod Same
+pub mod There

@@ -37,7 +37,7 @@ start c = c .before .before .before .before .before
 
 -- slot i is in the plan, and has its mark
 planned : (c : tie.In-loop Inv-loop μ-loop) → c .before .loop .i < length (start (c .before) .args .plan .now)
-planned c = rw (start (c .before) .pre .1 .0) (c .loop-test .taken)
+planned c = rw (start (c .before) .pre .1 .0 .0) (c .loop-test .taken)
 
 marked : (c : tie.In-loop Inv-loop μ-loop) → c .before .loop .i < length (c .before .loop .filled)
 marked c = rw (c .before .loop .inv .3) (c .loop-test .taken)
@@ -84,7 +84,7 @@ taken c =
 loop-holds : tie.Need-loop-holds Inv-loop μ-loop
 loop-holds c =
     let s = c .before .before .before .before in
-    (omega arith, omega arith, s .pre .0, s .pre .1 .1, placing-none _ _ _ _ _ (omega arith))
+    (omega arith, omega arith, s .pre .0, s .pre .1 .0 .1, placing-none _ _ _ _ _ (omega arith))
 
 shared-slice-read-is-taken : tie.Need-shared-slice-read-is-taken Inv-loop μ-loop
 shared-slice-read-is-taken c = planned (c .before)
@@ -151,24 +151,24 @@ loop-again c =
     let a = start k .args in
     let slot = packetLength * (k .loop .i + 1) in
     let slot-planned = planned (c .before .before .before .before) in
-    let slot-marked : k .loop .i < length (a .filled .now) = rw (start k .pre .1 .1) (c .before .before .before .before .loop-test .taken) in
+    let slot-marked : k .loop .i < length (a .filled .now) = rw (start k .pre .1 .0 .1) (c .before .before .before .before .loop-test .taken) in
     let walked : Placing (a .r) (a .plan .now) (a .filled .now) (a .stream .now) (a .frame .now) (c .if1 .frame) (c .if1 .filled) (k .loop .i + 1) (c .if1 .at) =
     ⊎-elim
     (λ w.
     rw (w .6, w .7, w .8)
-    (placing-placed _ _ _ _ _ (start k .pre .2) (k .loop .inv .4) slot-planned slot-marked (asked (c .before) (w .0 .taken)) (slot + packetLength - slot) (omega arith)
+    (placing-placed _ _ _ _ _ (start k .pre .1 .1) (k .loop .inv .4) slot-planned slot-marked (asked (c .before) (w .0 .taken)) (slot + packetLength - slot) (omega arith)
     (w .3 .last .0)
     (taken (record {
       before = record { before = record { before = record { before = c .before; if1 = w .0 }; copy-arg = w .1 }; copy-arg2 = w .2 };
       copy = w .3;
     }))))
     (λ w.
-    rw (w .1, w .2, w .3) (placing-passed _ _ _ _ _ (start k .pre .2) (k .loop .inv .4) slot-planned slot-marked (asked (c .before) (w .0 .left)) (omega arith)))
+    rw (w .1, w .2, w .3) (placing-passed _ _ _ _ _ (start k .pre .1 .1) (k .loop .inv .4) slot-planned slot-marked (asked (c .before) (w .0 .left)) (omega arith)))
     (c .if1 .came) in (
       omega arith,
       ⊎-elim (λ w. rw (w .8) (room (record { before = c .before; if1 = w .0 }))) (λ w. rw (w .3) (k .loop .inv .1)) (c .if1 .came),
       toward-length (walked .slots) (omega arith) ∙ start k .pre .0,
-      toward-length (walked .filled) (omega arith) ∙ start k .pre .1 .1,
+      toward-length (walked .filled) (omega arith) ∙ start k .pre .1 .0 .1,
       walked,
     )
 
@@ -185,7 +185,7 @@ same-length : tie.Need-same-length Inv-loop μ-loop
 same-length c = c .before .before .loop .inv .2 ∙ sym (start (c .before .before) .pre .0)
 
 same-length-2 : tie.Need-same-length-2 Inv-loop μ-loop
-same-length-2 c = c .before .before .loop .inv .3 ∙ sym (start (c .before .before) .pre .1 .1)
+same-length-2 c = c .before .before .loop .inv .3 ∙ sym (start (c .before .before) .pre .1 .0 .1)
 
 returns : tie.Need-returns Inv-loop μ-loop
 returns c =
@@ -193,7 +193,7 @@ returns c =
     let a = start k .args in
     let stream = a .stream .now in
     let placing = k .loop .inv .4 in
-    let low = start k .pre .2 in
+    let low = start k .pre .1 .1 in
     let all : length (a .plan .now) ≤ k .loop .i = omega arith in (
       take-all (length stream - k .loop .at) (drop (k .loop .at) stream) (rw length-drop (omega arith)) ∙ all-rest _ _ _ _ _ low placing all,
       (all-placed _ _ _ _ _ low placing all, all-marked _ _ _ _ _ low placing all),
