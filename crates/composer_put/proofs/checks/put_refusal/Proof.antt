@@ -10,12 +10,14 @@ use Rattle.refusal_table.proofs.Refusals.{answers, passed, onward, at-once}
 use Rattle.counters.proofs.Within.{under, past, between}
 use Rattle.composer_state.specs.Composing.{stateChecks, openChecks, streamChecks, putRefusal}
 use Rattle.composer_state.proofs.Refusals.{state-none, open-none}
+use Rattle.composer_bytes.specs.States.{composerOf}
+use Rattle.composer_bytes.proofs.Parts.{whole-same}
 use Rattle.composer_put.proofs.checks.put_refusal.Statement.{statement}
 use Rattle.composer_put.proofs.checks.put_refusal.Tie as tie
 
 -- from the place after a check that did not hold to the function's start
 abbrev start₁ : tie.Else1 → tie.Start
-start₁ c = c .before .before
+start₁ c = c .before .before .before
 
 abbrev start₂ : tie.Else2 → tie.Start
 start₂ c = start₁ (c .before)
@@ -34,19 +36,28 @@ start₆ c = start₅ (c .before .before)
 
 -- the refusal of the whole, and its parts behind the lengths
 abbrev all : tie.Start → ℕ
-all c = putRefusal (c .args .c) (c .args .r .0) (c .args .stream .now) (c .args .lent)
+all c = putRefusal (composerOf (c .args .state .now)) (c .args .r .0) (c .args .stream .now) (c .args .lent)
 
 abbrev states : tie.Start → List Check
-states c = stateChecks (c .args .c)
+states c = stateChecks (composerOf (c .args .state .now))
 
 abbrev opens : tie.Start → List Check
-opens c = openChecks (c .args .c)
+opens c = openChecks (composerOf (c .args .state .now))
 
 abbrev streams : tie.Start → List Check
-streams c = streamChecks (c .args .c) (c .args .r .0) (c .args .stream .now)
+streams c = streamChecks (composerOf (c .args .state .now)) (c .args .r .0) (c .args .stream .now)
 
 abbrev numbers : tie.Start → List Check
 numbers c = (17, not (within firstStream lastStream (c .args .r .0))) ∷ (opens c ++ streams c)
+
+-- what is asked of the state's bytes
+state-told : (c : tie.After-state-refusal) → c .state-refusal .result ≡ firstOf (states (start₂ (c .before)))
+state-told c =
+    c .state-refusal .ensures ∙ ap (λ (b : List ℕ). firstOf (stateChecks (composerOf b))) (whole-same (start₂ (c .before) .args .state .now) (start₂ (c .before) .pre))
+
+open-told : (c : tie.After-open-refusal) → c .open-refusal .result ≡ firstOf (opens (start₅ (c .before)))
+open-told c =
+    c .open-refusal .ensures ∙ ap (λ (b : List ℕ). firstOf (openChecks (composerOf b))) (whole-same (start₅ (c .before) .args .state .now) (start₅ (c .before) .pre))
 
 past₂ : (c : tie.Else2) → all (start₂ c) ≡ firstOf (states (start₂ c) ++ numbers (start₂ c))
 unfolding putRefusal
@@ -55,7 +66,7 @@ past₂ c = passed _ _ (ap not (eq-eqb _ _ (c .before .if1 .left))) ∙ passed _
 past₃ : (c : tie.Else3) → all (start₃ c) ≡ firstOf (numbers (start₃ c))
 past₃ c =
     past₂ (c .before .before)
-    ∙ onward (numbers (start₃ c)) (state-none (start₃ c .args .c) (sym (c .before .state-refusal .ensures) ∙ c .if3 .left))
+    ∙ onward (numbers (start₃ c)) (state-none (composerOf (start₃ c .args .state .now)) (sym (state-told (c .before)) ∙ c .if3 .left))
 
 past₅ : (c : tie.Else5) → all (start₅ c) ≡ firstOf (opens (start₅ c) ++ streams (start₅ c))
 past₅ c =
@@ -65,7 +76,7 @@ past₅ c =
 past₆ : (c : tie.Else6) → all (start₆ c) ≡ firstOf (streams (start₆ c))
 past₆ c =
     past₅ (c .before .before)
-    ∙ onward (streams (start₆ c)) (open-none (start₆ c .args .c) (sym (c .before .open-refusal .ensures) ∙ c .if6 .left))
+    ∙ onward (streams (start₆ c)) (open-none (composerOf (start₆ c .args .state .now)) (sym (open-told (c .before)) ∙ c .if6 .left))
 
 returns : tie.Need-returns
 unfolding putRefusal
@@ -82,7 +93,7 @@ state-refusal-requires c κs = search needs
 returns-3 : tie.Need-returns-3
 returns-3 c =
     let start = start₂ (c .before .before) in
-    let n = c .before .state-refusal .ensures in
+    let n = state-told (c .before) in
     n ∙ sym (past₂ (c .before .before) ∙ at-once (states start) (numbers start) (λ z. c .if3 .taken (n ∙ z)))
 
 returns-4 : tie.Need-returns-4
@@ -98,7 +109,7 @@ open-refusal-requires c κs = search needs
 returns-6 : tie.Need-returns-6
 returns-6 c =
     let start = start₅ (c .before .before) in
-    let n = c .before .open-refusal .ensures in
+    let n = open-told (c .before) in
     n ∙ sym (past₅ (c .before .before) ∙ at-once (opens start) (streams start) (λ z. c .if6 .taken (n ∙ z)))
 
 stream-refusal-requires : tie.Need-stream-refusal-requires

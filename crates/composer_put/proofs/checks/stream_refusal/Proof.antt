@@ -1,50 +1,110 @@
-use mathlib.Core.Path.{_≡_, sym, ap, _∙_}
-use mathlib.Core.Bool.{not}
+use Prim.Native.Nat.{ℕ}
+use mathlib.Core.Path.{_≡_, refl, sym, ap, _∙_}
+use mathlib.Core.Bool.{Bool, not}
 use mathlib.Core.List.{List}
+use native.Mathlib.Omega.{arith}
 use borrow.Author.Needs.{needs}
 use lib.ListN.{length}
-use Rattle.counters.specs.Counters.{lastSlot}
+use Rattle.counters.specs.Counters.{available}
 use Rattle.refusal_table.specs.Refusal.{Check, firstOf}
 use Rattle.refusal_table.proofs.Refusals.{Past, answers, passed}
+use Rattle.composer_state.specs.Slots.{someUnfit}
 use Rattle.composer_state.specs.Composing.{streamChecks}
+use Rattle.composer_bytes.specs.States.{composerOf}
+use Rattle.composer_bytes.proofs.There.{plan-there, availability-there}
 use Rattle.composer_put.proofs.checks.stream_refusal.Statement.{statement}
 use Rattle.composer_put.proofs.checks.stream_refusal.Tie as tie
 
 -- the rows that the function goes through
 abbrev rows : tie.Start → List Check
-rows c = streamChecks (c .args .c) (c .args .r .0) (c .args .stream .now)
+rows c = streamChecks (composerOf (c .args .state .now)) (c .args .r .0) (c .args .stream .now)
 
--- what the arrays have, which their types say
-slots : (c : tie.Start) → (length (c .args .c .setting .«relative_ts_number») ≡ lastSlot) × (length (c .args .c .filled) ≡ lastSlot)
-slots c = (search needs, search needs)
+-- whether the stream is available, as it was asked
+abbrev start₁ : tie.After-is-available → tie.Start
+start₁ c = c .before .before .before .before .before .before
 
-past-1 : (c : tie.Else1) → Past 1 (rows (c .before .before .before .before))
+asked : (c : tie.After-is-available) {t : Bool} → c .is-available .result ≡ t
+    → available (composerOf (start₁ c .args .state .now) .setting .availability) (start₁ c .args .r .0) ≡ t
+asked c e =
+    let a = start₁ c .args in
+    ap (λ (n : ℕ). available n (a .r .0)) (availability-there (a .state .now) (start₁ c .pre) ∙ sym (c .before .word .ensures))
+    ∙ sym (c .is-available .ensures) ∙ e
+
+past-1 : (c : tie.Else1) → Past 1 (rows (start₁ (c .before)))
 unfolding streamChecks
-past-1 c = passed _ _ (ap not (sym (c .before .is-available .ensures)) ∙ c .if1 .left)
+past-1 c = passed _ _ (ap not (asked (c .before) refl) ∙ c .if1 .left)
 
-past-2 : (c : tie.Else2) → Past 2 (rows (c .before .before .before .before .before .before .before .before .before .before))
+-- whether a packet is unfit, as it was asked
+abbrev start₂ : tie.After-has-unfit → tie.Start
+start₂ c = start₁ (c .before .before .before .before .before .before .before)
+
+unfit-asked : (c : tie.After-has-unfit) {t : Bool} → c .has-unfit .result ≡ t
+    → someUnfit (composerOf (start₂ c .args .state .now) .pid) (start₂ c .args .r .0) (composerOf (start₂ c .args .state .now) .setting .«relative_ts_number») (composerOf (start₂ c .args .state .now) .filled) (start₂ c .args .stream .now)
+    ≡ t
+unfolding composerOf
+unfit-asked c e =
+    let a = start₂ c .args in
+    rw (plan-there (a .state .now) (start₂ c .pre), sym (c .before .before .before .word2 .ensures)) (sym (c .has-unfit .ensures) ∙ e)
+
+past-2 : (c : tie.Else2) → Past 2 (rows (start₂ (c .before)))
 unfolding streamChecks
-past-2 c = past-1 (c .before .before .before .before .before .before) ∙ passed _ _ (sym (c .before .has-unfit .ensures) ∙ c .if2 .left)
+past-2 c = past-1 (c .before .before .before .before .before .before .before) ∙ passed _ _ (unfit-asked (c .before) (c .if2 .left))
+
+shared-slice-read-word : tie.Need-shared-slice-read-word
+shared-slice-read-word c = search needs
+
+add-word : tie.Need-add-word
+add-word c = search needs
+
+shared-slice-read-word-2 : tie.Need-shared-slice-read-word-2
+shared-slice-read-word-2 c = search needs
+
+word-requires : tie.Need-word-requires
+word-requires c κs = search needs
 
 is-available-requires : tie.Need-is-available-requires
 is-available-requires c κs = search needs
 
 returns : tie.Need-returns
 unfolding streamChecks
-returns c = sym (answers _ _ (ap not (sym (c .before .is-available .ensures)) ∙ c .if1 .taken))
+returns c = sym (answers _ _ (ap not (asked (c .before) refl) ∙ c .if1 .taken))
 
-slice-aggregate-has-unfit : tie.Need-slice-aggregate-has-unfit
-slice-aggregate-has-unfit c = sym (slots (c .before .before .before .before .before .before .before) .0)
+shared-slice-read-word-3 : tie.Need-shared-slice-read-word-3
+shared-slice-read-word-3 c = search needs
 
-slice-aggregate-has-unfit-2 : tie.Need-slice-aggregate-has-unfit-2
-slice-aggregate-has-unfit-2 c = search needs
+shared-slice-read-word-4 : tie.Need-shared-slice-read-word-4
+shared-slice-read-word-4 c = search needs
+
+word-requires-2 : tie.Need-word-requires-2
+word-requires-2 c κs = search needs
+
+add-has-unfit : tie.Need-add-has-unfit
+add-has-unfit c = search needs
+
+sub-has-unfit : tie.Need-sub-has-unfit
+sub-has-unfit c = search needs
+
+part-has-unfit-start : tie.Need-part-has-unfit-start
+part-has-unfit-start c = search needs
+
+part-has-unfit-end : tie.Need-part-has-unfit-end
+part-has-unfit-end c = search needs
+
+sub-has-unfit-2 : tie.Need-sub-has-unfit-2
+sub-has-unfit-2 c = search needs
+
+part-has-unfit-start-2 : tie.Need-part-has-unfit-start-2
+part-has-unfit-start-2 c = search needs
+
+part-has-unfit-end-2 : tie.Need-part-has-unfit-end-2
+part-has-unfit-end-2 c = search needs
 
 has-unfit-requires : tie.Need-has-unfit-requires
-has-unfit-requires c κs = slots (c .before .before .before .before .before .before .before .before)
+has-unfit-requires c κs = search needs
 
 returns-2 : tie.Need-returns-2
 unfolding streamChecks
-returns-2 c = sym (past-1 (c .before .before .before .before .before .before) ∙ answers _ _ (sym (c .before .has-unfit .ensures) ∙ c .if2 .taken))
+returns-2 c = sym (past-1 (c .before .before .before .before .before .before .before) ∙ answers _ _ (unfit-asked (c .before) (c .if2 .taken)))
 
 returns-3 : tie.Need-returns-3
 unfolding streamChecks firstOf
@@ -54,10 +114,22 @@ pub stream-refusal-spec : {M : Type 1} → statement M
 stream-refusal-spec =
     tie.close
     (tie.spec
+    shared-slice-read-word
+    add-word
+    shared-slice-read-word-2
+    word-requires
     is-available-requires
     returns
-    slice-aggregate-has-unfit
-    slice-aggregate-has-unfit-2
+    shared-slice-read-word-3
+    shared-slice-read-word-4
+    word-requires-2
+    add-has-unfit
+    sub-has-unfit
+    part-has-unfit-start
+    part-has-unfit-end
+    sub-has-unfit-2
+    part-has-unfit-start-2
+    part-has-unfit-end-2
     has-unfit-requires
     returns-2
     returns-3)
