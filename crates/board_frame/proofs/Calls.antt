@@ -1,12 +1,13 @@
 -- What the exported calls answer and leave where the composer's own call is refused, and where it is not. Assumes nothing.
 use Prim.Native.Nat.{ℕ}
-use mathlib.Core.Path.{_≡_, sym, ap, _∙_}
+use mathlib.Core.Path.{_≡_, refl, sym, ap, _∙_}
+use mathlib.Core.Bool.{Bool}
 use mathlib.Core.List.{List}
-use borrow.Author.Tests.{eq-eqb}
+use borrow.Author.Tests.{eq-eqb, ne-eqb}
 use lib.ListN.{length}
 use Rattle.composer_state.specs.declared.Answer.{Answer}
-use Rattle.composer_state.specs.declared.Placed.{Placed}
-use Rattle.composer_state.specs.Composing.{beginOf, begunFrame, putOf, putFrame, closeOf, closedFrame}
+use Rattle.composer_state.specs.Slots.{placedBy, marksAfter, frameAfter}
+use Rattle.composer_state.specs.Composing.{marked, beginOf, begunFrame, putRefusal, putOf, putFrame, closeOf, closedFrame}
 use Rattle.refusal_table.proofs.Refusals.{kept, written}
 use Rattle.coding.specs.Settings.{settingLength, settingOf}
 use Rattle.composer_bytes.specs.States.{composerLength, composerBytes, composerOf}
@@ -32,31 +33,36 @@ module _ (state setting frame : List ℕ) (l : length state ≡ composerLength) 
   unfolding beginState
   begin-done z b = (sym z ∙ begin-answer, (b ∙ ap (λ (a : Answer). composerBytes (a .state)) p ∙ written begin-answer _ state z, begin-memory))
 
-module _ (state : List ℕ) (n : ℕ) (stream frame : List ℕ) (l : length state ≡ composerLength) {r : Placed} {memory : List ℕ}
-    (p : r ≡ putOf (composerOf state) n stream (length frame)) (f : memory ≡ putFrame (composerOf state) n stream frame) where
-  put-answer : r .refusal ≡ putRefused state n stream frame
-  unfolding putRefused
-  put-answer = rw (eq-eqb (length state) composerLength l) (ap (λ (a : Placed). a .refusal) p)
+-- a put, by what its checks answered
+module _ (state : List ℕ) (n : ℕ) (stream frame : List ℕ) (l : length state ≡ composerLength) {refusal : ℕ}
+    (e : refusal ≡ putRefusal (composerOf state) n stream (length frame)) where
+  abbrev plan : List ℕ
+  plan = composerOf state .setting .«relative_ts_number»
 
-  put-count : r .placed ≡ putPlaced state n stream frame
-  unfolding putPlaced
-  put-count = rw (eq-eqb (length state) composerLength l) (ap (λ (a : Placed). a .placed) p)
+  abbrev marks : List Bool
+  marks = composerOf state .filled
 
-  put-memory : memory ≡ putMemory state n stream frame
-  unfolding putMemory
-  put-memory = rw (eq-eqb (length state) composerLength l) f
+  put-answer : refusal ≡ putRefused state n stream frame
+  unfolding putRefused putOf
+  put-answer = rw (eq-eqb (length state) composerLength l) e
 
-  pub put-refused : (r .refusal ≡ 0 → ⊥)
-      → (r .refusal ≡ putRefused state n stream frame)
-      × ((r .placed ≡ putPlaced state n stream frame) × ((state ≡ putState state n stream frame) × (memory ≡ putMemory state n stream frame)))
-  unfolding putState
-  put-refused h = (put-answer, (put-count, (kept put-answer _ state h, put-memory)))
+  pub put-refused : (refusal ≡ 0 → ⊥)
+      → (refusal ≡ putRefused state n stream frame)
+      × ((0 ≡ putPlaced state n stream frame) × ((state ≡ putState state n stream frame) × (frame ≡ putMemory state n stream frame)))
+  unfolding putPlaced putState putMemory putOf putFrame
+  put-refused h =
+      (put-answer, (rw (eq-eqb (length state) composerLength l, ne-eqb _ 0 (λ z. h (e ∙ z))) refl, (kept put-answer _ state h, rw (eq-eqb (length state) composerLength l) (kept e _ frame h))))
 
-  pub put-done : {bytes : List ℕ} → r .refusal ≡ 0 → bytes ≡ composerBytes (r .state)
+  pub put-done : refusal ≡ 0 → {placed : ℕ} {bytes memory : List ℕ}
+      → placed ≡ placedBy n plan marks stream
+      → bytes ≡ composerBytes (marked (composerOf state) (marksAfter n plan marks stream))
+      → memory ≡ frameAfter n plan marks stream frame
       → (0 ≡ putRefused state n stream frame)
-      × ((r .placed ≡ putPlaced state n stream frame) × ((bytes ≡ putState state n stream frame) × (memory ≡ putMemory state n stream frame)))
-  unfolding putState
-  put-done z b = (sym z ∙ put-answer, (put-count, (b ∙ ap (λ (a : Placed). composerBytes (a .state)) p ∙ written put-answer _ state z, put-memory)))
+      × ((placed ≡ putPlaced state n stream frame) × ((bytes ≡ putState state n stream frame) × (memory ≡ putMemory state n stream frame)))
+  unfolding putPlaced putState putMemory putOf putFrame
+  put-done z p b m =
+      let none : putRefusal (composerOf state) n stream (length frame) ≡ 0 = sym e ∙ z in
+      (sym z ∙ put-answer, (rw (eq-eqb (length state) composerLength l, none) p, (b ∙ rw none refl ∙ written put-answer _ state z, rw (eq-eqb (length state) composerLength l) (m ∙ written e _ frame z))))
 
 module _ (state frame : List ℕ) (l : length state ≡ composerLength) {r : Answer} {memory : List ℕ}
     (p : r ≡ closeOf (composerOf state) (length frame)) (f : memory ≡ closedFrame (composerOf state) frame) where

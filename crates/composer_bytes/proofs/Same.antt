@@ -4,7 +4,7 @@ use mathlib.Core.Path.{_≡_, refl, sym, ap, ap₂, _∙_}
 use mathlib.Core.Bool.{Bool, true, false, cond, not, _&&_}
 use mathlib.Core.List.{List, [], _∷_, _++_, map, append-assoc}
 use native.Mathlib.Omega.{arith}
-use borrow.Author.Tests.{ltb-true}
+use borrow.Author.Tests.{ltb-true, not-true}
 use lib.Dec.{eqb, ltb}
 use lib.ListN.{length, getD, take, replicate}
 use lib.Seq.{take-suc, append-snoc}
@@ -64,6 +64,10 @@ module _ (b : List ℕ) (long : length b ≡ composerLength) (fit : Fit 8 b) (co
 
   open-test : ltb (getD b 85 0) 2 ≡ true
   open-test = both (ltb (getD b 85 0) 2) (not (someAtLeast 2 (part 338 52 b))) (tests .1) .0
+
+  -- the marks' bytes are marks
+  pub marks-low : someAtLeast 2 (part 338 52 b) ≡ false
+  marks-low = not-true (someAtLeast 2 (part 338 52 b)) (both (ltb (getD b 85 0) 2) (not (someAtLeast 2 (part 338 52 b))) (tests .1) .1)
 
   -- PID and kind: the first three bytes, whatever stands behind them
   pid-kind : (r : List ℕ) → wordBytes (composerOf b .pid ∷ []) ++ (kindNumber (composerOf b .kind) ∷ r) ≡ take 3 b ++ r

@@ -1,20 +1,27 @@
 -- Where a state's bytes have what the calls look at. Assumes nothing.
 use Prim.Native.Nat.{ℕ, _+_, _<_}
-use mathlib.Core.Path.{_≡_, refl, _∙_}
-use mathlib.Core.List.{List}
+use mathlib.Core.Path.{_≡_, refl, ap, _∙_}
+use mathlib.Core.List.{List, [], _++_, append-nil}
 use native.Mathlib.Omega.{arith}
 use borrow.Author.Tests.{eq-eqb}
-use lib.ListN.{length, getD, drop}
+use lib.ListN.{length, getD, take, drop, length-drop, drop-of-length-le}
 use lib.Seq.{getD-take, getD-drop}
+use Rattle.slices.proofs.Front.{put}
 use Rattle.words.specs.Words.{wordAt}
 use Rattle.coding.specs.Settings.{part, announcedLength, announcedOf, settingLength, settingOf}
 use Rattle.coding.proofs.Parts.{length-part}
 use Rattle.coding.proofs.Same.{part-inside}
-use Rattle.composer_bytes.specs.States.{composerLength, composerOf}
+use Rattle.composer_bytes.specs.States.{composerLength, marksOf, composerOf}
 
 -- a byte of a part
 pub byte-in : (k n i : ℕ) (b : List ℕ) → i < n → getD (part k n b) i 0 ≡ getD b (k + i) 0
 byte-in k n i b h = getD-take n (drop k b) i 0 h ∙ getD-drop k b i 0
+
+-- what was lent is the list's end, and came back as ys
+pub put-end : (i k : ℕ) (l ys : List ℕ) → length l ≡ i + k → put i k l ys ≡ take i l ++ ys
+put-end i k l ys h =
+    let none : drop k (drop i l) ≡ [] = drop-of-length-le (drop i l) {i = k} (rw length-drop (omega arith)) in
+    ap (λ (r : List ℕ). take i l ++ (ys ++ r)) none ∙ ap (λ (r : List ℕ). take i l ++ r) (append-nil ys)
 
 module _ (b : List ℕ) (long : length b ≡ composerLength) where
   setting-long : length (part 86 252 b) ≡ settingLength
@@ -36,3 +43,8 @@ module _ (b : List ℕ) (long : length b ≡ composerLength) where
         byte-in 88 80 2 b (omega arith),
         byte-in 88 80 3 b (omega arith),
       ) refl
+
+-- its filled slots
+pub marks-there : (b : List ℕ) → composerOf b .filled ≡ marksOf (part 338 52 b)
+unfolding composerOf
+marks-there b = refl
