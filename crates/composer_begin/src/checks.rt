@@ -1,20 +1,21 @@
 // What begin asks of its state and of what it is lent, in the table's order.
-use composer_state::Composer;
 use packet::FRAME_BYTES;
-use setting::Setting;
 ghost use mathlib.Core.Path.{_≡_};
+ghost use lib.ListN.{length};
 ghost use Rattle.refusal_table.specs.Refusal.{firstOf};
 ghost use Rattle.rules.specs.Rules.{ruleChecks};
+ghost use Rattle.coding.specs.Settings.{settingOf};
 ghost use Rattle.composer_state.specs.Composing.{openRuleChecks, inTurn, beginRefusal};
+ghost use Rattle.composer_bytes.specs.States.{composerLength, composerOf};
 
 // 8 to 11 of the state's setting while a frame is open and of a new one: under one number the state's comes first, so the
 // smaller number answers.
-fn both_rules_refusal(c: Composer, s: Setting) -> u8
-    ensures { λ r. ⌜ r ≡ firstOf (inTurn (openRuleChecks c) (ruleChecks (c .kind) s)) ⌝ }
+fn both_rules_refusal(state: &[u8], setting: &[u8]) -> u8
+    requires { ⌜ length (now state) ≡ composerLength ⌝ }
+    ensures { λ r. ⌜ r ≡ firstOf (inTurn (openRuleChecks (composerOf (now (state .entry)))) (ruleChecks (composerOf (now (state .entry)) .kind) (settingOf (now (setting .entry))))) ⌝ }
 {
-    let old = composer_open::open_rule_refusal(c);
-    let kind = c.kind;
-    let new = setting_rules::rule_refusal(kind, s);
+    let old = composer_in_place::open_rule_refusal(state);
+    let new = setting_in_place::rule_refusal(words::kind_of(state[2]), setting);
     if old == 0 {
         return new;
     }
@@ -27,24 +28,24 @@ fn both_rules_refusal(c: Composer, s: Setting) -> u8
     old
 }
 
-pub(crate) fn begin_refusal(c: Composer, s: Setting, lent: usize) -> u8
-    ensures { λ r. ⌜ r ≡ beginRefusal c s lent ⌝ }
+pub(crate) fn begin_refusal(state: &[u8], setting: &[u8], lent: usize) -> u8
+    requires { ⌜ length (now state) ≡ composerLength ⌝ }
+    ensures { λ r. ⌜ r ≡ beginRefusal (composerOf (now (state .entry))) (settingOf (now (setting .entry))) lent ⌝ }
 {
     if lent != FRAME_BYTES {
         return 1;
     }
-    let state = composer_state::state_refusal(c);
-    if state != 0 {
-        return state;
+    let refused = composer_in_place::state_refusal(state);
+    if refused != 0 {
+        return refused;
     }
-    let kind = c.kind;
-    let width = widths::width_refusal(kind, s);
+    let width = setting_in_place::width_refusal(words::kind_of(state[2]), setting);
     if width != 0 {
         return width;
     }
-    let rule = both_rules_refusal(c, s);
+    let rule = both_rules_refusal(state, setting);
     if rule != 0 {
         return rule;
     }
-    composer_marks::mark_refusal(c)
+    composer_in_place::mark_refusal(state)
 }

@@ -1,47 +1,50 @@
-// A frame of a run begun: null packets in its slots.
+// A frame of a run begun: null packets in its slots. The run's state is lent bytes, and so is the setting.
 mod checks;
 mod slots;
 
-use composer_state::Answer;
-use composer_state::Composer;
-use setting::SLOTS;
-use setting::Setting;
+use coding::SETTING_BYTES;
+use composer_bytes::COMPOSER_BYTES;
+use composer_bytes::FILLED;
+use composer_bytes::OPEN;
+use composer_bytes::SETTING;
 ghost use mathlib.Core.Path.{_≡_};
-ghost use lib.ListN.{length};
-ghost use Rattle.composer_state.specs.Composing.{opened, beginOf, begunFrame};
+ghost use mathlib.Core.List.{_∷_, _++_};
+ghost use lib.ListN.{length, take, replicate};
+ghost use Rattle.counters.specs.Counters.{lastSlot};
+ghost use Rattle.coding.specs.Settings.{settingLength};
+ghost use Rattle.composer_bytes.specs.States.{composerLength};
+ghost use Rattle.board_frame.specs.Calls.{beginRefused, beginState, beginMemory};
 
-fn begun(c: Composer, s: Setting) -> Composer
-    ensures { λ r. ⌜ r ≡ opened c s ⌝ }
+// The state with a frame open: the setting's bytes, and no slot filled.
+fn open(state: &mut [u8], setting: &[u8])
+    requires { ⌜ (length (now state) ≡ composerLength) × (length (now setting) ≡ settingLength) ⌝ }
+    ensures { λ _. ⌜ now (state .exit) ≡ take 85 (now (state .entry)) ++ (1 ∷ (now (setting .entry) ++ replicate lastSlot 0)) ⌝ }
 {
-    let kind = c.kind;
-    let last = c.last;
-    Composer {
-        pid: c.pid,
-        kind,
-        counter: c.counter,
-        version: c.version,
-        last,
-        is_open: true,
-        setting: s,
-        filled: [false; SLOTS],
-    }
+    state[OPEN] = 1;
+    slices::copy(&mut state[SETTING..FILLED], setting);
+    slices::fill(&mut state[FILLED..COMPOSER_BYTES], 0);
 }
 
 // Opens a frame: null packets in slots 1 to 52 of the lent frame, slot 0 as it was. A frame still open is abandoned.
-pub fn begin(run: Composer, frame: &mut [u8], setting: Setting) -> Answer
-    ensures { λ r. ⌜ r ≡ beginOf run setting (length (now (frame .entry))) ⌝ }
-    ensures { λ _. ⌜ now (frame .exit) ≡ begunFrame run setting (now (frame .entry)) ⌝ }
+#[no_mangle]
+pub extern "C" fn niranbok_composer_begin(state: &mut [u8], frame: &mut [u8], setting: &[u8]) -> u8
+    ensures { λ r. ⌜ r ≡ beginRefused (now (state .entry)) (now (setting .entry)) (now (frame .entry)) ⌝ }
+    ensures { λ _. ⌜ now (state .exit) ≡ beginState (now (state .entry)) (now (setting .entry)) (now (frame .entry)) ⌝ }
+    ensures { λ _. ⌜ now (frame .exit) ≡ beginMemory (now (state .entry)) (now (setting .entry)) (now (frame .entry)) ⌝ }
 {
-    let refusal = checks::begin_refusal(run, setting, frame.len());
+    if state.len() != COMPOSER_BYTES {
+        return 1;
+    }
+    if setting.len() != SETTING_BYTES {
+        return 1;
+    }
+    let refusal = checks::begin_refusal(state, setting, frame.len());
     if refusal != 0 {
-        return Answer {
-            refusal,
-            state: run,
-        };
+        return refusal;
     }
+    slices::look(state);
+    slices::look(setting);
     slots::clear(frame);
-    Answer {
-        refusal: 0,
-        state: begun(run, setting),
-    }
+    open(state, setting);
+    0
 }

@@ -26,7 +26,7 @@ use Rattle.composer_bytes.specs.States.{composerLength, markByte, compos
 use Rattle.composer_bytes.proofs.Parts.{frontBytes}
 
 -- a byte that is a kind says itself
-kind-same : (n : ℕ) → n < 2 → kindNumber (kindOf n) ≡ n
+pub kind-same : (n : ℕ) → n < 2 → kindNumber (kindOf n) ≡ n
 unfolding kindNumber kindOf
 kind-same zero h = refl
 kind-same (suc zero) h = refl

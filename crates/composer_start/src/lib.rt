@@ -1,41 +1,28 @@
-// A run of frames started.
-use composer_state::Answer;
-use composer_state::Composer;
-use setting::Kind;
-use setting::SLOTS;
-use setting::Setting;
+// A run of frames started: its state is written into lent bytes.
+use composer_bytes::COMPOSER_BYTES;
 ghost use mathlib.Core.Path.{_≡_};
-ghost use Rattle.composer_state.specs.Composing.{fresh, startOf};
+ghost use Rattle.board_frame.specs.Calls.{startRefused, startState};
 
-fn new_run(pid: u16, kind: Kind) -> Composer
-    ensures { λ r. ⌜ r ≡ fresh kind pid ⌝ }
+// A new run with this header PID and kind. The counter and the version are those before the first header's.
+#[no_mangle]
+pub extern "C" fn niranbok_composer_start(state: &mut [u8], pid: u16, kind: u8) -> u8
+    ensures { λ r. ⌜ r ≡ startRefused (now (state .entry)) pid kind ⌝ }
+    ensures { λ _. ⌜ now (state .exit) ≡ startState (now (state .entry)) pid kind ⌝ }
 {
-    let last = announced::announce(Setting::blank());
-    let setting = Setting::blank();
-    Composer {
-        pid,
-        kind,
-        counter: 15,
-        version: 7,
-        last,
-        is_open: false,
-        setting,
-        filled: [false; SLOTS],
+    if state.len() != COMPOSER_BYTES {
+        return 1;
     }
-}
-
-// A new run with this header PID and kind; refused, the fresh plain state of PID 0.
-pub fn start(pid: u16, kind: Kind) -> Answer
-    ensures { λ r. ⌜ r ≡ startOf kind pid ⌝ }
-{
     if !rules::pid_allowed(pid) {
-        return Answer {
-            refusal: 2,
-            state: new_run(0, Kind::Plain),
-        };
+        return 2;
     }
-    Answer {
-        refusal: 0,
-        state: new_run(pid, kind),
+    if 1 < kind {
+        return 17;
     }
+    slices::fill(state, 0);
+    state[0] = (pid / 256) as u8;
+    state[1] = (pid % 256) as u8;
+    state[2] = kind;
+    state[3] = 15;
+    state[4] = 7;
+    0
 }
