@@ -6,32 +6,32 @@ use mathlib.Core.List.{List}
 use borrow.Author.Tests.{eq-eqb, ne-eqb}
 use lib.ListN.{length}
 use Rattle.composer_state.specs.declared.Answer.{Answer}
-use Rattle.composer_state.specs.Slots.{placedBy, marksAfter, frameAfter}
-use Rattle.composer_state.specs.Composing.{marked, beginOf, begunFrame, putRefusal, putOf, putFrame, closeOf, closedFrame}
+use Rattle.composer_state.specs.Slots.{cleared, placedBy, marksAfter, frameAfter}
+use Rattle.composer_state.specs.Composing.{opened, marked, answer, beginRefusal, beginOf, begunFrame, putRefusal, putOf, putFrame, closeOf, closedFrame}
 use Rattle.refusal_table.proofs.Refusals.{kept, written}
 use Rattle.coding.specs.Settings.{settingLength, settingOf}
 use Rattle.composer_bytes.specs.States.{composerLength, composerBytes, composerOf}
 use Rattle.board_frame.specs.Calls.{beginRefused, beginState, beginMemory, putRefused, putPlaced, putState, putMemory, closeRefused, closeState, closeMemory}
 
-module _ (state setting frame : List ℕ) (l : length state ≡ composerLength) (t : length setting ≡ settingLength) {r : Answer} {memory : List ℕ}
-    (p : r ≡ beginOf (composerOf state) (settingOf setting) (length frame)) (f : memory ≡ begunFrame (composerOf state) (settingOf setting) frame) where
-  begin-answer : r .refusal ≡ beginRefused state setting frame
-  unfolding beginRefused
-  begin-answer = rw (eq-eqb (length state) composerLength l, eq-eqb (length setting) settingLength t) (ap (λ (a : Answer). a .refusal) p)
+-- a begin, by what its checks answered
+module _ (state setting frame : List ℕ) (l : length state ≡ composerLength) (t : length setting ≡ settingLength) {refusal : ℕ}
+    (e : refusal ≡ beginRefusal (composerOf state) (settingOf setting) (length frame)) where
+  begin-answer : refusal ≡ beginRefused state setting frame
+  unfolding beginRefused beginOf answer
+  begin-answer = rw (eq-eqb (length state) composerLength l, eq-eqb (length setting) settingLength t) e
 
-  begin-memory : memory ≡ beginMemory state setting frame
-  unfolding beginMemory
-  begin-memory = rw (eq-eqb (length state) composerLength l, eq-eqb (length setting) settingLength t) f
+  pub begin-refused : (refusal ≡ 0 → ⊥)
+      → (refusal ≡ beginRefused state setting frame) × ((state ≡ beginState state setting frame) × (frame ≡ beginMemory state setting frame))
+  unfolding beginState beginMemory begunFrame
+  begin-refused h =
+      (begin-answer, (kept begin-answer _ state h, rw (eq-eqb (length state) composerLength l, eq-eqb (length setting) settingLength t) (kept e _ frame h)))
 
-  pub begin-refused : (r .refusal ≡ 0 → ⊥)
-      → (r .refusal ≡ beginRefused state setting frame) × ((state ≡ beginState state setting frame) × (memory ≡ beginMemory state setting frame))
-  unfolding beginState
-  begin-refused h = (begin-answer, (kept begin-answer _ state h, begin-memory))
-
-  pub begin-done : {bytes : List ℕ} → r .refusal ≡ 0 → bytes ≡ composerBytes (r .state)
+  pub begin-done : refusal ≡ 0 → {bytes memory : List ℕ} → bytes ≡ composerBytes (opened (composerOf state) (settingOf setting)) → memory ≡ cleared frame
       → (0 ≡ beginRefused state setting frame) × ((bytes ≡ beginState state setting frame) × (memory ≡ beginMemory state setting frame))
-  unfolding beginState
-  begin-done z b = (sym z ∙ begin-answer, (b ∙ ap (λ (a : Answer). composerBytes (a .state)) p ∙ written begin-answer _ state z, begin-memory))
+  unfolding beginState beginMemory begunFrame beginOf answer
+  begin-done z b m =
+      let none : beginRefusal (composerOf state) (settingOf setting) (length frame) ≡ 0 = sym e ∙ z in
+      (sym z ∙ begin-answer, (b ∙ rw none refl ∙ written begin-answer _ state z, rw (eq-eqb (length state) composerLength l, eq-eqb (length setting) settingLength t) (m ∙ written e _ frame z)))
 
 -- a put, by what its checks answered
 module _ (state : List ℕ) (n : ℕ) (stream frame : List ℕ) (l : length state ≡ composerLength) {refusal : ℕ}

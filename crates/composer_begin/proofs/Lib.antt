@@ -1,3 +1,4 @@
 mod Nulls
+mod Opened
 pub mod Passed
 mod Turns

@@ -8,6 +8,7 @@ use lib.ListN.{length, getD, take, drop, length-drop, drop-of-length-le}
 use lib.Seq.{getD-take, getD-drop}
 use Rattle.slices.proofs.Front.{put}
 use Rattle.words.specs.Words.{wordAt}
+use Rattle.words.specs.Kinds.{kindOf}
 use Rattle.coding.specs.Settings.{part, announcedLength, announcedOf, settingLength, settingOf}
 use Rattle.coding.proofs.Parts.{length-part}
 use Rattle.coding.proofs.Same.{part-inside}
@@ -48,3 +49,8 @@ module _ (b : List ℕ) (long : length b ≡ composerLength) where
 pub marks-there : (b : List ℕ) → composerOf b .filled ≡ marksOf (part 338 52 b)
 unfolding composerOf
 marks-there b = refl
+
+-- the run's kind
+pub kind-there : (b : List ℕ) → composerOf b .kind ≡ kindOf (getD b 2 0)
+unfolding composerOf
+kind-there b = refl

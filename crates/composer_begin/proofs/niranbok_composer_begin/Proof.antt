@@ -1,60 +1,90 @@
+-- `niranbok_composer_begin` meets its contract: behind its checks the state's bytes get the setting's. Assumes nothing.
+use mathlib.Core.Path.{_≡_, refl, sym, _∙_}
+use mathlib.Core.Bool.{true}
 use borrow.Author.Needs.{needs}
+use borrow.Author.Tests.{eq-eqb, ne-eqb}
+use lib.ListN.{length}
+use Rattle.refusal_table.specs.Refusal.{leaves}
+use Rattle.coding.specs.Settings.{settingLength, settingOf}
+use Rattle.composer_state.specs.Composing.{beginRefusal}
+use Rattle.composer_bytes.specs.States.{composerLength, isCoded, composerOf}
+use Rattle.composer_bytes.proofs.Same.{opened-bytes, all-bytes, coded-by-counter}
+use Rattle.board_frame.specs.Calls.{beginRefused, beginState, beginMemory}
+use Rattle.board_frame.proofs.Calls.{begin-refused, begin-done}
+use Rattle.composer_begin.proofs.Passed.{begin-passed, begin-counter}
 use Rattle.composer_begin.proofs.niranbok_composer_begin.Statement.{statement}
 use Rattle.composer_begin.proofs.niranbok_composer_begin.Tie as tie
-use Rattle.composer_begin.proofs.niranbok_composer_begin.Reads as reads
-use Rattle.composer_begin.proofs.niranbok_composer_begin.Lts as lts
-use Rattle.composer_begin.proofs.checks.begin_refusal.Reads as begin-refusal-reads
-use Rattle.composer_begin.proofs.open.Reads as open-reads
-use Rattle.composer_begin.proofs.slots.clear.Reads as clear-reads
-use Rattle.slices.proofs.look.Reads as look-reads
 
--- src/lib.rt:36:9
+-- from the place behind the lengths, and behind the checks, to the function's start
+abbrev start₂ : tie.Else2 → tie.Start
+start₂ c = c .before .before .before .before .before
+
+abbrev start₃ : tie.Else3 → tie.Start
+start₃ c = start₂ (c .before .before .before)
+
+-- behind the checks
+past : (c : tie.Else3)
+    → beginRefusal (composerOf (start₃ c .args .state .now)) (settingOf (start₃ c .args .setting .now)) (length (start₃ c .args .frame .now)) ≡ 0
+past c = sym (c .before .begin-refusal .ensures) ∙ c .if3 .left
+
 returns : tie.Need-returns
-returns c = ?
+unfolding beginRefused beginState beginMemory leaves
+returns c = rw (ne-eqb (length (c .before .before .before .before .args .state .now)) composerLength (c .if1 .taken)) (refl, (refl, refl))
 
--- src/lib.rt:39:9
 returns-2 : tie.Need-returns-2
-returns-2 c = ?
+unfolding beginRefused beginState beginMemory leaves
+returns-2 c =
+    let a = c .before .before .before .before .before .args in
+    rw (eq-eqb (length (a .state .now)) composerLength (c .before .if1 .left), ne-eqb (length (a .setting .now)) settingLength (c .if2 .taken)) (refl, (refl, refl))
 
--- src/lib.rt:41:9
 begin-refusal-requires : tie.Need-begin-refusal-requires
 begin-refusal-requires c κs = search needs
 
--- src/lib.rt:43:9
 same-length : tie.Need-same-length
 same-length c = search needs
 
--- src/lib.rt:43:9
 returns-3 : tie.Need-returns-3
-returns-3 c = ?
+returns-3 c =
+    let k = c .before .before .before in
+    let a = start₂ k .args in
+    begin-refused (a .state .now) (a .setting .now) (a .frame .now) (k .before .if1 .left) (k .if2 .left) (c .before .begin-refusal .ensures) (c .if3 .taken)
 
--- src/lib.rt:45:5
 look-requires : tie.Need-look-requires
 look-requires c κs = search needs
 
--- src/lib.rt:46:5
 look-requires-2 : tie.Need-look-requires-2
 look-requires-2 c κs = search needs
 
--- src/lib.rt:47:5
 clear-requires : tie.Need-clear-requires
-clear-requires c κs = ?
+clear-requires c κs = begin-passed _ _ _ (past (c .before .before .before .before))
 
--- src/lib.rt:48:5
 open-requires : tie.Need-open-requires
-open-requires c κs = search needs
+open-requires c κs =
+    let k = c .before .before .before .before .before .before .before .before in
+    (k .before .before .before .before .if1 .left, k .before .before .before .if2 .left)
 
--- src/lib.rt:29:1
 same-length-2 : tie.Need-same-length-2
 same-length-2 c = search needs
 
--- src/lib.rt:29:1
 same-length-3 : tie.Need-same-length-3
 same-length-3 c = search needs
 
--- src/lib.rt:29:1
 returns-4 : tie.Need-returns-4
-returns-4 c = ?
+returns-4 c =
+    let o = c .before .before in
+    let cleared = o .before .before .before .before in
+    let looked = cleared .before .before in
+    let k = looked .before .before .before in
+    let lengths = k .before .before .before in
+    let a = start₃ k .args in
+    let b = a .state .now in
+    let s = a .setting .now in
+    let long = lengths .before .if1 .left in
+    let coded = coded-by-counter b (begin-counter _ _ _ (past k)) in
+    begin-done b s (a .frame .now) long (lengths .if2 .left) (k .before .begin-refusal .ensures) (k .if3 .left)
+    (o .«open» .ensures
+    ∙ sym (opened-bytes b long (all-bytes b (looked .before .look .ensures)) coded s (lengths .if2 .left) (all-bytes s (looked .look2 .ensures))))
+    (cleared .clear .ensures)
 
 pub niranbok-composer-begin-spec : {M : Type 1} → statement M
 niranbok-composer-begin-spec =

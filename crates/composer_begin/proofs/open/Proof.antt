@@ -1,54 +1,89 @@
+-- `open` meets its contract: the setting's bytes behind the open mark, and behind them no mark. Assumes nothing.
+use Prim.Native.Nat.{ℕ}
+use mathlib.Core.Path.{_≡_, sym, ap, ap₂, _∙_}
+use mathlib.Core.List.{List, _∷_, _++_}
+use native.Mathlib.Omega.{arith}
 use borrow.Author.Needs.{needs}
+use lib.ListN.{length, set, take, replicate, length-set, length-replicate}
+use Rattle.counters.specs.Counters.{lastSlot}
+use Rattle.slices.proofs.Front.{put, copied-over}
+use Rattle.coding.specs.Settings.{part, settingLength}
+use Rattle.coding.proofs.Parts.{length-part}
+use Rattle.composer_bytes.specs.States.{composerLength}
+use Rattle.composer_begin.proofs.Opened.{still-long, as-long, opened-parts}
 use Rattle.composer_begin.proofs.open.Statement.{statement}
 use Rattle.composer_begin.proofs.open.Tie as tie
-use Rattle.composer_begin.proofs.open.Reads as reads
-use Rattle.composer_begin.proofs.open.Lts as lts
-use Rattle.slices.proofs.copy.Reads as copy-reads
-use Rattle.slices.proofs.fill.Reads as fill-reads
 
--- src/lib.rt:23:5
+-- from the place behind the copy to the function's start
+abbrev start : tie.After-copy → tie.Start
+start c = c .before .before .before .before
+
+-- the setting's bytes
+setting-is : (c : tie.After-copy) → c .copy .last .0 ≡ start c .args .setting .now
+setting-is c = c .copy .ensures ∙ copied-over _ _ (part-long (start c .args .state .now) (start c .pre .0) ∙ sym (start c .pre .1))
+  where
+    part-long : (b : List ℕ) → length b ≡ composerLength → length (part 86 252 (set b 85 1)) ≡ settingLength
+    part-long b long = length-part 86 252 (set b 85 1) (rw (length-set b 85 1) (omega arith))
+
+setting-in : (c : tie.After-copy) → length (c .copy .last .0) ≡ settingLength
+setting-in c = ap length (setting-is c) ∙ start c .pre .1
+
+-- as long as before, behind the copy
+long-then : (c : tie.After-copy) → length (put 86 252 (set (start c .args .state .now) 85 1) (c .copy .last .0)) ≡ composerLength
+long-then c = still-long (start c .args .state .now) (c .copy .last .0) (start c .pre .0) (setting-in c)
+
+-- no marks
+marks-are : (c : tie.After-fill) → c .fill .last .0 ≡ replicate lastSlot 0
+marks-are c =
+    let k = c .before .before .before .before in
+    let state = put 86 252 (set (start k .args .state .now) 85 1) (k .copy .last .0) in
+    let long : length state ≡ composerLength = long-then k in
+    c .fill .ensures ∙ ap (λ (n : ℕ). replicate n 0) (length-part 338 52 state (omega arith))
+
+marks-out : (c : tie.After-fill) → length (c .fill .last .0) ≡ lastSlot
+marks-out c = ap length (marks-are c) ∙ length-replicate {A = ℕ} lastSlot 0
+
 slice-write-state : tie.Need-slice-write-state
 slice-write-state c = search needs
 
--- src/lib.rt:24:18
 sub-copy : tie.Need-sub-copy
 sub-copy c = search needs
 
--- src/lib.rt:24:18
 part-copy-start : tie.Need-part-copy-start
 part-copy-start c = search needs
 
--- src/lib.rt:24:18
 part-copy-end : tie.Need-part-copy-end
-part-copy-end c = ?
+part-copy-end c = rw (length-set (c .before .before .args .state .now) 85 1) (omega (arith, c .before .before .pre .0))
 
--- src/lib.rt:24:5
 copy-requires : tie.Need-copy-requires
 copy-requires c κs = search needs
 
--- src/lib.rt:25:18
 sub-fill : tie.Need-sub-fill
 sub-fill c = search needs
 
--- src/lib.rt:25:18
 part-fill-start : tie.Need-part-fill-start
 part-fill-start c = search needs
 
--- src/lib.rt:25:18
 part-fill-end : tie.Need-part-fill-end
-part-fill-end c = ?
+part-fill-end c =
+    let long = long-then (c .before .before) in
+    omega arith
 
--- src/lib.rt:25:5
 fill-requires : tie.Need-fill-requires
 fill-requires c κs = search needs
 
--- src/lib.rt:19:1
 same-length : tie.Need-same-length
-same-length c = ?
+same-length c =
+    let f = c .before .before in
+    let k = f .before .before .before .before in
+    as-long (start k .args .state .now) (k .copy .last .0) (start k .pre .0) (setting-in k) (f .fill .last .0) (marks-out f)
 
--- src/lib.rt:19:1
 returns : tie.Need-returns
-returns c = ?
+returns c =
+    let f = c .before .before in
+    let k = f .before .before .before .before in
+    opened-parts (start k .args .state .now) (k .copy .last .0) (start k .pre .0) (setting-in k) (f .fill .last .0) (marks-out f)
+    ∙ ap₂ (λ (s : List ℕ) (m : List ℕ). take 85 (start k .args .state .now) ++ (1 ∷ (s ++ m))) (setting-is k) (marks-are f)
 
 pub open-spec : {M : Type 1} → statement M
 open-spec =

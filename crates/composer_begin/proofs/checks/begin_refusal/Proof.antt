@@ -4,60 +4,87 @@ use mathlib.Core.Bool.{not}
 use mathlib.Core.List.{List, _++_}
 use borrow.Author.Needs.{needs}
 use borrow.Author.Tests.{eq-eqb, ne-eqb}
+use Rattle.setting.specs.declared.Kind.{Kind}
+use Rattle.setting.specs.declared.Setting.{Setting}
 use Rattle.refusal_table.specs.Refusal.{Check, firstOf}
 use Rattle.rules.specs.Rules.{widthChecks, ruleChecks}
 use Rattle.refusal_table.proofs.Refusals.{answers, passed, onward, at-once}
 use Rattle.rules.proofs.Checked.{width-none}
 use Rattle.composer_state.specs.Composing.{stateChecks, openRuleChecks, markChecks, inTurn, beginRefusal}
 use Rattle.composer_state.proofs.Refusals.{state-none}
+use Rattle.composer_state.specs.declared.Composer.{Composer}
+use Rattle.coding.specs.Settings.{settingOf}
+use Rattle.composer_bytes.specs.States.{composerOf}
+use Rattle.composer_bytes.proofs.Parts.{whole-same}
+use Rattle.composer_bytes.proofs.There.{kind-there}
 use Rattle.composer_begin.proofs.Turns.{both-rules-none}
 use Rattle.composer_begin.proofs.checks.begin_refusal.Statement.{statement}
 use Rattle.composer_begin.proofs.checks.begin_refusal.Tie as tie
 
 -- from the place after a check that did not hold to the function's start
+abbrev start₁ : tie.Else1 → tie.Start
+start₁ c = c .before .before .before
+
 abbrev start₂ : tie.Else2 → tie.Start
-start₂ c = c .before .before .before
+start₂ c = start₁ (c .before .before)
 
 abbrev start₃ : tie.Else3 → tie.Start
-start₃ c = start₂ (c .before .before)
+start₃ c = start₂ (c .before .before .before .before)
 
 abbrev start₄ : tie.Else4 → tie.Start
 start₄ c = start₃ (c .before .before)
 
+-- the state and the setting that the bytes say
+abbrev run : tie.Start → Composer
+run c = composerOf (c .args .state .now)
+
+abbrev new : tie.Start → Setting
+new c = settingOf (c .args .setting .now)
+
 -- the refusal of the whole, and its parts behind the length
 abbrev all : tie.Start → ℕ
-all c = beginRefusal (c .args .c) (c .args .s) (c .args .lent)
+all c = beginRefusal (run c) (new c) (c .args .lent)
 
 abbrev states : tie.Start → List Check
-states c = stateChecks (c .args .c)
+states c = stateChecks (run c)
 
 abbrev widths : tie.Start → List Check
-widths c = widthChecks (c .args .c .kind) (c .args .s)
+widths c = widthChecks (run c .kind) (new c)
 
 abbrev rules : tie.Start → List Check
-rules c = inTurn (openRuleChecks (c .args .c)) (ruleChecks (c .args .c .kind) (c .args .s))
+rules c = inTurn (openRuleChecks (run c)) (ruleChecks (run c .kind) (new c))
 
 abbrev marks : tie.Start → List Check
-marks c = markChecks (c .args .c)
+marks c = markChecks (run c)
 
-past₁ : (c : tie.Else1) → all (c .before) ≡ firstOf (states (c .before) ++ (widths (c .before) ++ (rules (c .before) ++ marks (c .before))))
+-- what is asked of the bytes
+state-told : (c : tie.After-state-refusal) → c .state-refusal .result ≡ firstOf (states (start₁ (c .before)))
+state-told c =
+    c .state-refusal .ensures ∙ ap (λ (b : List ℕ). firstOf (stateChecks (composerOf b))) (whole-same (start₁ (c .before) .args .state .now) (start₁ (c .before) .pre))
+
+width-told : (c : tie.After-width-refusal) → c .width-refusal .result ≡ firstOf (widths (start₂ (c .before .before .before)))
+width-told c =
+    let start = start₂ (c .before .before .before) in
+    c .width-refusal .ensures ∙ ap (λ (k : Kind). firstOf (widthChecks k (new start))) (c .before .kind-of .ensures ∙ sym (kind-there (start .args .state .now)))
+
+past₁ : (c : tie.Else1) → all (start₁ c) ≡ firstOf (states (start₁ c) ++ (widths (start₁ c) ++ (rules (start₁ c) ++ marks (start₁ c))))
 unfolding beginRefusal
 past₁ c = passed _ _ (ap not (eq-eqb _ _ (c .if1 .left)))
 
 past₂ : (c : tie.Else2) → all (start₂ c) ≡ firstOf (widths (start₂ c) ++ (rules (start₂ c) ++ marks (start₂ c)))
 past₂ c =
     past₁ (c .before .before)
-    ∙ onward (widths (start₂ c) ++ (rules (start₂ c) ++ marks (start₂ c))) (state-none (start₂ c .args .c) (sym (c .before .state-refusal .ensures) ∙ c .if2 .left))
+    ∙ onward (widths (start₂ c) ++ (rules (start₂ c) ++ marks (start₂ c))) (state-none (run (start₂ c)) (sym (state-told (c .before)) ∙ c .if2 .left))
 
 past₃ : (c : tie.Else3) → all (start₃ c) ≡ firstOf (rules (start₃ c) ++ marks (start₃ c))
 past₃ c =
-    past₂ (c .before .before)
-    ∙ onward (rules (start₃ c) ++ marks (start₃ c)) (width-none (start₃ c .args .c .kind) (start₃ c .args .s) (sym (c .before .width-refusal .ensures) ∙ c .if3 .left))
+    past₂ (c .before .before .before .before)
+    ∙ onward (rules (start₃ c) ++ marks (start₃ c)) (width-none (run (start₃ c) .kind) (new (start₃ c)) (sym (width-told (c .before)) ∙ c .if3 .left))
 
 past₄ : (c : tie.Else4) → all (start₄ c) ≡ firstOf (marks (start₄ c))
 past₄ c =
     past₃ (c .before .before)
-    ∙ onward (marks (start₄ c)) (both-rules-none (start₄ c .args .c) (start₄ c .args .s) (sym (c .before .both-rules-refusal .ensures) ∙ c .if4 .left))
+    ∙ onward (marks (start₄ c)) (both-rules-none (run (start₄ c)) (new (start₄ c)) (sym (c .before .both-rules-refusal .ensures) ∙ c .if4 .left))
 
 returns : tie.Need-returns
 unfolding beginRefusal
@@ -68,18 +95,24 @@ state-refusal-requires c κs = search needs
 
 returns-2 : tie.Need-returns-2
 returns-2 c =
-    let start = c .before .before .before in
-    let n = c .before .state-refusal .ensures in
+    let start = start₁ (c .before .before) in
+    let n = state-told (c .before) in
     n ∙ sym (past₁ (c .before .before) ∙ at-once (states start) (widths start ++ (rules start ++ marks start)) (λ z. c .if2 .taken (n ∙ z)))
+
+shared-slice-read-kind-of : tie.Need-shared-slice-read-kind-of
+shared-slice-read-kind-of c = search needs
+
+kind-of-requires : tie.Need-kind-of-requires
+kind-of-requires c κs = search needs
 
 width-refusal-requires : tie.Need-width-refusal-requires
 width-refusal-requires c κs = search needs
 
 returns-3 : tie.Need-returns-3
 returns-3 c =
-    let start = start₂ (c .before .before) in
-    let n = c .before .width-refusal .ensures in
-    n ∙ sym (past₂ (c .before .before) ∙ at-once (widths start) (rules start ++ marks start) (λ z. c .if3 .taken (n ∙ z)))
+    let start = start₂ (c .before .before .before .before) in
+    let n = width-told (c .before) in
+    n ∙ sym (past₂ (c .before .before .before .before) ∙ at-once (widths start) (rules start ++ marks start) (λ z. c .if3 .taken (n ∙ z)))
 
 both-rules-refusal-requires : tie.Need-both-rules-refusal-requires
 both-rules-refusal-requires c κs = search needs
@@ -94,7 +127,9 @@ mark-refusal-requires : tie.Need-mark-refusal-requires
 mark-refusal-requires c κs = search needs
 
 returns-5 : tie.Need-returns-5
-returns-5 c = c .mark-refusal .ensures ∙ sym (past₄ (c .before))
+returns-5 c =
+    let start = start₄ (c .before) in
+    c .mark-refusal .ensures ∙ ap (λ (b : List ℕ). firstOf (markChecks (composerOf b))) (whole-same (start .args .state .now) (start .pre)) ∙ sym (past₄ (c .before))
 
 pub begin-refusal-spec : {M : Type 1} → statement M
 begin-refusal-spec =
@@ -103,6 +138,8 @@ begin-refusal-spec =
     returns
     state-refusal-requires
     returns-2
+    shared-slice-read-kind-of
+    kind-of-requires
     width-refusal-requires
     returns-3
     both-rules-refusal-requires

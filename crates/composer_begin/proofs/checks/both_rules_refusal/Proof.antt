@@ -1,24 +1,47 @@
-use mathlib.Core.Path.{_≡_, sym, ap₂, _∙_}
+use Prim.Native.Nat.{ℕ}
+use mathlib.Core.Path.{_≡_, sym, ap, ap₂, _∙_}
+use mathlib.Core.List.{List}
 use native.Mathlib.Omega.{arith}
 use borrow.Author.Needs.{needs}
 use borrow.Author.Tests.{eq-eqb, ne-eqb, lt-ltb, le-ltb}
+use Rattle.setting.specs.declared.Kind.{Kind}
 use Rattle.refusal_table.specs.Refusal.{firstOf}
 use Rattle.rules.specs.Rules.{ruleChecks}
 use Rattle.composer_state.specs.Composing.{inTurn, openRuleChecks}
+use Rattle.coding.specs.Settings.{settingOf}
+use Rattle.composer_bytes.specs.States.{composerOf}
+use Rattle.composer_bytes.proofs.Parts.{whole-same}
+use Rattle.composer_bytes.proofs.There.{kind-there}
 use Rattle.composer_begin.proofs.Turns.{lesser, in-turn, rules-rise}
 use Rattle.composer_begin.proofs.checks.both_rules_refusal.Statement.{statement}
 use Rattle.composer_begin.proofs.checks.both_rules_refusal.Tie as tie
 
+-- from the place behind both calls to the function's start
+abbrev start : tie.After-rule-refusal → tie.Start
+start c = c .before .before .before .before .before .before
+
 -- what both answered, once the second was asked
-both : (c : tie.After-rule-refusal) → lesser (c .before .open-rule-refusal .result) (c .rule-refusal .result) ≡ firstOf (inTurn (openRuleChecks (c .before .before .args .c)) (ruleChecks (c .before .before .args .c .kind) (c .before .before .args .s)))
+both : (c : tie.After-rule-refusal)
+    → lesser (c .before .before .before .open-rule-refusal .result) (c .rule-refusal .result)
+    ≡ firstOf (inTurn (openRuleChecks (composerOf (start c .args .state .now))) (ruleChecks (composerOf (start c .args .state .now) .kind) (settingOf (start c .args .setting .now))))
 unfolding openRuleChecks
 both c =
-    let start = c .before .before in
-    ap₂ lesser (c .before .open-rule-refusal .ensures) (c .rule-refusal .ensures)
-    ∙ sym (in-turn (omega arith) (rules-rise (start .args .c .kind) (start .args .c .setting) (start .args .s) (start .args .c .«is_open»)))
+    let b = start c .args .state .now in
+    let run = composerOf b in
+    let new = settingOf (start c .args .setting .now) in
+    ap₂ lesser
+    (c .before .before .before .open-rule-refusal .ensures ∙ ap (λ (l : List ℕ). firstOf (openRuleChecks (composerOf l))) (whole-same b (start c .pre)))
+    (c .rule-refusal .ensures ∙ ap (λ (k : Kind). firstOf (ruleChecks k new)) (c .before .kind-of .ensures ∙ sym (kind-there b)))
+    ∙ sym (in-turn (omega arith) (rules-rise (run .kind) (run .setting) new (run .«is_open»)))
 
 open-rule-refusal-requires : tie.Need-open-rule-refusal-requires
 open-rule-refusal-requires c κs = search needs
+
+shared-slice-read-kind-of : tie.Need-shared-slice-read-kind-of
+shared-slice-read-kind-of c = search needs
+
+kind-of-requires : tie.Need-kind-of-requires
+kind-of-requires c κs = search needs
 
 rule-refusal-requires : tie.Need-rule-refusal-requires
 rule-refusal-requires c κs = search needs
@@ -42,6 +65,8 @@ both-rules-refusal-spec =
     tie.close
     (tie.spec
     open-rule-refusal-requires
+    shared-slice-read-kind-of
+    kind-of-requires
     rule-refusal-requires
     returns
     returns-2
