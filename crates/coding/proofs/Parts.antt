@@ -18,7 +18,7 @@ use Rattle.coding.specs.Settings.{part, announcedLength, announcedBytes,
 use Rattle.words.proofs.Numbers.{length-bytes}
 
 -- n elements from place k on are n where there are so many
-length-part : (k n : ℕ) (b : List ℕ) → k + n ≤ length b → length (part k n b) ≡ n
+pub length-part : (k n : ℕ) (b : List ℕ) → k + n ≤ length b → length (part k n b) ≡ n
 length-part k n b h = length-take-le n (drop k b) (rw (length-drop k b) (omega arith))
 
 -- a part of bytes copied over zeros, as many as it has
