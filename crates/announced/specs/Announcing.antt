@@ -1,13 +1,13 @@
 -- What of a header decides on the next header's version.
-use Prim.Native.Nat.{ℕ, _^_}
+use Prim.Native.Nat.{ℕ}
 use mathlib.Core.Bool.{Bool, not, _||_}
-use mathlib.Core.List.{List, [], _∷_}
-use lib.Dec.{leb, eqb}
+use mathlib.Core.List.{List}
+use lib.Dec.{eqb}
 use lib.ListN.{length, getD}
-use Rattle.slices.specs.Slices.{anyBelow, someAtLeast}
+use Rattle.slices.specs.Slices.{anyBelow}
 use Rattle.setting.specs.declared.Setting.{Setting}
-use Rattle.counters.specs.Counters.{lastStream}
 use Rattle.refusal_table.specs.Refusal.{Check}
+use Rattle.rules.specs.Rules.{informationChecks}
 use Rattle.announced.specs.declared.Announced.{Announced}
 
 -- slot information, identifiers and control information: what raises the version where it differs
@@ -40,9 +40,4 @@ differ a b =
 -- 17: the numbers of the last closed header
 unfoldable pub announcedChecks : Announced → List Check
 announcedChecks a =
-    (17, leb (2 ^ 1) (a .«slot_allocation_type»))
-    ∷ (17, leb (2 ^ 4) (a .«frame_type»))
-    ∷ (17, leb (2 ^ lastStream) (a .availability))
-    ∷ (17, someAtLeast (2 ^ 2) (a .«receive_status»))
-    ∷ (17, leb (2 ^ 1) (a .«emergency_indicator»))
-    ∷ []
+    informationChecks (a .«slot_allocation_type») (a .«frame_type») (a .availability) (a .«receive_status») (a .«emergency_indicator»)

@@ -7,21 +7,7 @@ use coding::RECEIVE_STATUS;
 use coding::TS_ID;
 use setting::STREAMS;
 ghost use mathlib.Core.Path.{_≡_};
-ghost use Prim.Native.Nat.{_*_};
-ghost use lib.ListN.{length};
-ghost use Rattle.words.specs.Words.{wordsOf};
 ghost use Rattle.coding.specs.Settings.{announcedOf};
-
-fn read_words(words: &mut [u16], part: &[u8])
-    requires { ⌜ length (now part) ≡ 2 * length (now words) ⌝ }
-    ensures { λ _. ⌜ now (words .exit) ≡ wordsOf (now (part .entry)) ⌝ }
-{
-    let mut k = 0;
-    while k < words.len() {
-        words[k] = words::word(part[2 * k], part[2 * k + 1]);
-        k += 1;
-    }
-}
 
 // What bytes say that a header announces; of any other length than 80, what zeros say.
 pub fn announced_of(bytes: &[u8]) -> Announced
@@ -41,8 +27,8 @@ pub fn announced_of(bytes: &[u8]) -> Announced
             emergency_indicator: 0,
         };
     }
-    read_words(&mut ts_id, &bytes[TS_ID..ORIGINAL_NETWORK_ID]);
-    read_words(
+    words::read_words(&mut ts_id, &bytes[TS_ID..ORIGINAL_NETWORK_ID]);
+    words::read_words(
         &mut original_network_id,
         &bytes[ORIGINAL_NETWORK_ID..RECEIVE_STATUS],
     );

@@ -40,7 +40,7 @@ pub extern "C" fn niranbok_setting_widths(setting: &[u8], kind: u8) -> u8
     if call != 0 {
         return call;
     }
-    widths::width_refusal(words::kind_of(kind), setting_reader::setting_of(setting))
+    setting_in_place::width_refusal(words::kind_of(kind), setting)
 }
 
 // Whether a setting obeys the rules of a header.
@@ -52,5 +52,5 @@ pub extern "C" fn niranbok_setting_rules(setting: &[u8], kind: u8) -> u8
     if call != 0 {
         return call;
     }
-    setting_rules::rule_refusal(words::kind_of(kind), setting_reader::setting_of(setting))
+    setting_in_place::rule_refusal(words::kind_of(kind), setting)
 }

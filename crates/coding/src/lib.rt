@@ -28,4 +28,13 @@ pub const PRIVATE: usize = NUMBERS + SLOTS;
 
 pub const AUXILIARY: usize = PRIVATE + PRIVATE_BYTES;
 
+// Where the bonding fields start, and those behind the first.
 pub const BONDING: usize = AUXILIARY + AUXILIARY_BYTES;
+
+pub const CARRIERS: usize = BONDING + 1;
+
+pub const SEQUENCE: usize = BONDING + 2;
+
+pub const FRAMES: usize = BONDING + 3;
+
+pub const POSITION: usize = BONDING + 4;

@@ -1,6 +1,6 @@
 -- What a closed frame's header says meets the rules, since the open frame's setting does. Assumes nothing.
 use Prim.Native.Nat.{ℕ, zero, suc, _+_, _%_, _^_, _<_}
-use mathlib.Core.Path.{_≡_, refl, sym, ap, subst}
+use mathlib.Core.Path.{_≡_, refl, ap}
 use mathlib.Core.Bool.{Bool, true, false, cond}
 use mathlib.Core.List.{List, [], _∷_}
 use native.Mathlib.Omega.{arith}
@@ -14,7 +14,7 @@ use Rattle.slices.proofs.Any.{any-no, any-each}
 use Rattle.setting.specs.declared.Kind.{Kind}
 use Rattle.setting.specs.declared.Setting.{Setting}
 use Rattle.refusal_table.specs.Refusal.{NoneHolds, more}
-use Rattle.rules.specs.Rules.{pidAllowed, unavailable, someUnavailable, absentChecks, widthChecks, bondingChecks, ruleChecks}
+use Rattle.rules.specs.Rules.{pidAllowed, unavailable, someUnavailable, widthChecks, ruleChecks}
 use Rattle.refusal_table.proofs.Refusals.{none-at, none-append}
 use Rattle.rules.proofs.Fields.{some-fit, fit-some}
 use Rattle.layout.specs.Meets.{MeetsRules}
@@ -64,25 +64,14 @@ version-narrow false version h = h
 -- ---- the setting with other numbers
 
 module _ (s : Setting) (counter version : ℕ) (numbers : List ℕ) where
-  same-absent : (kind : Kind) → absentChecks kind (saying counter version numbers s) ≡ absentChecks kind s
-  unfolding absentChecks saying
-  same-absent Kind.Plain = refl
-  same-absent Kind.Extended = refl
-
-  same-bonding : (kind : Kind) → bondingChecks kind (saying counter version numbers s) ≡ bondingChecks kind s
-  unfolding bondingChecks saying
-  same-bonding Kind.Plain = refl
-  same-bonding Kind.Extended = refl
-
   said-widths : (kind : Kind) → counter < 2 ^ 4 → version < 2 ^ 3 → Fit 4 numbers → NoneHolds (widthChecks kind s) → NoneHolds (widthChecks kind (saying counter version numbers s))
   unfolding widthChecks saying
   said-widths kind h v f (more _ (more _ (more a (more b (more c (more d (more e (more _ rest)))))))) =
-      more (lt-leb (2 ^ 4) counter h) (more (lt-leb (2 ^ 3) version v) (more a (more b (more c (more d (more e (more (some-fit 4 numbers f)
-      (subst NoneHolds (sym (same-absent kind)) rest))))))))
+      more (lt-leb (2 ^ 4) counter h) (more (lt-leb (2 ^ 3) version v) (more a (more b (more c (more d (more e (more (some-fit 4 numbers f) rest)))))))
 
   said-rules : (kind : Kind) → someUnavailable (s .availability) numbers ≡ false → NoneHolds (ruleChecks kind s) → NoneHolds (ruleChecks kind (saying counter version numbers s))
   unfolding ruleChecks saying
-  said-rules kind u (more a (more _ (more b rest))) = more a (more u (more b (subst NoneHolds (sym (same-bonding kind)) rest)))
+  said-rules kind u (more a (more _ (more b rest))) = more a (more u (more b rest))
 
 -- what the header says, by the plan and any marks
 pub said-meets : (kind : Kind) (pid : ℕ) (s : Setting) (counter version : ℕ) (marks : List Bool) → pidAllowed pid ≡ true → counter < 2 ^ 4 → version < 2 ^ 3

@@ -15,7 +15,7 @@ use Rattle.setting.specs.declared.Kind.{Kind}
 use Rattle.setting.specs.declared.Setting.{Setting}
 use Rattle.setting.specs.Setting.{privateBytes, auxiliaryBytes}
 use Rattle.refusal_table.specs.Refusal.{NoneHolds, none, more}
-use Rattle.rules.specs.Rules.{pidAllowed, absentChecks, widthChecks, bondingChecks, ruleChecks}
+use Rattle.rules.specs.Rules.{pidAllowed, absentChecks, absentOf, widthChecks, bondingChecks, bondingOf, ruleChecks}
 use Rattle.rules.proofs.Fields.{some-fit}
 use Rattle.refusal_table.proofs.Refusals.{numbered, none-first, none-at, none-append, none-behind}
 use Rattle.layout.specs.Rows.{place, rowAt}
@@ -27,7 +27,7 @@ use Rattle.layout.proofs.Rows.{size, rowOf, Fills, row-fills}
 use Rattle.layout.proofs.LaidOut.{laid-out, size-layout}
 use Rattle.layout.proofs.Content.{fills-replicate}
 
-numbered-bonding : (kind : Kind) (s : Setting) → numbered (bondingChecks kind s) ≡ true
+numbered-bonding : (kind : Kind) (s : Setting) → numbered (bondingOf kind s) ≡ true
 unfolding bondingChecks
 numbered-bonding Kind.Plain s = refl
 numbered-bonding Kind.Extended s = refl
@@ -64,7 +64,7 @@ shown kind pid p e =
     h = none-first (callChecks pid (length p) ++ (packetChecks pid p ++ ruleChecks kind (reading kind p))) (numbered-bonding kind (reading kind p)) e
 
 -- the parts that the kind does not have are read as zeros
-absent-none : (kind : Kind) (p : List ℕ) → NoneHolds (absentChecks kind (reading kind p))
+absent-none : (kind : Kind) (p : List ℕ) → NoneHolds (absentOf kind (reading kind p))
 unfolding absentChecks reading
 absent-none Kind.Plain p =
     more (some-fit 0 (replicate auxiliaryBytes 0) (fills-replicate 0 auxiliaryBytes 0 (lit< tt) .1))

@@ -10,7 +10,7 @@ ghost use lib.ListN.{length};
 ghost use Rattle.bits.specs.Fields.{bitsOf, run};
 ghost use Rattle.setting.specs.Setting.{privateBytes};
 ghost use Rattle.refusal_table.specs.Refusal.{firstOf};
-ghost use Rattle.rules.specs.Rules.{Narrow, bondingChecks};
+ghost use Rattle.rules.specs.Rules.{Narrow, bondingOf};
 ghost use Rattle.layout.specs.Rows.{pack};
 ghost use Rattle.layout.specs.Layout.{startRows, controlRows, privateRows};
 ghost use Rattle.layout.specs.Bytes.{bondingBytes};
@@ -69,7 +69,7 @@ fn write_control(part: &mut [u8], s: Setting)
 // The bonding fields of an extended header.
 fn write_bonding(part: &mut [u8], s: Setting)
     requires { ⌜ length (now part) ≡ 4 ⌝ }
-    requires { ⌜ firstOf (bondingChecks Kind.Extended s) ≡ 0 ⌝ }
+    requires { ⌜ firstOf (bondingOf Kind.Extended s) ≡ 0 ⌝ }
     ensures { λ _. ⌜ now (part .exit) ≡ bondingBytes s ⌝ }
 {
     let position = s.frame_position;
@@ -82,7 +82,7 @@ fn write_bonding(part: &mut [u8], s: Setting)
 // Auxiliary information, the bonding fields and reserved bytes.
 fn write_extended(part: &mut [u8], s: Setting)
     requires { ⌜ length (now part) ≡ privateBytes ⌝ }
-    requires { ⌜ firstOf (bondingChecks Kind.Extended s) ≡ 0 ⌝ }
+    requires { ⌜ firstOf (bondingOf Kind.Extended s) ≡ 0 ⌝ }
     ensures { λ _. ⌜ run 8 (now (part .exit)) ≡ pack (privateRows Kind.Extended) (privateContent Kind.Extended s) ⌝ }
 {
     let auxiliary = s.auxiliary;
@@ -99,7 +99,7 @@ fn write_extended(part: &mut [u8], s: Setting)
 
 fn write_private(part: &mut [u8], kind: Kind, s: Setting)
     requires { ⌜ length (now part) ≡ privateBytes ⌝ }
-    requires { ⌜ firstOf (bondingChecks kind s) ≡ 0 ⌝ }
+    requires { ⌜ firstOf (bondingOf kind s) ≡ 0 ⌝ }
     ensures { λ _. ⌜ run 8 (now (part .exit)) ≡ pack (privateRows kind) (privateContent kind s) ⌝ }
 {
     match kind {
@@ -117,7 +117,7 @@ fn write_private(part: &mut [u8], kind: Kind, s: Setting)
 fn write_body(part: &mut [u8], pid: u16, kind: Kind, s: Setting)
     requires { ⌜ (length (now part) ≡ 184) × (pid < 2 ^ 13) ⌝ }
     requires { ⌜ Narrow s ⌝ }
-    requires { ⌜ firstOf (bondingChecks kind s) ≡ 0 ⌝ }
+    requires { ⌜ firstOf (bondingOf kind s) ≡ 0 ⌝ }
     ensures { λ _. ⌜ run 8 (now (part .exit)) ≡ body kind pid s ⌝ }
 {
     write_start(&mut part[0..layout::IDENTIFIERS], pid, s);
@@ -152,7 +152,7 @@ fn write_word(part: &mut [u8], word: u32)
 pub(crate) fn write_header(buffer: &mut [u8], pid: u16, kind: Kind, s: Setting)
     requires { ⌜ (length (now buffer) ≡ headerLength) × (pid < 2 ^ 13) ⌝ }
     requires { ⌜ Narrow s ⌝ }
-    requires { ⌜ firstOf (bondingChecks kind s) ≡ 0 ⌝ }
+    requires { ⌜ firstOf (bondingOf kind s) ≡ 0 ⌝ }
     ensures { λ _. ⌜ now (buffer .exit) ≡ header kind pid s ⌝ }
 {
     write_body(&mut buffer[0..layout::CRC], pid, kind, s);

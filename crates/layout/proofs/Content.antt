@@ -65,7 +65,7 @@ private-rows : (kind : Kind) (pid : ℕ) (s : Setting) → OfItsTypes s → Meet
 unfolding laid-out
 private-rows Kind.Plain pid s t m = next (t .privates) done
 private-rows Kind.Extended pid s t m =
-    let b = bonded (bonding-none Kind.Extended s (none-behind (widthChecks Kind.Extended s) (m .fields))) in
+    let b = bonded s (bonding-none Kind.Extended s (none-behind (widthChecks Kind.Extended s) (m .fields))) in
     next (t .auxiliaries) (next (fills-one (t .group))
     (next (fills-one (b .carriers)) (next (fills-one (b .sequence)) (next (fills-one (b .frames)) (next (fills-one (b .position))
     (next (fills-replicate 8 reservedBytes reservedByte (lit< tt)) done))))))

@@ -12,7 +12,7 @@ use Rattle.slices.proofs.Front.{put, front-none, front-part, front-length, fron
 use Rattle.setting.specs.declared.Kind.{Kind}
 use Rattle.setting.specs.declared.Setting.{Setting}
 use Rattle.refusal_table.specs.Refusal.{NoneHolds}
-use Rattle.rules.specs.Rules.{bondingChecks}
+use Rattle.rules.specs.Rules.{bondingOf}
 use Rattle.rules.proofs.Fields.{bonded}
 use Rattle.layout.specs.Rows.{pack}
 use Rattle.layout.specs.Layout.{privateRows}
@@ -35,7 +35,7 @@ unfolding run
 bonding-bits g c q f {p} h rest =
     simp (append-nil, append-assoc) (ap (λ (l : List ℕ). bitsOf 8 g ++ (bitsOf 8 c ++ (bitsOf 8 q ++ l))) (sym (joined 4 4 f h refl)))
 
-pub extended-bits : (s : Setting) → NoneHolds (bondingChecks Kind.Extended s)
+pub extended-bits : (s : Setting) → NoneHolds (bondingOf Kind.Extended s)
     → run 8 ((s .auxiliary ++ bondingBytes s) ++ replicate 53 0xFF) ≡ pack (privateRows Kind.Extended) (privateContent Kind.Extended s)
 unfolding privateRows privateContent pack
 extended-bits s h =
@@ -45,12 +45,12 @@ extended-bits s h =
     ∙ append-assoc (run 8 aux) (run 8 bonding) (run 8 (replicate 53 0xFF))
     ∙ ap (λ (l : List ℕ). run 8 aux ++ l)
     (ap (λ (l : List ℕ). run 8 bonding ++ l) (sym (append-nil (run 8 (replicate 53 0xFF))))
-    ∙ bonding-bits (s .«group_id») (s .«number_of_carriers») (s .«carrier_sequence») (s .«number_of_frames») (bonded h .position) (run 8 (replicate 53 0xFF) ++ []))
+    ∙ bonding-bits (s .«group_id») (s .«number_of_carriers») (s .«carrier_sequence») (s .«number_of_frames») (bonded s h .position) (run 8 (replicate 53 0xFF) ++ []))
 
 -- three parts of the private data, filled one after the other
 pub extended-parts : (s : Setting) (part aux bonding ones : List ℕ) → length part ≡ 85 → length (s .auxiliary) ≡ 28
     → aux ≡ s .auxiliary → bonding ≡ bondingBytes s → ones ≡ replicate (length (take 53 (drop 32 (put 28 4 (put 0 28 part aux) bonding)))) 0xFF
-    → NoneHolds (bondingChecks Kind.Extended s)
+    → NoneHolds (bondingOf Kind.Extended s)
     → run 8 (put 32 53 (put 28 4 (put 0 28 part aux) bonding) ones) ≡ pack (privateRows Kind.Extended) (privateContent Kind.Extended s)
 extended-parts s part aux bonding ones l a p q r h =
     let two = put 28 4 (put 0 28 part aux) bonding in

@@ -17,7 +17,7 @@ use Rattle.setting.specs.declared.Kind.{Kind}
 use Rattle.setting.specs.declared.Setting.{Setting}
 use Rattle.counters.specs.Counters.{lastStream, within}
 use Rattle.refusal_table.specs.Refusal.{NoneHolds}
-use Rattle.rules.specs.Rules.{widthChecks, bondingChecks, ruleChecks, Narrow}
+use Rattle.rules.specs.Rules.{widthChecks, bondingChecks, bondingOf, ruleChecks, Narrow}
 use Rattle.refusal_table.proofs.Refusals.{none-at, none-behind}
 
 pub some-fit : (w : ℕ) (xs : List ℕ) → Fit w xs → someAtLeast (2 ^ w) xs ≡ false
@@ -42,16 +42,16 @@ pub record Bonded (s : Setting) : Type 0 where
   pub frames : s .«number_of_frames» < 2 ^ 4
   pub position : s .«frame_position» .0 < 2 ^ 4
 
-pub bonded : {s : Setting} → NoneHolds (bondingChecks Kind.Extended s) → Bonded s
+pub bonded : (s : Setting) → NoneHolds (bondingOf Kind.Extended s) → Bonded s
 unfolding bondingChecks
-bonded {s} h =
+bonded s h =
     let carriers = at-most 1 8 (s .«number_of_carriers») (not-false _ (none-at h 0)) in
     let sequence = at-most 1 (s .«number_of_carriers») (s .«carrier_sequence») (not-false _ (none-at h 1)) in
     let frames = at-most 3 4 (s .«number_of_frames») (not-false _ (none-at h 2)) in
     let position = at-most 1 (s .«number_of_frames») (s .«frame_position» .0) (not-false _ (none-at h 3)) in
     record { carriers = omega arith; sequence = omega arith; frames = omega arith; position = omega arith }
 
-pub bonding-none : (kind : Kind) (s : Setting) → NoneHolds (ruleChecks kind s) → NoneHolds (bondingChecks kind s)
+pub bonding-none : (kind : Kind) (s : Setting) → NoneHolds (ruleChecks kind s) → NoneHolds (bondingOf kind s)
 unfolding ruleChecks
 bonding-none kind s h = none-behind (take 3 (ruleChecks kind s)) h
 

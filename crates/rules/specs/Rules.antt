@@ -1,7 +1,7 @@
 -- What a setting has to obey.
 use Prim.Native.Nat.{ℕ, _+_, _^_, _<_}
 use mathlib.Core.Bool.{Bool, not, _&&_}
-use mathlib.Core.List.{List, [], _∷_}
+use mathlib.Core.List.{List, [], _∷_, _++_}
 use lib.Dec.{leb, eqb}
 use lib.ListN.{length, getD}
 use Rattle.bits.specs.Fields.{Fit}
@@ -21,29 +21,39 @@ abbrev pub pidAllowed : ℕ → Bool
 pidAllowed pid = within 16 8190 pid
 
 -- 17: a part that the kind does not have is a field of no bits, and holds zeros alone
-unfoldable pub absentChecks : Kind → Setting → List Check
-absentChecks Kind.Plain s =
-    (17, someAtLeast (2 ^ 0) (s .auxiliary))
-    ∷ (17, leb (2 ^ 0) (s .«group_id»))
-    ∷ (17, leb (2 ^ 0) (s .«number_of_carriers»))
-    ∷ (17, leb (2 ^ 0) (s .«carrier_sequence»))
-    ∷ (17, leb (2 ^ 0) (s .«number_of_frames»))
-    ∷ (17, leb (2 ^ 0) (s .«frame_position» .0))
+unfoldable pub absentChecks : Kind → List ℕ → List ℕ → ℕ → ℕ → ℕ → ℕ → ℕ → List Check
+absentChecks Kind.Plain privates auxiliaries group carriers sequence frames position =
+    (17, someAtLeast (2 ^ 0) auxiliaries)
+    ∷ (17, leb (2 ^ 0) group)
+    ∷ (17, leb (2 ^ 0) carriers)
+    ∷ (17, leb (2 ^ 0) sequence)
+    ∷ (17, leb (2 ^ 0) frames)
+    ∷ (17, leb (2 ^ 0) position)
     ∷ []
-absentChecks Kind.Extended s = (17, someAtLeast (2 ^ 0) (s .«private_data»)) ∷ []
+absentChecks Kind.Extended privates auxiliaries group carriers sequence frames position = (17, someAtLeast (2 ^ 0) privates) ∷ []
+
+-- those of a setting
+abbrev pub absentOf : Kind → Setting → List Check
+absentOf kind s =
+    absentChecks kind (s .«private_data») (s .auxiliary) (s .«group_id») (s .«number_of_carriers») (s .«carrier_sequence») (s .«number_of_frames») (s .«frame_position» .0)
+
+-- 17: slot and control information too large for its bits, in a setting and in what a header announced
+abbrev pub informationChecks : ℕ → ℕ → ℕ → List ℕ → ℕ → List Check
+informationChecks slotType frameType availability statuses emergency =
+    (17, leb (2 ^ 1) slotType)
+    ∷ (17, leb (2 ^ 4) frameType)
+    ∷ (17, leb (2 ^ lastStream) availability)
+    ∷ (17, someAtLeast (2 ^ 2) statuses)
+    ∷ (17, leb (2 ^ 1) emergency)
+    ∷ []
 
 -- 17: a field too large for its bits
 unfoldable pub widthChecks : Kind → Setting → List Check
 widthChecks kind s =
     (17, leb (2 ^ 4) (s .«continuity_counter»))
     ∷ (17, leb (2 ^ 3) (s .«version_number»))
-    ∷ (17, leb (2 ^ 1) (s .«slot_allocation_type»))
-    ∷ (17, leb (2 ^ 4) (s .«frame_type»))
-    ∷ (17, leb (2 ^ lastStream) (s .availability))
-    ∷ (17, someAtLeast (2 ^ 2) (s .«receive_status»))
-    ∷ (17, leb (2 ^ 1) (s .«emergency_indicator»))
-    ∷ (17, someAtLeast (2 ^ 4) (s .«relative_ts_number»))
-    ∷ absentChecks kind s
+    ∷ (informationChecks (s .«slot_allocation_type») (s .«frame_type») (s .availability) (s .«receive_status») (s .«emergency_indicator»)
+    ++ ((17, someAtLeast (2 ^ 4) (s .«relative_ts_number»)) ∷ absentOf kind s))
 
 -- each field that both kinds have fits its bits: what the checks of 17 leave
 pub record Narrow (s : Setting) : Type 0 where
@@ -75,14 +85,18 @@ unfoldable pub pairTwice : ℕ → List ℕ → List ℕ → Bool
 pairTwice availability ts os = anyBelow (length ts) (λ j. anyBelow j (λ i. samePair availability ts os i j))
 
 -- 11: the bonding fields of an extended header
-unfoldable pub bondingChecks : Kind → Setting → List Check
-bondingChecks Kind.Plain s = []
-bondingChecks Kind.Extended s =
-    (11, not (within 1 8 (s .«number_of_carriers»)))
-    ∷ (11, not (within 1 (s .«number_of_carriers») (s .«carrier_sequence»)))
-    ∷ (11, not (within 3 4 (s .«number_of_frames»)))
-    ∷ (11, not (within firstPosition (s .«number_of_frames») (s .«frame_position» .0)))
+unfoldable pub bondingChecks : Kind → ℕ → ℕ → ℕ → ℕ → List Check
+bondingChecks Kind.Plain carriers sequence frames position = []
+bondingChecks Kind.Extended carriers sequence frames position =
+    (11, not (within 1 8 carriers))
+    ∷ (11, not (within 1 carriers sequence))
+    ∷ (11, not (within 3 4 frames))
+    ∷ (11, not (within firstPosition frames position))
     ∷ []
+
+-- those of a setting
+abbrev pub bondingOf : Kind → Setting → List Check
+bondingOf kind s = bondingChecks kind (s .«number_of_carriers») (s .«carrier_sequence») (s .«number_of_frames») (s .«frame_position» .0)
 
 -- 8 to 11: what a header that is written or read has to obey
 unfoldable pub ruleChecks : Kind → Setting → List Check
@@ -90,4 +104,4 @@ ruleChecks kind s =
     (8, not (byKind kind (eqb (s .«frame_type») 1) (within 1 2 (s .«frame_type»))))
     ∷ (9, someUnavailable (s .availability) (s .«relative_ts_number»))
     ∷ (10, pairTwice (s .availability) (s .«ts_id») (s .«original_network_id»))
-    ∷ bondingChecks kind s
+    ∷ bondingOf kind s

@@ -2,8 +2,12 @@
 use coding::ANNOUNCED;
 use coding::AUXILIARY;
 use coding::BONDING;
+use coding::CARRIERS;
+use coding::FRAMES;
 use coding::NUMBERS;
+use coding::POSITION;
 use coding::PRIVATE;
+use coding::SEQUENCE;
 use coding::SETTING_BYTES;
 use counters::FramePosition;
 use setting::AUXILIARY_BYTES;
@@ -12,15 +16,6 @@ use setting::SLOTS;
 use setting::Setting;
 ghost use mathlib.Core.Path.{_≡_};
 ghost use Rattle.coding.specs.Settings.{settingOf};
-
-// Where the bonding fields stand behind the first.
-const CARRIERS: usize = BONDING + 1;
-
-const SEQUENCE: usize = BONDING + 2;
-
-const FRAMES: usize = BONDING + 3;
-
-const POSITION: usize = BONDING + 4;
 
 // What bytes say as a setting; of any other length than 252, zeros.
 pub fn setting_of(bytes: &[u8]) -> Setting

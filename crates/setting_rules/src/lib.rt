@@ -2,6 +2,7 @@
 use counters::FramePosition;
 use counters::RelativeNumber;
 use setting::Kind;
+use setting::STREAMS;
 use setting::Setting;
 use setting::limits;
 ghost use mathlib.Core.Path.{_≡_};
@@ -14,22 +15,24 @@ ghost use Rattle.refusal_table.specs.Refusal.{firstOf};
 ghost use Rattle.rules.specs.Rules.{byKind, someUnavailable, samePair, pairTwice, bondingChecks, ruleChecks};
 
 // 9: whether a slot has the number of an unavailable stream. A number above the last is no stream's. Of the others each has its
-// bit, and 0, which is no stream's either, that above stream 1's: it is one.
-fn has_unavailable(availability: u16, numbers: &[u8]) -> bool
+// bit, and 0, which is no stream's either, that above stream 1's: it is one. It does not stop early, so that many slots are compared
+// at a time.
+pub fn has_unavailable(availability: u16, numbers: &[u8]) -> bool
     ensures { λ r. ⌜ r ≡ someUnavailable availability (now (numbers .entry)) ⌝ }
 {
     if slices::some_at_least(numbers, limits::NUMBERS) {
         return true;
     }
     let allowed = limits::AVAILABILITIES + availability % limits::AVAILABILITIES;
+    let mut found = false;
     let mut i = 0;
     while i < numbers.len() {
         if (allowed >> ((RelativeNumber::LAST - numbers[i]) as u32)) % 2 == 0 {
-            return true;
+            found = true;
         }
         i += 1;
     }
-    false
+    found
 }
 
 // Whether streams i + 1 and j + 1 have equal identifier pairs and are both available.
@@ -68,10 +71,11 @@ fn has_pair_before(availability: u16, ts: &[u16], os: &[u16], j: usize) -> bool
 
 // 10: whether two available streams have equal identifier pairs. Those before a stream are looked through only where one of them has
 // the same low bits in its ts_id.
-fn has_pair_twice(availability: u16, ts: &[u16], os: &[u16]) -> bool
-    requires { ⌜ (length (now ts) ≡ lastStream) × (length (now os) ≡ lastStream) ⌝ }
+pub fn has_pair_twice(availability: u16, ts: &[u16; STREAMS], os: &[u16; STREAMS]) -> bool
     ensures { λ r. ⌜ r ≡ pairTwice availability (now (ts .entry)) (now (os .entry)) ⌝ }
 {
+    let ts: &[u16] = ts;
+    let os: &[u16] = os;
     let mut met = [0u8; 64];
     let mut j = 0;
     while j < ts.len() {
@@ -90,35 +94,32 @@ fn has_pair_twice(availability: u16, ts: &[u16], os: &[u16]) -> bool
 }
 
 // 11: the bonding fields of an extended header.
-fn bonding_refusal(kind: Kind, s: Setting) -> u8
-    ensures { λ r. ⌜ r ≡ firstOf (bondingChecks kind s) ⌝ }
+pub fn bonding_refusal(
+    kind: Kind,
+    number_of_carriers: u8,
+    carrier_sequence: u8,
+    number_of_frames: u8,
+    frame_position: FramePosition,
+) -> u8
+    ensures { λ r. ⌜ r ≡ firstOf (bondingChecks kind «number_of_carriers» «carrier_sequence» «number_of_frames» («frame_position» .0)) ⌝ }
 {
     match kind {
         Kind::Plain => 0,
         Kind::Extended => {
-            let position = s.frame_position;
             if !is_within(
                 limits::FIRST_CARRIER,
                 limits::LAST_CARRIER,
-                s.number_of_carriers,
+                number_of_carriers,
             ) {
                 return 11;
             }
-            if !is_within(
-                limits::FIRST_CARRIER,
-                s.number_of_carriers,
-                s.carrier_sequence,
-            ) {
+            if !is_within(limits::FIRST_CARRIER, number_of_carriers, carrier_sequence) {
                 return 11;
             }
-            if !is_within(
-                limits::FEWEST_FRAMES,
-                limits::MOST_FRAMES,
-                s.number_of_frames,
-            ) {
+            if !is_within(limits::FEWEST_FRAMES, limits::MOST_FRAMES, number_of_frames) {
                 return 11;
             }
-            if !is_within(FramePosition::FIRST, s.number_of_frames, position.0) {
+            if !is_within(FramePosition::FIRST, number_of_frames, frame_position.0) {
                 return 11;
             }
             0
@@ -136,7 +137,7 @@ fn is_within(first: u8, last: u8, n: u8) -> bool
 }
 
 // 8: whether a header of this kind may have the frame type.
-fn frame_type_allowed(kind: Kind, frame_type: u8) -> bool
+pub fn frame_type_allowed(kind: Kind, frame_type: u8) -> bool
     ensures { λ r. ⌜ r ≡ byKind kind (eqb «frame_type» 1) (within 1 2 «frame_type») ⌝ }
 {
     match kind {
@@ -165,5 +166,11 @@ pub fn rule_refusal(kind: Kind, s: Setting) -> u8
     if has_pair_twice(s.availability, &ts_id, &original_network_id) {
         return 10;
     }
-    bonding_refusal(kind, s)
+    bonding_refusal(
+        kind,
+        s.number_of_carriers,
+        s.carrier_sequence,
+        s.number_of_frames,
+        s.frame_position,
+    )
 }

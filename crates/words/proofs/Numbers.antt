@@ -4,11 +4,12 @@ use mathlib.Core.Path.{_≡_, refl, sym, ap, ap₂, _∙_}
 use mathlib.Core.List.{List, [], _∷_, _++_}
 use native.Mathlib.Omega.{arith}
 use native.Mathlib.Numerals.{add-one}
+use borrow.Author.Tests.{eq-eqb}
 use lib.ListN.{length, take, getD, set}
 use lib.Seq.{take-suc-set}
 use Rattle.bits.specs.Fields.{Fit, none, more}
 use Rattle.slices.proofs.Front.{stored-behind}
-use Rattle.words.specs.Words.{wordBytes, wordAt, wordsOf}
+use Rattle.words.specs.Words.{wordBytes, wordAt, wordsOf, wordsRead}
 
 -- two stores, one behind the other
 two-stored : (l : List ℕ) (at a b : ℕ) → at + 2 ≤ length l → take (at + 2) (set (set l at a) (at + 1) b) ≡ take at l ++ (a ∷ b ∷ [])
@@ -58,6 +59,11 @@ word-read words b k h long e =
     ∙ ap (λ (l : List ℕ). l ++ (wordAt (2 * k) b ∷ [])) e
     ∙ sym (words-more k b (omega arith))
     ∙ ap (λ (n : ℕ). wordsOf (take n b)) (sym next)
+
+-- what is read of a part twice as long
+pub all-read : (words b : List ℕ) → length b ≡ 2 * length words → wordsRead words b ≡ wordsOf b
+unfolding wordsRead
+all-read words b twice = rw (eq-eqb (length b) (2 * length words) twice)
 
 -- as many bytes as numbers need
 pub length-bytes : (ws : List ℕ) → length (wordBytes ws) ≡ 2 * length ws

@@ -1,7 +1,9 @@
 -- Numbers of 16 bits as bytes, the high byte first.
 use Prim.Native.Nat.{ℕ, _+_, _*_, _/_, _%_}
+use mathlib.Core.Bool.{cond}
 use mathlib.Core.List.{List, [], _∷_}
-use lib.ListN.{getD}
+use lib.Dec.{eqb}
+use lib.ListN.{length, getD}
 
 -- each number's two bytes, one behind the other
 unfoldable pub wordBytes : List ℕ → List ℕ
@@ -17,3 +19,7 @@ unfoldable pub wordsOf : List ℕ → List ℕ
 wordsOf [] = []
 wordsOf (h ∷ []) = []
 wordsOf (h ∷ l ∷ bytes) = (h * 256 + l) ∷ wordsOf bytes
+
+-- what stands in the place of the numbers once a part is read: its own, where it is twice as long
+unfoldable pub wordsRead : List ℕ → List ℕ → List ℕ
+wordsRead words bytes = cond (eqb (length bytes) (2 * length words)) (wordsOf bytes) words

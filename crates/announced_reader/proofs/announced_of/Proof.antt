@@ -2,12 +2,13 @@
 use mathlib.Core.Path.{refl, _∙_}
 use native.Mathlib.Omega.{arith}
 use borrow.Author.Tests.{eq-eqb, ne-eqb}
-use lib.ListN.{length}
+use lib.ListN.{length, replicate}
 use Rattle.counters.specs.Counters.{lastStream}
 use Rattle.setting.specs.Setting.{blank}
 use Rattle.announced.specs.Announcing.{announced}
-use Rattle.coding.specs.Settings.{announcedLength, announcedOf}
-use Rattle.coding.proofs.Parts.{copied-part}
+use Rattle.coding.specs.Settings.{part, announcedLength, announcedOf}
+use Rattle.words.proofs.Numbers.{all-read}
+use Rattle.coding.proofs.Parts.{length-part, copied-part}
 use borrow.Author.Needs.{needs}
 use Rattle.announced_reader.proofs.announced_of.Statement.{statement}
 use Rattle.announced_reader.proofs.announced_of.Tie as tie
@@ -91,8 +92,8 @@ returns-2 c =
     rw (
       eq-eqb (length b) announcedLength long,
       word .word .ensures,
-      ts .read-words .ensures,
-      networks .read-words2 .ensures,
+      ts .read-words .ensures ∙ all-read (replicate lastStream 0) (part 4 30 b) (length-part 4 30 b (omega arith)),
+      networks .read-words2 .ensures ∙ all-read (replicate lastStream 0) (part 34 30 b) (length-part 34 30 b (omega arith)),
       copied .copy .ensures ∙ copied-part lastStream 64 b (omega arith),
     ) refl
 

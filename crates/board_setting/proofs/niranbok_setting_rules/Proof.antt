@@ -16,17 +16,14 @@ returns c = rw (sym (c .before .call-refusal .ensures), ne-eqb (c .before .call-
 kind-of-requires : tie.Need-kind-of-requires
 kind-of-requires c κs = search needs
 
-setting-of-requires : tie.Need-setting-of-requires
-setting-of-requires c κs = search needs
-
 rule-refusal-requires : tie.Need-rule-refusal-requires
 rule-refusal-requires c κs = search needs
 
 returns-2 : tie.Need-returns-2
 unfolding rulesRefused
 returns-2 c =
-    let known = c .before .before in
-    rw (sym (known .before .before .call-refusal .ensures) ∙ known .before .if1 .left, sym (known .kind-of .ensures), sym (c .before .setting-of .ensures))
+    let known = c .before in
+    rw (sym (known .before .before .call-refusal .ensures) ∙ known .before .if1 .left, sym (known .kind-of .ensures))
     (c .rule-refusal .ensures)
 
 pub niranbok-setting-rules-spec : {M : Type 1} → statement M
@@ -36,6 +33,5 @@ niranbok-setting-rules-spec =
     call-refusal-requires
     returns
     kind-of-requires
-    setting-of-requires
     rule-refusal-requires
     returns-2)

@@ -16,17 +16,14 @@ returns c = rw (sym (c .before .call-refusal .ensures), ne-eqb (c .before .call-
 kind-of-requires : tie.Need-kind-of-requires
 kind-of-requires c κs = search needs
 
-setting-of-requires : tie.Need-setting-of-requires
-setting-of-requires c κs = search needs
-
 width-refusal-requires : tie.Need-width-refusal-requires
 width-refusal-requires c κs = search needs
 
 returns-2 : tie.Need-returns-2
 unfolding widthsRefused
 returns-2 c =
-    let known = c .before .before in
-    rw (sym (known .before .before .call-refusal .ensures) ∙ known .before .if1 .left, sym (known .kind-of .ensures), sym (c .before .setting-of .ensures))
+    let known = c .before in
+    rw (sym (known .before .before .call-refusal .ensures) ∙ known .before .if1 .left, sym (known .kind-of .ensures))
     (c .width-refusal .ensures)
 
 pub niranbok-setting-widths-spec : {M : Type 1} → statement M
@@ -36,6 +33,5 @@ niranbok-setting-widths-spec =
     call-refusal-requires
     returns
     kind-of-requires
-    setting-of-requires
     width-refusal-requires
     returns-2)

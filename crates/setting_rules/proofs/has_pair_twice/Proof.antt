@@ -12,19 +12,19 @@ use Rattle.setting_rules.proofs.has_pair_twice.Statement.{statement}
 use Rattle.setting_rules.proofs.has_pair_twice.Tie as tie
 
 abbrev Inv-loop : tie.InvT-loop
-Inv-loop availability ts os met₀ j₀ met j = (j ≤ length ts) × (length met ≡ places) × Seen availability ts os met j
+Inv-loop availability ts₀ os₀ ts os met₀ j₀ met j = (j ≤ length ts) × (length met ≡ places) × Seen availability ts os met j
 
 abbrev μ-loop : tie.MeasureT-loop
-μ-loop availability ts os met₀ j₀ met j = length ts - j
+μ-loop availability ts₀ os₀ ts os met₀ j₀ met j = length ts - j
 
 loop-holds : tie.Need-loop-holds Inv-loop μ-loop
 loop-holds c = let args = c .before .before .args in (omega arith, omega arith, seen-none (args .availability) (args .ts .now) (args .os .now) _)
 
-add-t7 : tie.Need-add-t7 Inv-loop μ-loop
-add-t7 c = search needs
+add-t11 : tie.Need-add-t11 Inv-loop μ-loop
+add-t11 c = search needs
 
-cast-t10 : tie.Need-cast-t10 Inv-loop μ-loop
-cast-t10 c = search needs
+cast-t14 : tie.Need-cast-t14 Inv-loop μ-loop
+cast-t14 c = search needs
 
 is-available-requires : tie.Need-is-available-requires Inv-loop μ-loop
 is-available-requires c κs = search needs
@@ -90,8 +90,8 @@ has-pair-twice-spec =
     Inv-loop
     μ-loop
     loop-holds
-    add-t7
-    cast-t10
+    add-t11
+    cast-t14
     is-available-requires
     mul-k
     shared-slice-read-k

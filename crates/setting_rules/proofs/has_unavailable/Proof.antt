@@ -1,13 +1,13 @@
--- `has_unavailable` meets its contract: no slot before slot i has the number of an unavailable stream. Assumes nothing.
+-- `has_unavailable` meets its contract: it has found what is among the slots before slot i. Assumes nothing.
 use Prim.Native.Nat.{_-_, _≤_}
 use mathlib.Core.Path.{_≡_, sym, _∙_}
-use mathlib.Core.Bool.{false}
+use mathlib.Core.Logic.{⊎-elim}
 use native.Mathlib.Omega.{arith}
 use borrow.Author.Needs.{needs}
 use borrow.Author.Tests.{eq-eqb, ne-eqb}
 use lib.ListN.{length, getD}
 use Rattle.slices.specs.Slices.{anyBelow}
-use Rattle.slices.proofs.Any.{any-none, any-more, any-found}
+use Rattle.slices.proofs.Any.{any-none, any-here, any-same}
 use Rattle.counters.specs.Counters.{lastStream}
 use Rattle.rules.specs.Rules.{unavailable, someUnavailable}
 use Rattle.setting_rules.proofs.Unavailable.{its-bit, beyond, at-most-last}
@@ -15,10 +15,11 @@ use Rattle.setting_rules.proofs.has_unavailable.Statement.{statement}
 use Rattle.setting_rules.proofs.has_unavailable.Tie as tie
 
 abbrev Inv-loop : tie.InvT-loop
-Inv-loop availability numbers allowed i₀ i = (i ≤ length numbers) × (anyBelow i (λ k. unavailable availability (getD numbers k 0)) ≡ false)
+Inv-loop availability numbers allowed found₀ i₀ found i =
+    (i ≤ length numbers) × (anyBelow i (λ k. unavailable availability (getD numbers k 0)) ≡ found)
 
 abbrev μ-loop : tie.MeasureT-loop
-μ-loop availability numbers allowed i₀ i = length numbers - i
+μ-loop availability numbers allowed found₀ i₀ found i = length numbers - i
 
 -- the slot's number is at most the last
 number : (c : tie.After-shared-slice-known2 Inv-loop μ-loop) → getD (c .before .before .before .before .before .before .args .numbers .now) (c .before .before .loop .i) 0 ≤ lastStream
@@ -54,13 +55,6 @@ cast-if2-2 c = search needs
 shr-if2 : tie.Need-shr-if2 Inv-loop μ-loop
 shr-if2 c = search needs
 
-returns-2 : tie.Need-returns-2 Inv-loop μ-loop
-unfolding someUnavailable
-returns-2 c =
-    let args = c .before .before .before .before .before .before .before .args in
-    let i = c .before .before .before .loop .i in
-    sym (any-found _ _ i (omega arith) (sym (its-bit (args .availability) (getD (args .numbers .now) i 0) (number (c .before))) ∙ eq-eqb _ _ (c .if2 .taken)))
-
 add-i : tie.Need-add-i Inv-loop μ-loop
 add-i c = search needs
 
@@ -70,14 +64,18 @@ loop-less c = search needs
 loop-again : tie.Need-loop-again Inv-loop μ-loop
 loop-again c =
     let args = c .before .before .before .before .before .before .before .args in
-    let turn = c .before .before .before .loop in (
+    let turn = c .before .before .before .loop in
+    let bit = its-bit (args .availability) (getD (args .numbers .now) (turn .i) 0) (number (c .before)) in (
       omega arith,
-      any-more _ (turn .i) (turn .inv .1) (sym (its-bit (args .availability) (getD (args .numbers .now) (turn .i) 0) (number (c .before))) ∙ ne-eqb _ _ (c .if2 .left)),
+      ⊎-elim
+          (λ w. any-here _ (turn .i) (sym bit ∙ eq-eqb _ _ (w .0 .taken)) (w .1))
+          (λ w. any-same _ (turn .i) (turn .inv .1) (sym bit ∙ ne-eqb _ _ (w .0 .left)) (w .1))
+          (c .if2 .came),
     )
 
-returns-3 : tie.Need-returns-3 Inv-loop μ-loop
+returns-2 : tie.Need-returns-2 Inv-loop μ-loop
 unfolding someUnavailable
-returns-3 c =
+returns-2 c =
     let all : c .before .loop .i ≡ length (c .before .before .before .before .before .args .numbers .now) = omega arith in
     sym (rw all at (c .before .loop .inv .1))
 
@@ -96,8 +94,7 @@ has-unavailable-spec =
     cast-if2
     cast-if2-2
     shr-if2
-    returns-2
     add-i
     loop-less
     loop-again
-    returns-3)
+    returns-2)

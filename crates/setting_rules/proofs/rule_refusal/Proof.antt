@@ -1,9 +1,7 @@
-use mathlib.Core.Path.{_≡_, sym, ap, _∙_}
+use mathlib.Core.Path.{sym, ap, _∙_}
 use mathlib.Core.Bool.{not}
 use mathlib.Core.List.{List}
 use borrow.Author.Needs.{needs}
-use lib.ListN.{length}
-use Rattle.counters.specs.Counters.{lastStream}
 use Rattle.refusal_table.specs.Refusal.{Check}
 use Rattle.rules.specs.Rules.{ruleChecks}
 use Rattle.refusal_table.proofs.Refusals.{Past, answers, passed}
@@ -13,10 +11,6 @@ use Rattle.setting_rules.proofs.rule_refusal.Tie as tie
 -- the rows that the function goes through
 abbrev rows : tie.Start → List Check
 rows c = ruleChecks (c .args .kind) (c .args .s)
-
--- what arrays of the setting have, which their types say
-streams : (c : tie.Start) → (length (c .args .s .«ts_id») ≡ lastStream) × (length (c .args .s .«original_network_id») ≡ lastStream)
-streams c = (search needs, search needs)
 
 past-1 : (c : tie.Else1) → Past 1 (rows (c .before .before))
 unfolding ruleChecks
@@ -47,14 +41,8 @@ returns-2 : tie.Need-returns-2
 unfolding ruleChecks
 returns-2 c = sym (past-1 (c .before .before .before .before) ∙ answers _ _ (sym (c .before .has-unavailable .ensures) ∙ c .if2 .taken))
 
-slice-aggregate-has-pair-twice : tie.Need-slice-aggregate-has-pair-twice
-slice-aggregate-has-pair-twice c = search needs
-
-slice-aggregate-has-pair-twice-2 : tie.Need-slice-aggregate-has-pair-twice-2
-slice-aggregate-has-pair-twice-2 c = search needs
-
 has-pair-twice-requires : tie.Need-has-pair-twice-requires
-has-pair-twice-requires c κs = streams (c .before .before .before .before .before .before .before .before .before .before)
+has-pair-twice-requires c κs = search needs
 
 returns-3 : tie.Need-returns-3
 unfolding ruleChecks
@@ -76,8 +64,6 @@ rule-refusal-spec =
     slice-aggregate-has-unavailable
     has-unavailable-requires
     returns-2
-    slice-aggregate-has-pair-twice
-    slice-aggregate-has-pair-twice-2
     has-pair-twice-requires
     returns-3
     bonding-refusal-requires

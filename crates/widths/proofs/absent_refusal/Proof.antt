@@ -16,24 +16,20 @@ plain-absent-refusal-requires c κs = search needs
 enum-told-2 : tie.Need-enum-told-2
 enum-told-2 c = search needs
 
-slice-aggregate-some-at-least : tie.Need-slice-aggregate-some-at-least
-slice-aggregate-some-at-least c = search needs
-
 some-at-least-requires : tie.Need-some-at-least-requires
 some-at-least-requires c κs = search needs
 
 returns : tie.Need-returns
 unfolding absentChecks
-returns c =
-    rw (c .before .before .before .before .enum-told2 .given .1) (sym (answers _ _ (sym (c .before .some-at-least .ensures) ∙ c .if1 .taken)))
+returns c = rw (c .before .before .enum-told2 .given .1) (sym (answers _ _ (sym (c .before .some-at-least .ensures) ∙ c .if1 .taken)))
 
 returns-2 : tie.Need-returns-2
+unfolding absentChecks
 returns-2 c = rw (c .before .enum-told .given .1) (c .plain-absent-refusal .ensures)
 
 returns-3 : tie.Need-returns-3
 unfolding absentChecks firstOf
-returns-3 c =
-    rw (c .before .before .before .before .enum-told2 .given .1) (sym (passed 17 [] (sym (c .before .some-at-least .ensures) ∙ c .if1 .left)))
+returns-3 c = rw (c .before .before .enum-told2 .given .1) (sym (passed 17 [] (sym (c .before .some-at-least .ensures) ∙ c .if1 .left)))
 
 pub absent-refusal-spec : {M : Type 1} → statement M
 absent-refusal-spec =
@@ -42,7 +38,6 @@ absent-refusal-spec =
     enum-told
     plain-absent-refusal-requires
     enum-told-2
-    slice-aggregate-some-at-least
     some-at-least-requires
     returns
     returns-2

@@ -2,7 +2,7 @@
 use mathlib.Core.Path.{refl}
 use native.Mathlib.Omega.{arith}
 use Rattle.setting.specs.declared.Kind.{Kind}
-use Rattle.rules.specs.Rules.{bondingChecks}
+use Rattle.rules.specs.Rules.{bondingChecks, bondingOf}
 use Rattle.rules.proofs.Fields.{Bonded, bonded}
 use Rattle.refusal_table.proofs.Refusals.{none-first}
 use Rattle.layout.specs.Bytes.{bondingBytes}
@@ -13,7 +13,7 @@ use Rattle.header_writer.proofs.writer.write_bonding.Tie as tie
 
 small : (c : tie.Start) → Bonded (c .args .s)
 unfolding bondingChecks
-small c = bonded (none-first (bondingChecks Kind.Extended (c .args .s)) refl (c .pre .1))
+small c = bonded (c .args .s) (none-first (bondingOf Kind.Extended (c .args .s)) refl (c .pre .1))
 
 slice-write-part : tie.Need-slice-write-part
 slice-write-part c = omega arith

@@ -5,7 +5,7 @@ use lib.ListN.{length, take}
 use lib.Seq.{length-take-le}
 use Rattle.setting.specs.declared.Kind.{Kind}
 use Rattle.setting.specs.Setting.{auxiliaryBytes}
-use Rattle.rules.specs.Rules.{bondingChecks}
+use Rattle.rules.specs.Rules.{bondingChecks, bondingOf}
 use Rattle.refusal_table.proofs.Refusals.{none-first}
 use Rattle.layout.proofs.Private.{copied-all, extended-parts}
 use borrow.Author.Needs.{needs}
@@ -75,7 +75,7 @@ returns c =
     (copied .copy .ensures ∙ copied-all (take 28 part) (start .args .s .auxiliary) (length-take-le 28 part (omega arith) ∙ sym (auxiliaries start)))
     (bonded .write-bonding .ensures)
     (filled .fill .ensures)
-    (none-first (bondingChecks Kind.Extended (start .args .s)) refl (start .pre .1))
+    (none-first (bondingOf Kind.Extended (start .args .s)) refl (start .pre .1))
 
 pub write-extended-spec : {M : Type 1} → statement M
 write-extended-spec =

@@ -6,7 +6,7 @@ use Rattle.bits.specs.Fields.{run}
 use Rattle.setting.specs.declared.Kind.{Kind}
 use Rattle.setting.specs.Setting.{privateBytes}
 use Rattle.refusal_table.specs.Refusal.{firstOf}
-use Rattle.rules.specs.Rules.{bondingChecks}
+use Rattle.rules.specs.Rules.{bondingOf}
 use Rattle.layout.specs.Rows.{pack}
 use Rattle.layout.specs.Layout.{privateRows}
 use Rattle.layout.specs.Header.{privateContent}
@@ -34,7 +34,7 @@ enum-told-2 c = omega arith
 write-extended-requires : tie.Need-write-extended-requires
 write-extended-requires c κs =
     let start = c .before .before .before .before in
-    (start .pre .0, subst (λ (k : Kind). firstOf (bondingChecks k (start .args .s)) ≡ 0) (c .before .enum-told2 .given .1) (start .pre .1))
+    (start .pre .0, subst (λ (k : Kind). firstOf (bondingOf k (start .args .s)) ≡ 0) (c .before .enum-told2 .given .1) (start .pre .1))
 
 same-length : tie.Need-same-length
 same-length c = omega arith

@@ -3,12 +3,13 @@ use Prim.Native.Nat.{_-_, _*_, _≤_}
 use mathlib.Core.Path.{_≡_, refl, sym, ap, _∙_}
 use native.Mathlib.Omega.{arith}
 use borrow.Author.Needs.{needs}
+use borrow.Author.Tests.{eq-eqb, ne-eqb}
 use lib.ListN.{length, take, length-set}
 use lib.Seq.{take-all}
-use Rattle.words.specs.Words.{wordsOf}
+use Rattle.words.specs.Words.{wordsOf, wordsRead}
 use Rattle.words.proofs.Numbers.{word-read}
-use Rattle.announced_reader.proofs.read_words.Statement.{statement}
-use Rattle.announced_reader.proofs.read_words.Tie as tie
+use Rattle.words.proofs.read_words.Statement.{statement}
+use Rattle.words.proofs.read_words.Tie as tie
 
 abbrev Inv-loop : tie.InvT-loop
 Inv-loop words₀ part k₀ words k =
@@ -16,6 +17,13 @@ Inv-loop words₀ part k₀ words k =
 
 abbrev μ-loop : tie.MeasureT-loop
 μ-loop words₀ part k₀ words k = length words₀ - k
+
+mul-if1 : tie.Need-mul-if1 Inv-loop μ-loop
+mul-if1 c = search needs
+
+returns : tie.Need-returns Inv-loop μ-loop
+unfolding wordsRead
+returns c = rw (ne-eqb _ _ (c .if1 .taken))
 
 loop-holds : tie.Need-loop-holds Inv-loop μ-loop
 unfolding wordsOf
@@ -54,23 +62,25 @@ loop-less c = search needs
 loop-again : tie.Need-loop-again Inv-loop μ-loop
 loop-again c =
     let turn = c .before .before .before .before .loop in
-    let start = c .before .before .before .before .before .before .before in
-    let args = start .args in (
+    let twice = c .before .before .before .before .before .if1 .left in
+    let args = c .before .before .before .before .before .before .before .before .args in (
       omega arith,
       simp length-set (turn .inv .1),
-      rw (c .word .ensures) (word-read (turn .words) (args .part .now) (turn .k) (omega arith) (omega (arith, start .pre)) (turn .inv .2)),
+      rw (c .word .ensures) (word-read (turn .words) (args .part .now) (turn .k) (omega arith) (omega (arith, twice)) (turn .inv .2)),
     )
 
 same-length : tie.Need-same-length Inv-loop μ-loop
 same-length c = search needs
 
-returns : tie.Need-returns Inv-loop μ-loop
-returns c =
+returns-2 : tie.Need-returns-2 Inv-loop μ-loop
+unfolding wordsRead
+returns-2 c =
     let turn = c .before .loop in
-    let start = c .before .before .before .before in
-    let args = start .args in
+    let args = c .before .before .before .before .before .args in
+    let twice = c .before .before .if1 .left in
     let all : turn .k ≡ length (turn .words) = omega arith in
-    sym (take-all (turn .k) (turn .words) (omega arith)) ∙ turn .inv .2 ∙ ap wordsOf (take-all (2 * turn .k) (args .part .now) (omega (arith, start .pre)))
+    rw (eq-eqb _ _ twice)
+    (sym (take-all (turn .k) (turn .words) (omega arith)) ∙ turn .inv .2 ∙ ap wordsOf (take-all (2 * turn .k) (args .part .now) (omega (arith, twice))))
 
 pub read-words-spec : {M : Type 1} → statement M
 read-words-spec =
@@ -78,6 +88,8 @@ read-words-spec =
     (tie.spec
     Inv-loop
     μ-loop
+    mul-if1
+    returns
     loop-holds
     mul-word
     shared-slice-read-word
@@ -91,4 +103,4 @@ read-words-spec =
     loop-less
     loop-again
     same-length
-    returns)
+    returns-2)
