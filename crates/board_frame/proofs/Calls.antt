@@ -1,12 +1,16 @@
 -- What the exported calls answer and leave where the composer's own call is refused, and where it is not. Assumes nothing.
 use Prim.Native.Nat.{ℕ}
 use mathlib.Core.Path.{_≡_, sym, ap, _∙_}
-use mathlib.Core.List.{List}
+use mathlib.Core.List.{List, _++_}
 use borrow.Author.Tests.{eq-eqb}
-use lib.ListN.{length}
+use lib.ListN.{length, drop}
 use Rattle.composer_state.specs.declared.Answer.{Answer}
 use Rattle.composer_state.specs.declared.Placed.{Placed}
-use Rattle.composer_state.specs.Composing.{beginOf, begunFrame, putOf, putFrame, closeOf, closedFrame}
+use Rattle.composer_state.specs.Composing.{beginOf, begunFrame, putOf, putFrame}
+use Rattle.composer_state.specs.Composing.{answer, closed, closing, closeRefusal, closeOf, closedFrame}
+use Rattle.composer_state.proofs.Answers.{granted}
+use Rattle.layout.specs.Header.{header}
+use Rattle.packet.specs.Packets.{packetLength}
 use Rattle.refusal_table.proofs.Refusals.{kept, written}
 use Rattle.coding.specs.Settings.{settingLength, settingOf}
 use Rattle.composer_bytes.specs.States.{composerLength, composerBytes, composerOf}
@@ -58,22 +62,26 @@ module _ (state : List ℕ) (n : ℕ) (stream frame : List ℕ) (l : length stat
   unfolding putState
   put-done z b = (sym z ∙ put-answer, (put-count, (b ∙ ap (λ (a : Placed). composerBytes (a .state)) p ∙ written put-answer _ state z, put-memory)))
 
-module _ (state frame : List ℕ) (l : length state ≡ composerLength) {r : Answer} {memory : List ℕ}
-    (p : r ≡ closeOf (composerOf state) (length frame)) (f : memory ≡ closedFrame (composerOf state) frame) where
-  close-answer : r .refusal ≡ closeRefused state frame
-  unfolding closeRefused
-  close-answer = rw (eq-eqb (length state) composerLength l) (ap (λ (a : Answer). a .refusal) p)
+-- a close, by its refusal n
+module _ (state frame : List ℕ) (l : length state ≡ composerLength) {n : ℕ} (e : n ≡ closeRefusal (composerOf state) (length frame)) where
+  close-answer : n ≡ closeRefused state frame
+  unfolding closeRefused closeOf answer
+  close-answer = rw (eq-eqb (length state) composerLength l) e
 
-  close-memory : memory ≡ closeMemory state frame
+  close-memory : {memory : List ℕ} → memory ≡ closedFrame (composerOf state) frame → memory ≡ closeMemory state frame
   unfolding closeMemory
-  close-memory = rw (eq-eqb (length state) composerLength l) f
+  close-memory f = rw (eq-eqb (length state) composerLength l) f
 
-  pub close-refused : (r .refusal ≡ 0 → ⊥)
-      → (r .refusal ≡ closeRefused state frame) × ((state ≡ closeState state frame) × (memory ≡ closeMemory state frame))
-  unfolding closeState
-  close-refused h = (close-answer, (kept close-answer _ state h, close-memory))
+  pub close-refused : (n ≡ 0 → ⊥) → (n ≡ closeRefused state frame) × ((state ≡ closeState state frame) × (frame ≡ closeMemory state frame))
+  unfolding closeState closedFrame
+  close-refused h = (close-answer, (kept close-answer _ state h, close-memory (kept e _ frame h)))
 
-  pub close-done : {bytes : List ℕ} → r .refusal ≡ 0 → bytes ≡ composerBytes (r .state)
+  pub close-done : {bytes memory : List ℕ} → n ≡ 0 → bytes ≡ composerBytes (closed (composerOf state))
+      → memory ≡ header (composerOf state .kind) (composerOf state .pid) (closing (composerOf state)) ++ drop packetLength frame
       → (0 ≡ closeRefused state frame) × ((bytes ≡ closeState state frame) × (memory ≡ closeMemory state frame))
-  unfolding closeState
-  close-done z b = (sym z ∙ close-answer, (b ∙ ap (λ (a : Answer). composerBytes (a .state)) p ∙ written close-answer _ state z, close-memory))
+  unfolding closeState closeOf closedFrame
+  close-done z b f =
+      let c = composerOf state in (
+        sym z ∙ close-answer,
+        (b ∙ ap (λ (a : Answer). composerBytes (a .state)) (granted e (closed c) c z) ∙ written close-answer _ state z, close-memory (f ∙ written e _ frame z)),
+      )
