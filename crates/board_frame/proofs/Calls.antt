@@ -2,12 +2,15 @@
 use Prim.Native.Nat.{ℕ}
 use mathlib.Core.Path.{_≡_, refl, sym, ap, _∙_}
 use mathlib.Core.Bool.{Bool}
-use mathlib.Core.List.{List}
+use mathlib.Core.List.{List, _++_}
 use borrow.Author.Tests.{eq-eqb, ne-eqb}
-use lib.ListN.{length}
+use lib.ListN.{length, drop}
 use Rattle.composer_state.specs.declared.Answer.{Answer}
 use Rattle.composer_state.specs.Slots.{cleared, placedBy, marksAfter, frameAfter}
-use Rattle.composer_state.specs.Composing.{opened, marked, answer, beginRefusal, beginOf, begunFrame, putRefusal, putOf, putFrame, closeOf, closedFrame}
+use Rattle.composer_state.specs.Composing.{opened, marked, closed, closing, answer, beginRefusal, beginOf, begunFrame, putRefusal, putOf, putFrame, closeRefusal, closeOf, closedFrame}
+use Rattle.composer_state.proofs.Answers.{granted}
+use Rattle.layout.specs.Header.{header}
+use Rattle.packet.specs.Packets.{packetLength}
 use Rattle.refusal_table.proofs.Refusals.{kept, written}
 use Rattle.coding.specs.Settings.{settingLength, settingOf}
 use Rattle.composer_bytes.specs.States.{composerLength, composerBytes, composerOf}
@@ -64,22 +67,26 @@ module _ (state : List ℕ) (n : ℕ) (stream frame : List ℕ) (l : length stat
       let none : putRefusal (composerOf state) n stream (length frame) ≡ 0 = sym e ∙ z in
       (sym z ∙ put-answer, (rw (eq-eqb (length state) composerLength l, none) p, (b ∙ rw none refl ∙ written put-answer _ state z, rw (eq-eqb (length state) composerLength l) (m ∙ written e _ frame z))))
 
-module _ (state frame : List ℕ) (l : length state ≡ composerLength) {r : Answer} {memory : List ℕ}
-    (p : r ≡ closeOf (composerOf state) (length frame)) (f : memory ≡ closedFrame (composerOf state) frame) where
-  close-answer : r .refusal ≡ closeRefused state frame
-  unfolding closeRefused
-  close-answer = rw (eq-eqb (length state) composerLength l) (ap (λ (a : Answer). a .refusal) p)
+-- a close, by its refusal n
+module _ (state frame : List ℕ) (l : length state ≡ composerLength) {n : ℕ} (e : n ≡ closeRefusal (composerOf state) (length frame)) where
+  close-answer : n ≡ closeRefused state frame
+  unfolding closeRefused closeOf answer
+  close-answer = rw (eq-eqb (length state) composerLength l) e
 
-  close-memory : memory ≡ closeMemory state frame
+  close-memory : {memory : List ℕ} → memory ≡ closedFrame (composerOf state) frame → memory ≡ closeMemory state frame
   unfolding closeMemory
-  close-memory = rw (eq-eqb (length state) composerLength l) f
+  close-memory f = rw (eq-eqb (length state) composerLength l) f
 
-  pub close-refused : (r .refusal ≡ 0 → ⊥)
-      → (r .refusal ≡ closeRefused state frame) × ((state ≡ closeState state frame) × (memory ≡ closeMemory state frame))
-  unfolding closeState
-  close-refused h = (close-answer, (kept close-answer _ state h, close-memory))
+  pub close-refused : (n ≡ 0 → ⊥) → (n ≡ closeRefused state frame) × ((state ≡ closeState state frame) × (frame ≡ closeMemory state frame))
+  unfolding closeState closedFrame
+  close-refused h = (close-answer, (kept close-answer _ state h, close-memory (kept e _ frame h)))
 
-  pub close-done : {bytes : List ℕ} → r .refusal ≡ 0 → bytes ≡ composerBytes (r .state)
+  pub close-done : {bytes memory : List ℕ} → n ≡ 0 → bytes ≡ composerBytes (closed (composerOf state))
+      → memory ≡ header (composerOf state .kind) (composerOf state .pid) (closing (composerOf state)) ++ drop packetLength frame
       → (0 ≡ closeRefused state frame) × ((bytes ≡ closeState state frame) × (memory ≡ closeMemory state frame))
-  unfolding closeState
-  close-done z b = (sym z ∙ close-answer, (b ∙ ap (λ (a : Answer). composerBytes (a .state)) p ∙ written close-answer _ state z, close-memory))
+  unfolding closeState closeOf closedFrame
+  close-done z b f =
+      let c = composerOf state in (
+        sym z ∙ close-answer,
+        (b ∙ ap (λ (a : Answer). composerBytes (a .state)) (granted e (closed c) c z) ∙ written close-answer _ state z, close-memory (f ∙ written e _ frame z)),
+      )

@@ -1,4 +1,6 @@
 mod Closing
+mod Decoded
+mod Ending
 mod Numbers
 pub mod Passed
 pub mod Said

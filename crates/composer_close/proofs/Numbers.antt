@@ -4,17 +4,21 @@ use mathlib.Core.Path.{_≡_, refl, sym, ap₂, _∙_}
 use mathlib.Core.Bool.{Bool, false, cond}
 use mathlib.Core.List.{List, _∷_}
 use native.Mathlib.Numerals.{add-one}
-use lib.ListN.{length, getD, drop, drop-of-length-le}
+use lib.Dec.{eqb}
+use lib.ListN.{length, getD, drop, drop-of-length-le, length-map, List·getD-map}
 use lib.Seq.{drop-cons}
 use Rattle.composer_state.specs.Slots.{numbersOf}
+use Rattle.composer_bytes.specs.States.{marksOf}
 
--- the numbers from slot i on, and behind the last
-pub numbers-from : (ns : List ℕ) (ms : List Bool) (i : ℕ) {m : Bool} → getD ms i false ≡ m → i < length ns → i < length ms
-    → numbersOf (drop i ns) (drop i ms) ≡ cond m (getD ns i 0) 0 ∷ numbersOf (drop (i + 1) ns) (drop (i + 1) ms)
+-- the numbers from slot i on, by the byte that marks it, and behind the last
+pub numbers-from : (ns filled : List ℕ) (i : ℕ) {m : Bool} → eqb (getD filled i 0) 1 ≡ m → i < length ns → i < length filled
+    → numbersOf (drop i ns) (drop i (marksOf filled)) ≡ cond m (getD ns i 0) 0 ∷ numbersOf (drop (i + 1) ns) (drop (i + 1) (marksOf filled))
 unfolding numbersOf
-numbers-from ns ms i e h g =
-    ap₂ numbersOf (drop-cons ns i 0 h) (drop-cons ms i false g)
-    ∙ ap₂ (λ (b : Bool) (k : ℕ). cond b (getD ns i 0) 0 ∷ numbersOf (drop k ns) (drop k ms)) e (sym (add-one i))
+numbers-from ns filled i e h g =
+    let ms = marksOf filled in
+    let is-byte : ℕ → Bool = λ n. eqb n 1 in
+    ap₂ numbersOf (drop-cons ns i 0 h) (drop-cons ms i false (rw (length-map filled is-byte) g))
+    ∙ ap₂ (λ (b : Bool) (k : ℕ). cond b (getD ns i 0) 0 ∷ numbersOf (drop k ns) (drop k ms)) (List·getD-map is-byte filled i 0 ∙ e) (sym (add-one i))
 
 pub all-numbered : (ns : List ℕ) (ms : List Bool) (i : ℕ) → length ns ≤ i → drop i ns ≡ numbersOf (drop i ns) (drop i ms)
 unfolding numbersOf

@@ -1,107 +1,73 @@
-// An open frame closed: its header says the slots that were filled.
-use composer_state::Answer;
-use composer_state::Composer;
+// An open frame closed: its header says the slots that were filled. The run's state is lent bytes.
+mod header;
+
+use coding::ANNOUNCED;
+use coding::ANNOUNCED_BYTES;
+use composer_bytes::COMPOSER_BYTES;
+use composer_bytes::LAST;
+use composer_bytes::OPEN;
+use composer_bytes::PLAN;
+use composer_bytes::SETTING;
 use packet::FRAME_BYTES;
 use packet::PACKET_BYTES;
-use setting::SLOTS;
-use setting::Setting;
 ghost use mathlib.Core.Path.{_≡_};
-ghost use Prim.Native.Nat.{_<_};
-ghost use lib.ListN.{length};
-ghost use Rattle.counters.specs.Counters.{lastSlot};
-ghost use Rattle.composer_state.specs.Slots.{numbersOf};
-ghost use Rattle.composer_state.specs.Composing.{nextVersion, closing, closedWith, closeRefusal, closeOf, closedFrame};
+ghost use mathlib.Core.List.{_∷_, _++_};
+ghost use lib.ListN.{length, take, replicate};
+ghost use Rattle.coding.specs.Settings.{part};
+ghost use Rattle.composer_state.specs.Composing.{closeRefusal};
+ghost use Rattle.composer_bytes.specs.States.{composerLength, composerOf};
+ghost use Rattle.board_frame.specs.Calls.{closeRefused, closeState, closeMemory};
 
-fn close_refusal(c: Composer, lent: usize) -> u8
-    ensures { λ r. ⌜ r ≡ closeRefusal c lent ⌝ }
+// Where what the open frame's setting announces stands, up to its plan.
+const SAID: usize = SETTING + ANNOUNCED;
+
+fn close_refusal(state: &[u8], lent: usize) -> u8
+    requires { ⌜ length (now state) ≡ composerLength ⌝ }
+    ensures { λ r. ⌜ r ≡ closeRefusal (composerOf (now (state .entry))) lent ⌝ }
 {
     if lent != FRAME_BYTES {
         return 1;
     }
-    let state = composer_state::state_refusal(c);
-    if state != 0 {
-        return state;
+    let refused = composer_in_place::state_refusal(state);
+    if refused != 0 {
+        return refused;
     }
-    composer_open::open_refusal(c)
+    composer_in_place::open_refusal(state)
 }
 
-// The numbers that the header gives the slots: a filled slot's is the planned one, an empty slot's 0.
-fn number(numbers: &mut [u8], filled: &[bool])
-    requires { ⌜ (length (now numbers) ≡ lastSlot) × (length (now filled) ≡ lastSlot) ⌝ }
-    ensures { λ _. ⌜ now (numbers .exit) ≡ numbersOf (now (numbers .entry)) (now (filled .entry)) ⌝ }
+// Leaves no frame open: what its setting announced is now what the last header announced, and zeros stand behind it.
+fn end_frame(state: &mut [u8], counter: u8, version: u8)
+    requires { ⌜ length (now state) ≡ composerLength ⌝ }
+    ensures { λ _. ⌜ now (state .exit) ≡ take 3 (now (state .entry)) ++ (counter ∷ version ∷ (part 88 80 (now (state .entry)) ++ replicate 305 0)) ⌝ }
 {
-    let mut i = 0;
-    while i < SLOTS {
-        if !filled[i] {
-            numbers[i] = 0;
-        }
-        i += 1;
+    let mut announced = [0u8; ANNOUNCED_BYTES];
+    slices::copy(&mut announced, &state[SAID..PLAN]);
+    state[header::COUNTER] = counter;
+    state[header::VERSION] = version;
+    slices::copy(&mut state[LAST..OPEN], &announced);
+    slices::fill(&mut state[OPEN..COMPOSER_BYTES], 0);
+}
+
+// Closes the open frame: writes its header into slot 0 and nothing else. Filled slots carry their number, empty ones 0.
+#[no_mangle]
+pub extern "C" fn niranbok_composer_close(state: &mut [u8], frame: &mut [u8]) -> u8
+    ensures { λ r. ⌜ r ≡ closeRefused (now (state .entry)) (now (frame .entry)) ⌝ }
+    ensures { λ _. ⌜ now (state .exit) ≡ closeState (now (state .entry)) (now (frame .entry)) ⌝ }
+    ensures { λ _. ⌜ now (frame .exit) ≡ closeMemory (now (state .entry)) (now (frame .entry)) ⌝ }
+{
+    if state.len() != COMPOSER_BYTES {
+        return 1;
     }
-}
-
-// The version of the open frame's header: raised where it announces something else than the last one.
-fn next_version(c: Composer) -> u8
-    requires { ⌜ c .version < 8 ⌝ }
-    ensures { λ r. ⌜ r ≡ nextVersion c ⌝ }
-{
-    let setting = c.setting;
-    let last = c.last;
-    if announced_change::differs(announced::announce(setting), last) {
-        return (c.version + 1) % 8;
-    }
-    c.version
-}
-
-// The setting that the open frame's header says.
-fn header_setting(c: Composer) -> Setting
-    requires { ⌜ (c .counter < 16) × (c .version < 8) ⌝ }
-    ensures { λ r. ⌜ r ≡ closing c ⌝ }
-{
-    let mut said = c.setting;
-    let mut numbers = said.relative_ts_number;
-    let filled = c.filled;
-    number(&mut numbers, &filled);
-    said.relative_ts_number = numbers;
-    said.continuity_counter = (c.counter + 1) % 16;
-    said.version_number = next_version(c);
-    said
-}
-
-fn ended(c: Composer, counter: u8, version: u8) -> Composer
-    ensures { λ r. ⌜ r ≡ closedWith c counter version ⌝ }
-{
-    let kind = c.kind;
-    let last = announced::announce(c.setting);
-    let setting = Setting::blank();
-    Composer {
-        pid: c.pid,
-        kind,
-        counter,
-        version,
-        last,
-        is_open: false,
-        setting,
-        filled: [false; SLOTS],
-    }
-}
-
-// Writes the open frame's header into slot 0 and nothing else: filled slots carry their number, empty ones 0.
-pub fn close(run: Composer, frame: &mut [u8]) -> Answer
-    ensures { λ r. ⌜ r ≡ closeOf run (length (now (frame .entry))) ⌝ }
-    ensures { λ _. ⌜ now (frame .exit) ≡ closedFrame run (now (frame .entry)) ⌝ }
-{
-    let refusal = close_refusal(run, frame.len());
+    let refusal = close_refusal(state, frame.len());
     if refusal != 0 {
-        return Answer {
-            refusal,
-            state: run,
-        };
+        return refusal;
     }
-    let said = header_setting(run);
-    let kind = run.kind;
-    let refusal = header_writer::write(&mut frame[0..PACKET_BYTES], run.pid, kind, said);
-    Answer {
-        refusal,
-        state: ended(run, said.continuity_counter, said.version_number),
-    }
+    slices::look(state);
+    let said = header::header_setting(state);
+    let pid = words::word(state[0], state[1]);
+    let kind = words::kind_of(state[2]);
+    // What passed the checks is not refused here.
+    header_writer::write(&mut frame[0..PACKET_BYTES], pid, kind, said);
+    end_frame(state, said.continuity_counter, said.version_number);
+    0
 }

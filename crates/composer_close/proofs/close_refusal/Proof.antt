@@ -1,18 +1,35 @@
+-- `close_refusal` meets its contract. Assumes nothing.
+use Prim.Native.Nat.{ℕ}
 use mathlib.Core.Path.{_≡_, sym, ap, _∙_}
 use mathlib.Core.Bool.{not}
-use mathlib.Core.List.{_++_}
+use mathlib.Core.List.{List, _++_}
 use borrow.Author.Needs.{needs}
 use borrow.Author.Tests.{eq-eqb, ne-eqb}
 use Rattle.refusal_table.specs.Refusal.{firstOf}
 use Rattle.refusal_table.proofs.Refusals.{answers, passed, onward, at-once}
+use Rattle.composer_state.specs.declared.Composer.{Composer}
 use Rattle.composer_state.specs.Composing.{stateChecks, openChecks, closeRefusal}
 use Rattle.composer_state.proofs.Refusals.{state-none}
+use Rattle.composer_bytes.specs.States.{composerOf}
+use Rattle.composer_bytes.proofs.Parts.{whole-same}
 use Rattle.composer_close.proofs.close_refusal.Statement.{statement}
 use Rattle.composer_close.proofs.close_refusal.Tie as tie
 
-past : (c : tie.Else1) → closeRefusal (c .before .args .c) (c .before .args .lent) ≡ firstOf (stateChecks (c .before .args .c) ++ openChecks (c .before .args .c))
+-- the state that the bytes say
+abbrev run : tie.Start → Composer
+run c = composerOf (c .args .state .now)
+
+abbrev start : tie.Else1 → tie.Start
+start c = c .before .before
+
+past : (c : tie.Else1) → closeRefusal (run (start c)) (start c .args .lent) ≡ firstOf (stateChecks (run (start c)) ++ openChecks (run (start c)))
 unfolding closeRefusal
 past c = passed _ _ (ap not (eq-eqb _ _ (c .if1 .left)))
+
+stated : (c : tie.After-state-refusal) → c .state-refusal .result ≡ firstOf (stateChecks (run (start (c .before))))
+stated c =
+    let s = start (c .before) in
+    c .state-refusal .ensures ∙ ap (λ (b : List ℕ). firstOf (stateChecks (composerOf b))) (whole-same (s .args .state .now) (s .pre))
 
 returns : tie.Need-returns
 unfolding closeRefusal
@@ -23,8 +40,8 @@ state-refusal-requires c κs = search needs
 
 returns-2 : tie.Need-returns-2
 returns-2 c =
-    let state = c .before .before .before .args .c in
-    let n = c .before .state-refusal .ensures in
+    let state = run (start (c .before .before)) in
+    let n = stated (c .before) in
     n ∙ sym (past (c .before .before) ∙ at-once (stateChecks state) (openChecks state) (λ z. c .if2 .taken (n ∙ z)))
 
 open-refusal-requires : tie.Need-open-refusal-requires
@@ -32,10 +49,11 @@ open-refusal-requires c κs = search needs
 
 returns-3 : tie.Need-returns-3
 returns-3 c =
-    let state = c .before .before .before .before .args .c in
-    let n = c .before .before .state-refusal .ensures in
+    let s = start (c .before .before .before) in
+    let n = stated (c .before .before) in
     c .open-refusal .ensures
-    ∙ sym (past (c .before .before .before) ∙ onward (openChecks state) (state-none state (sym n ∙ c .before .if2 .left)))
+    ∙ ap (λ (b : List ℕ). firstOf (openChecks (composerOf b))) (whole-same (s .args .state .now) (s .pre))
+    ∙ sym (past (c .before .before .before) ∙ onward (openChecks (run s)) (state-none (run s) (sym n ∙ c .before .if2 .left)))
 
 pub close-refusal-spec : {M : Type 1} → statement M
 close-refusal-spec =

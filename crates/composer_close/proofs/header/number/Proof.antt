@@ -4,18 +4,19 @@ use mathlib.Core.Path.{_≡_, refl}
 use mathlib.Core.Logic.{⊎-elim}
 use native.Mathlib.Omega.{arith}
 use borrow.Author.Needs.{needs}
-use borrow.Author.Tests.{not-true, not-false}
+use borrow.Author.Tests.{eq-eqb, ne-eqb}
 use lib.ListN.{length, drop}
 use Rattle.slices.proofs.Toward.{Toward, toward-none, toward-more, toward-same, toward-length, toward-all}
 use Rattle.composer_state.specs.Slots.{numbersOf}
+use Rattle.composer_bytes.specs.States.{marksOf}
 use Rattle.composer_close.proofs.Numbers.{numbers-from, all-numbered}
-use Rattle.composer_close.proofs.number.Statement.{statement}
-use Rattle.composer_close.proofs.number.Tie as tie
+use Rattle.composer_close.proofs.header.number.Statement.{statement}
+use Rattle.composer_close.proofs.header.number.Tie as tie
 
 abbrev Inv-loop : tie.InvT-loop
 Inv-loop numbers₀ filled i₀ numbers i =
     (i ≤ length numbers₀) × (length numbers ≡ length numbers₀)
-    × Toward (numbersOf numbers₀ filled) numbers₀ numbers (numbersOf (drop i numbers₀) (drop i filled)) i
+    × Toward (numbersOf numbers₀ (marksOf filled)) numbers₀ numbers (numbersOf (drop i numbers₀) (drop i (marksOf filled))) i
 
 abbrev μ-loop : tie.MeasureT-loop
 μ-loop numbers₀ filled i₀ numbers i = length numbers₀ - i
@@ -41,13 +42,13 @@ loop-again c =
     let i = loop .loop .i in
     let walk = loop .loop .inv .2 in
     let numbers = loop .before .args .numbers .now in
-    let marks = loop .before .args .filled .now in
+    let filled = loop .before .args .filled .now in
     let within : i < length numbers = omega arith in
-    let marked : i < length marks = omega arith in
-    let walked : Toward (numbersOf numbers marks) numbers (c .if1 .numbers) (numbersOf (drop (i + 1) numbers) (drop (i + 1) marks)) (i + 1) =
+    let marked : i < length filled = omega arith in
+    let walked : Toward (numbersOf numbers (marksOf filled)) numbers (c .if1 .numbers) (numbersOf (drop (i + 1) numbers) (drop (i + 1) (marksOf filled))) (i + 1) =
     ⊎-elim
-    (λ w. rw (w .1) (toward-more walk 0 (numbers-from numbers marks i (not-true _ (w .0 .taken)) within marked) within))
-    (λ w. rw (w .1) (toward-same walk 0 (numbers-from numbers marks i (not-false _ (w .0 .left)) within marked) within))
+    (λ w. rw (w .1) (toward-more walk 0 (numbers-from numbers filled i (ne-eqb _ _ (w .0 .taken)) within marked) within))
+    (λ w. rw (w .1) (toward-same walk 0 (numbers-from numbers filled i (eq-eqb _ _ (w .0 .left)) within marked) within))
     (c .if1 .came) in
     (omega arith, toward-length walked (omega arith), walked)
 
@@ -58,7 +59,7 @@ returns : tie.Need-returns Inv-loop μ-loop
 returns c =
     let loop = c .before in
     let numbers = loop .before .args .numbers .now in
-    toward-all (loop .loop .inv .2) (all-numbered numbers (loop .before .args .filled .now) (loop .loop .i) (omega arith))
+    toward-all (loop .loop .inv .2) (all-numbered numbers (marksOf (loop .before .args .filled .now)) (loop .loop .i) (omega arith))
 
 pub number-spec : {M : Type 1} → statement M
 number-spec =

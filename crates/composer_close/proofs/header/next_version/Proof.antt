@@ -2,13 +2,12 @@ use mathlib.Core.Path.{_≡_, sym, ap, _∙_}
 use borrow.Author.Needs.{needs}
 use Rattle.announced.specs.declared.Announced.{Announced}
 use Rattle.announced.specs.Announcing.{announced, differ}
-use Rattle.composer_state.specs.Composing.{nextVersion}
-use Rattle.composer_close.proofs.next_version.Statement.{statement}
-use Rattle.composer_close.proofs.next_version.Tie as tie
+use Rattle.composer_close.proofs.header.next_version.Statement.{statement}
+use Rattle.composer_close.proofs.header.next_version.Tie as tie
 
 -- what the call of `differs` answers
-told : (c : tie.After-differs) → c .differs .result ≡ differ (announced (c .before .before .before .before .args .c .setting)) (c .before .before .before .before .args .c .last)
-told c = c .differs .ensures ∙ ap (λ (a : Announced). differ a (c .before .before .before .before .args .c .last)) (c .before .announce .ensures)
+told : (c : tie.After-differs) → c .differs .result ≡ differ (announced (c .before .before .args .s)) (c .before .before .args .last)
+told c = c .differs .ensures ∙ ap (λ (a : Announced). differ a (c .before .before .args .last)) (c .before .announce .ensures)
 
 announce-requires : tie.Need-announce-requires
 announce-requires c κs = search needs
@@ -20,11 +19,9 @@ add-result : tie.Need-add-result
 add-result c = search needs
 
 returns : tie.Need-returns
-unfolding nextVersion
-returns c = rw (sym (told (c .before .before)) ∙ c .before .if1 .taken)
+returns c = rw (sym (told (c .before)) ∙ c .if1 .taken)
 
 returns-2 : tie.Need-returns-2
-unfolding nextVersion
 returns-2 c = rw (sym (told (c .before)) ∙ c .if1 .left)
 
 pub next-version-spec : {M : Type 1} → statement M

@@ -1,0 +1,149 @@
+-- `niranbok_composer_close` meets its contract: what passed its checks the header's writer does not refuse. Assumes nothing.
+use mathlib.Core.Path.{refl, sym, _∙_}
+use native.Mathlib.Omega.{arith}
+use borrow.Author.Needs.{needs}
+use borrow.Author.Tests.{ne-eqb}
+use lib.ListN.{length}
+use Rattle.refusal_table.specs.Refusal.{leaves}
+use Rattle.composer_bytes.specs.States.{composerLength, composerOf}
+use Rattle.board_frame.specs.Calls.{closeRefused, closeState, closeMemory}
+use Rattle.board_frame.proofs.Calls.{close-refused, close-done}
+use Rattle.composer_close.proofs.Passed.{ClosePassed, close-passed}
+use Rattle.composer_close.proofs.Closing.{closed-memory, closed-state}
+use Rattle.composer_close.proofs.niranbok_composer_close.Statement.{statement}
+use Rattle.composer_close.proofs.niranbok_composer_close.Tie as tie
+
+-- the places after each test and call, from the later to the earlier
+abbrev begun : tie.Else1 → tie.Start
+begun c = c .before .before .before
+
+abbrev tested : tie.After-close-refusal → tie.Else1
+tested c = c .before .before
+
+abbrev passed : tie.After-look → tie.Else2
+passed c = c .before .before
+
+abbrev looked : tie.After-header-setting → tie.After-look
+looked c = c .before .before
+
+abbrev told : tie.After-word → tie.After-header-setting
+told c = c .before .before .before
+
+abbrev worded : tie.After-kind-of → tie.After-word
+worded c = c .before .before
+
+abbrev kinded : tie.After-write → tie.After-kind-of
+kinded c = c .before .before
+
+abbrev wrote : tie.After-end-frame → tie.After-write
+wrote c = c .before .before .before .before
+
+-- behind the checks
+abbrev started : tie.Else2 → tie.Start
+started c = begun (tested (c .before))
+
+past : (c : tie.Else2) → ClosePassed (composerOf (started c .args .state .now)) (length (started c .args .frame .now))
+past c = close-passed _ _ (sym (c .before .close-refusal .ensures) ∙ c .if2 .left)
+
+returns : tie.Need-returns
+unfolding closeRefused closeState closeMemory leaves
+returns c = rw (ne-eqb (length (c .before .before .before .args .state .now)) composerLength (c .if1 .taken)) (refl, (refl, refl))
+
+close-refusal-requires : tie.Need-close-refusal-requires
+close-refusal-requires c κs = search needs
+
+same-length : tie.Need-same-length
+same-length c = search needs
+
+returns-2 : tie.Need-returns-2
+returns-2 c =
+    let test = tested (c .before) in
+    let args = begun test .args in
+    close-refused (args .state .now) (args .frame .now) (test .if1 .left) (c .before .close-refusal .ensures) (c .if2 .taken)
+
+look-requires : tie.Need-look-requires
+look-requires c κs = search needs
+
+header-setting-requires : tie.Need-header-setting-requires
+header-setting-requires c κs =
+    let checks = passed (c .before) in
+    let p = past checks .open-state in
+    (tested (checks .before) .if1 .left, (p .counter, p .version))
+
+slice-read-word : tie.Need-slice-read-word
+slice-read-word c = search needs
+
+slice-read-word-2 : tie.Need-slice-read-word-2
+slice-read-word-2 c = search needs
+
+word-requires : tie.Need-word-requires
+word-requires c κs = search needs
+
+slice-read-kind-of : tie.Need-slice-read-kind-of
+slice-read-kind-of c = search needs
+
+kind-of-requires : tie.Need-kind-of-requires
+kind-of-requires c κs = search needs
+
+sub-write : tie.Need-sub-write
+sub-write c = search needs
+
+part-write-start : tie.Need-part-write-start
+part-write-start c = search needs
+
+part-write-end : tie.Need-part-write-end
+part-write-end c = omega (arith, past (passed (looked (told (worded c)))) .long)
+
+write-requires : tie.Need-write-requires
+write-requires c κs = search needs
+
+end-frame-requires : tie.Need-end-frame-requires
+end-frame-requires c κs = search needs
+
+same-length-2 : tie.Need-same-length-2
+same-length-2 c = search needs
+
+same-length-3 : tie.Need-same-length-3
+same-length-3 c = search needs
+
+returns-3 : tie.Need-returns-3
+unfolding composerOf
+returns-3 c =
+    let ended = c .before .before in
+    let write = wrote ended in
+    let kind = kinded write in
+    let word = worded kind in
+    let say = told word in
+    let look = looked say in
+    let checks = passed look in
+    let p = past checks in
+    let long = tested (checks .before) .if1 .left in
+    let args = started checks .args in
+    let said = say .header-setting .ensures in
+    close-done (args .state .now) (args .frame .now) long (checks .before .close-refusal .ensures) (checks .if2 .left)
+    (closed-state (args .state .now) long (p .open-state) said (look .look .ensures) (ended .end-frame .ensures))
+    (closed-memory (args .state .now) long (p .open-state) said (args .frame .now) (p .long) (kind .kind-of .ensures) (word .word .ensures) (write .write .ensures .1))
+
+pub niranbok-composer-close-spec : {M : Type 1} → statement M
+niranbok-composer-close-spec =
+    tie.close
+    (tie.spec
+    returns
+    close-refusal-requires
+    same-length
+    returns-2
+    look-requires
+    header-setting-requires
+    slice-read-word
+    slice-read-word-2
+    word-requires
+    slice-read-kind-of
+    kind-of-requires
+    sub-write
+    part-write-start
+    part-write-end
+    write-requires
+    end-frame-requires
+    same-length-2
+    same-length-3
+    returns-3)
