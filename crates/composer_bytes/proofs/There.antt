@@ -1,10 +1,12 @@
 -- Where a state's bytes have what the calls look at. Assumes nothing.
 use Prim.Native.Nat.{ℕ, _+_, _<_}
 use mathlib.Core.Path.{_≡_, refl, ap, _∙_}
+use mathlib.Core.Bool.{false}
 use mathlib.Core.List.{List, [], _++_, append-nil}
 use native.Mathlib.Omega.{arith}
 use borrow.Author.Tests.{eq-eqb}
-use lib.ListN.{length, getD, take, drop, length-drop, drop-of-length-le}
+use lib.Dec.{eqb}
+use lib.ListN.{length, getD, take, drop, length-drop, drop-of-length-le, List·getD-map}
 use lib.Seq.{getD-take, getD-drop}
 use Rattle.slices.proofs.Front.{put}
 use Rattle.words.specs.Words.{wordAt}
@@ -54,3 +56,7 @@ marks-there b = refl
 pub kind-there : (b : List ℕ) → composerOf b .kind ≡ kindOf (getD b 2 0)
 unfolding composerOf
 kind-there b = refl
+
+-- what bytes say as marks, one by one
+pub mark-at : (bytes : List ℕ) (i : ℕ) → getD (marksOf bytes) i false ≡ eqb (getD bytes i 0) 1
+mark-at bytes i = List·getD-map (λ (n : ℕ). eqb n 1) bytes i 0

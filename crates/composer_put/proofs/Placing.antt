@@ -16,10 +16,7 @@ use Rattle.composer_bytes.specs.States.{markByte, marksOf}
 use Rattle.composer_bytes.proofs.Same.{marks-same}
 use Rattle.composer_put.proofs.Walk.{packet-left, rest-from, marks-from, slots-from, rest-none, marks-none, slots-none}
 
--- what bytes say as marks, one by one, and from one on
-pub mark-at : (bytes : List ℕ) (i : ℕ) → getD (marksOf bytes) i false ≡ eqb (getD bytes i 0) 1
-mark-at bytes i = List·getD-map (λ (n : ℕ). eqb n 1) bytes i 0
-
+-- from an element on
 map-drop : {A B : Type 0} (f : A → B) (k : ℕ) (xs : List A) → map f (drop k xs) ≡ drop k (map f xs)
 map-drop f zero xs = refl
 map-drop f (suc k) [] = refl

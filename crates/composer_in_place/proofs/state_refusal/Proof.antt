@@ -1,22 +1,23 @@
--- The composer's own, on the state decoded. Assumes nothing.
-use mathlib.Core.Path.{ap, _∙_}
-use Rattle.refusal_table.specs.Refusal.{firstOf}
-use Rattle.composer_state.specs.declared.Composer.{Composer}
-use Rattle.composer_state.specs.Composing.{stateChecks}
+use Prim.Native.Nat.{ℕ}
+use mathlib.Core.Path.{refl, sym, ap, _∙_}
+use mathlib.Core.List.{List}
 use borrow.Author.Needs.{needs}
+use Rattle.refusal_table.specs.Refusal.{firstOf}
+use Rattle.composer_state.specs.Composing.{stateChecks}
+use Rattle.composer_bytes.specs.States.{composerOf}
+use Rattle.composer_bytes.proofs.Parts.{whole-same}
+use Rattle.composer_in_place.proofs.Rows.{zeros, at-pid}
 use Rattle.composer_in_place.proofs.state_refusal.Statement.{statement}
 use Rattle.composer_in_place.proofs.state_refusal.Tie as tie
-use Rattle.composer_in_place.proofs.state_refusal.Reads as reads
-use Rattle.composer_in_place.proofs.state_refusal.Lts as lts
-
-composer-of-requires : tie.Need-composer-of-requires
-composer-of-requires c κs = search needs
-
-state-refusal-requires : tie.Need-state-refusal-requires
-state-refusal-requires c κs = search needs
 
 returns : tie.Need-returns
-returns c = c .state-refusal .ensures ∙ ap (λ (k : Composer). firstOf (stateChecks k)) (c .before .composer-of .ensures)
+returns c = rw (zeros (c .before .before .args .bytes .now) (c .if1 .taken)) (sym (at-pid _ refl))
+
+long-state-refusal-requires : tie.Need-long-state-refusal-requires
+long-state-refusal-requires c κs = search needs
+
+returns-2 : tie.Need-returns-2
+returns-2 c = c .long-state-refusal .ensures ∙ sym (ap (λ (l : List ℕ). firstOf (stateChecks (composerOf l))) (whole-same (c .before .before .before .args .bytes .now) (c .before .if1 .left)))
 
 pub state-refusal-spec : {M : Type 1} → statement M
-state-refusal-spec = tie.close (tie.spec composer-of-requires state-refusal-requires returns)
+state-refusal-spec = tie.close (tie.spec returns long-state-refusal-requires returns-2)

@@ -14,7 +14,7 @@ use Rattle.packet.specs.Packets.{packetLength, unfit}
 use Rattle.packet.proofs.Fit.{may-stand, may-not-stand}
 use Rattle.composer_state.specs.Slots.{takes, someUnfit}
 use Rattle.composer_bytes.specs.States.{marksOf}
-use Rattle.composer_put.proofs.Placing.{mark-at}
+use Rattle.composer_bytes.proofs.There.{mark-at}
 use Rattle.composer_put.proofs.Walk.{packet-left, unfit-from, unfit-none}
 use Rattle.composer_put.proofs.slots.has_unfit.Statement.{statement}
 use Rattle.composer_put.proofs.slots.has_unfit.Tie as tie

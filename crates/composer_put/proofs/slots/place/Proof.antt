@@ -16,7 +16,8 @@ use Rattle.packet.specs.Packets.{packetLength, frameLength}
 use Rattle.composer_state.specs.Slots.{takes}
 use Rattle.composer_put.proofs.Walk.{packet-left}
 use Rattle.composer_bytes.specs.States.{marksOf}
-use Rattle.composer_put.proofs.Placing.{mark-at, Placing, placing-none, placing-placed, placing-passed, all-placed, all-marked, all-rest}
+use Rattle.composer_bytes.proofs.There.{mark-at}
+use Rattle.composer_put.proofs.Placing.{Placing, placing-none, placing-placed, placing-passed, all-placed, all-marked, all-rest}
 use Rattle.composer_put.proofs.slots.place.Statement.{statement}
 use Rattle.composer_put.proofs.slots.place.Tie as tie
 
