@@ -7,14 +7,13 @@ use crate::plan;
 use crate::plan::SHARES;
 use crate::says;
 use crate::settings;
-use counters::RelativeNumber;
+use board_frame::COMPOSER_BYTES;
+use coding::SETTING_BYTES;
 use counters::Slot;
-use frame::Composer;
 use libc::STDOUT_FILENO;
 use packet::FRAME_BYTES;
 use packet::PACKET_BYTES;
 use receiver::STORE_BYTES;
-use setting::Kind;
 use setting::SLOTS;
 use setting::STREAMS;
 use setting::Setting;
@@ -170,7 +169,6 @@ fn open_all(fds: &mut [i32], first: usize, streams: usize) -> bool
 struct Filled {
     refusal: u8,
     packets: usize,
-    state: Composer,
 }
 
 // Reads as many packets as there are slots, or as are left. Answers the bytes of whole packets.
@@ -188,48 +186,56 @@ fn read_packets(fd: i32, bytes: &mut [u8], slots: u32, r: u8) -> usize
     got - tail
 }
 
-fn put_packets(filled: Filled, frame: &mut [u8], packets: &[u8], r: u8) -> Filled {
-    let run = filled.state;
-    let put = frame::put(run, frame, packets, RelativeNumber(r));
-    let state = put.state;
-    if put.refusal != 0 {
+fn put_packets(
+    filled: Filled,
+    state: &mut [u8],
+    frame: &mut [u8],
+    packets: &[u8],
+    r: u8,
+) -> Filled {
+    let mut placed = 0usize;
+    let refusal = board_composer_put::niranbok_composer_put(state, frame, packets, r, &mut placed);
+    if refusal != 0 {
         says::about(b"stream ", r as u64);
-        says::refusal(b"input", put.refusal);
+        says::refusal(b"input", refusal);
     }
     Filled {
-        refusal: put.refusal,
-        packets: std::num::wrapping_add_usize(filled.packets, put.placed),
-        state,
+        refusal,
+        packets: std::num::wrapping_add_usize(filled.packets, placed),
     }
 }
 
-fn put_stream(filled: Filled, frame: &mut [u8], fd: i32, slots: u32, r: u8) -> Filled {
+fn put_stream(
+    filled: Filled,
+    state: &mut [u8],
+    frame: &mut [u8],
+    fd: i32,
+    slots: u32,
+    r: u8,
+) -> Filled {
     let mut bytes = [0u8; STORE_BYTES];
     let n = read_packets(fd, &mut bytes, slots, r);
-    put_packets(filled, frame, &bytes[0..n], r)
+    put_packets(filled, state, frame, &bytes[0..n], r)
 }
 
 // Puts one stream after another.
-fn fill(start: Filled, frame: &mut [u8], fds: &[i32], slots: &[u32], streams: usize) -> Filled
+fn fill(state: &mut [u8], frame: &mut [u8], fds: &[i32], slots: &[u32], streams: usize) -> Filled
     requires { ⌜ (length (now fds) ≡ 15) × (length (now slots) ≡ 16) ⌝ }
     requires { ⌜ streams ≤ 15 ⌝ }
 {
-    let mut filled = start;
+    let mut filled = Filled {
+        refusal: 0,
+        packets: 0,
+    };
     let mut k = 0;
     while k < streams {
-        filled = put_stream(filled, frame, fds[k], slots[k + 1], (k + 1) as u8);
+        filled = put_stream(filled, state, frame, fds[k], slots[k + 1], (k + 1) as u8);
         if filled.refusal != 0 {
             return filled;
         }
         k += 1;
     }
     filled
-}
-
-// The run behind a frame, and whether it goes on.
-struct Made {
-    more: bool,
-    state: Composer,
 }
 
 fn write(bytes: &[u8]) -> bool {
@@ -251,53 +257,50 @@ fn write_frame(frame: &[u8], packets: usize) -> bool
     write(frame)
 }
 
-fn close_frame(filled: Filled, frame: &mut [u8]) -> Made
+fn close_frame(state: &mut [u8], frame: &mut [u8], packets: usize) -> bool
     requires { ⌜ length (now frame) ≡ 9964 ⌝ }
 {
-    let run = filled.state;
-    let closed = frame::close(run, frame);
-    let state = closed.state;
-    if closed.refusal != 0 {
-        says::refusal(b"close", closed.refusal);
-        return Made { more: false, state };
+    let refusal = board_composer_close::niranbok_composer_close(state, frame);
+    if refusal != 0 {
+        says::refusal(b"close", refusal);
+        return false;
     }
-    let more = write_frame(frame, filled.packets);
-    Made { more, state }
+    write_frame(frame, packets)
 }
 
-fn finish_frame(run: Composer, frame: &mut [u8], fds: &[i32], slots: &[u32], streams: usize) -> Made
-    requires { ⌜ (length (now fds) ≡ 15) × (length (now slots) ≡ 16) ⌝ }
-    requires { ⌜ (streams ≤ 15) × (length (now frame) ≡ 9964) ⌝ }
-{
-    let empty = Filled {
-        refusal: 0,
-        packets: 0,
-        state: run,
-    };
-    let filled = fill(empty, frame, fds, slots, streams);
-    if filled.refusal != 0 {
-        let state = filled.state;
-        return Made { more: false, state };
-    }
-    close_frame(filled, frame)
-}
-
-fn make_frame(
-    run: Composer,
+fn finish_frame(
+    state: &mut [u8],
     frame: &mut [u8],
-    setting: Setting,
     fds: &[i32],
     slots: &[u32],
     streams: usize,
-) -> Made
+) -> bool
     requires { ⌜ (length (now fds) ≡ 15) × (length (now slots) ≡ 16) ⌝ }
     requires { ⌜ (streams ≤ 15) × (length (now frame) ≡ 9964) ⌝ }
 {
-    let begun = frame::begin(run, frame, setting);
-    let state = begun.state;
-    if begun.refusal != 0 {
-        says::refusal(b"streams", begun.refusal);
-        return Made { more: false, state };
+    let filled = fill(state, frame, fds, slots, streams);
+    if filled.refusal != 0 {
+        return false;
+    }
+    close_frame(state, frame, filled.packets)
+}
+
+// Makes a frame. Answers whether the run goes on behind it.
+fn make_frame(
+    state: &mut [u8],
+    frame: &mut [u8],
+    setting: &[u8],
+    fds: &[i32],
+    slots: &[u32],
+    streams: usize,
+) -> bool
+    requires { ⌜ (length (now fds) ≡ 15) × (length (now slots) ≡ 16) ⌝ }
+    requires { ⌜ (streams ≤ 15) × (length (now frame) ≡ 9964) ⌝ }
+{
+    let refusal = board_composer_begin::niranbok_composer_begin(state, frame, setting);
+    if refusal != 0 {
+        says::refusal(b"streams", refusal);
+        return false;
     }
     finish_frame(state, frame, fds, slots, streams)
 }
@@ -314,40 +317,46 @@ fn say_progress(frames: u64) {
 
 // Makes frames until the streams are used up. A loop that is proved has to end: the frames' numbers do.
 fn make_frames(
-    pid: u16,
-    setting: Setting,
+    state: &mut [u8],
+    frame: &mut [u8],
+    setting: &[u8],
     fds: &[i32],
     slots: &[u32],
     streams: usize,
-    frame: &mut [u8],
 )
     requires { ⌜ (length (now fds) ≡ 15) × (length (now slots) ≡ 16) ⌝ }
     requires { ⌜ (streams ≤ 15) × (length (now frame) ≡ 9964) ⌝ }
 {
-    let mut run = frame::start(pid, Kind::Plain).state;
     let mut frames: u64 = 0;
     while frames < u64::MAX {
-        let made = make_frame(run, frame, setting, fds, slots, streams);
-        if !made.more {
+        if !make_frame(state, frame, setting, fds, slots, streams) {
             return;
         }
-        run = made.state;
         frames += 1;
         say_progress(frames);
     }
+}
+
+// Starts the run and makes its frames.
+fn compose(pid: u16, given: Given, fds: &[i32], streams: usize)
+    requires { ⌜ (length (now fds) ≡ 15) × (streams ≤ 15) ⌝ }
+{
+    let mut state = [0u8; COMPOSER_BYTES];
+    board_composer_start::niranbok_composer_start(&mut state, pid, 0);
+    let mut setting = [0u8; SETTING_BYTES];
+    setting_writer::write_setting(&mut setting, given.setting);
+    let slots = given.slots;
+    let mut frame = [0u8; FRAME_BYTES];
+    make_frames(&mut state, &mut frame, &setting, fds, &slots, streams);
 }
 
 fn start(pid: u16, given: Given, first: usize, streams: usize)
     requires { ⌜ (first ≤ 3) × (streams ≤ 15) ⌝ }
 {
     let mut fds = [0i32; STREAMS];
-    if !open_all(&mut fds, first, streams) {
-        return;
+    if open_all(&mut fds, first, streams) {
+        compose(pid, given, &fds, streams);
     }
-    let setting = given.setting;
-    let slots = given.slots;
-    let mut frame = [0u8; FRAME_BYTES];
-    make_frames(pid, setting, &fds, &slots, streams, &mut frame);
 }
 
 // The streams' words start at `first`.

@@ -7,13 +7,13 @@ use Rattle.tools.proofs.mux.fill.Statement.{statement}
 use Rattle.tools.proofs.mux.fill.Tie as tie
 
 abbrev Inv-loop : tie.InvT-loop
-Inv-loop frame₀ fds slots streams filled₀ k₀ frame filled k = length frame ≡ length frame₀
+Inv-loop state₀ frame₀ fds slots streams filled₀ k₀ state frame filled k = (length state ≡ length state₀) × (length frame ≡ length frame₀)
 
 abbrev μ-loop : tie.MeasureT-loop
-μ-loop frame₀ fds slots streams filled₀ k₀ frame filled k = streams - k
+μ-loop state₀ frame₀ fds slots streams filled₀ k₀ state frame filled k = streams - k
 
 loop-holds : tie.Need-loop-holds Inv-loop μ-loop
-loop-holds c = refl
+loop-holds c = (refl, refl)
 
 mul-put-stream : tie.Need-mul-put-stream Inv-loop μ-loop
 mul-put-stream c = search needs
@@ -42,6 +42,9 @@ put-stream-requires c κs = search needs
 same-length : tie.Need-same-length Inv-loop μ-loop
 same-length c = search needs
 
+same-length-2 : tie.Need-same-length-2 Inv-loop μ-loop
+same-length-2 c = search needs
+
 returns : tie.Need-returns Inv-loop μ-loop
 returns c = tt
 
@@ -52,10 +55,13 @@ loop-less : tie.Need-loop-less Inv-loop μ-loop
 loop-less c = search needs
 
 loop-again : tie.Need-loop-again Inv-loop μ-loop
-loop-again c = search needs
+loop-again c = (search needs, search needs)
 
-same-length-2 : tie.Need-same-length-2 Inv-loop μ-loop
-same-length-2 c = search needs
+same-length-3 : tie.Need-same-length-3 Inv-loop μ-loop
+same-length-3 c = search needs
+
+same-length-4 : tie.Need-same-length-4 Inv-loop μ-loop
+same-length-4 c = search needs
 
 returns-2 : tie.Need-returns-2 Inv-loop μ-loop
 returns-2 c = tt
@@ -76,9 +82,11 @@ fill-spec =
     cast-put-stream
     put-stream-requires
     same-length
+    same-length-2
     returns
     add-k
     loop-less
     loop-again
-    same-length-2
+    same-length-3
+    same-length-4
     returns-2)
