@@ -5,8 +5,8 @@
 SHELL = /bin/bash
 .SHELLFLAGS = -o pipefail -c
 
-BOARD = board_numbers board_counters board_setting board_crc board_header_write board_header_read board_packet board_composer_start \
-	board_composer_begin board_composer_put composer_close board_receiver_start board_receiver_receive board_receiver_hand_out \
+BOARD = board_numbers board_counters board_setting board_crc board_header_write board_header_read board_packet composer_start \
+	composer_begin composer_put composer_close board_receiver_start board_receiver_receive board_receiver_hand_out \
 	board_bond board_gather
 
 # The archive and the programs are for x86-64. On another processor an emulator runs them, and Debian's cross compilers make what is

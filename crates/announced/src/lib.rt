@@ -1,10 +1,8 @@
-// What of a header decides on the next header's version: taken from its setting, and checked.
+// What of a header decides on the next header's version: taken from its setting.
 use setting::STREAMS;
 use setting::Setting;
-use setting::limits;
 ghost use mathlib.Core.Path.{_≡_};
-ghost use Rattle.refusal_table.specs.Refusal.{firstOf};
-ghost use Rattle.announced.specs.Announcing.{announced, announcedChecks};
+ghost use Rattle.announced.specs.Announcing.{announced};
 
 // What of the last closed header decides on the next version: slot information, identifiers and control information.
 pub struct Announced {
@@ -33,27 +31,4 @@ pub fn announce(s: Setting) -> Announced
         receive_status,
         emergency_indicator: s.emergency_indicator,
     }
-}
-
-// 17: the numbers of the last closed header.
-pub fn announced_refusal(a: Announced) -> u8
-    ensures { λ r. ⌜ r ≡ firstOf (announcedChecks a) ⌝ }
-{
-    if limits::SLOT_ALLOCATION_TYPES <= a.slot_allocation_type {
-        return 17;
-    }
-    if limits::FRAME_TYPES <= a.frame_type {
-        return 17;
-    }
-    if limits::AVAILABILITIES <= a.availability {
-        return 17;
-    }
-    let receive_status = a.receive_status;
-    if slices::some_at_least(&receive_status, limits::RECEIVE_STATUSES) {
-        return 17;
-    }
-    if limits::EMERGENCY_INDICATORS <= a.emergency_indicator {
-        return 17;
-    }
-    0
 }

@@ -194,7 +194,7 @@ fn put_packets(
     r: u8,
 ) -> Filled {
     let mut placed = 0usize;
-    let refusal = board_composer_put::niranbok_composer_put(state, frame, packets, r, &mut placed);
+    let refusal = composer_put::niranbok_composer_put(state, frame, packets, r, &mut placed);
     if refusal != 0 {
         says::about(b"stream ", r as u64);
         says::refusal(b"input", refusal);
@@ -260,7 +260,7 @@ fn write_frame(frame: &[u8], packets: usize) -> bool
 fn close_frame(state: &mut [u8], frame: &mut [u8], packets: usize) -> bool
     requires { ⌜ length (now frame) ≡ 9964 ⌝ }
 {
-    let refusal = board_composer_close::niranbok_composer_close(state, frame);
+    let refusal = composer_close::niranbok_composer_close(state, frame);
     if refusal != 0 {
         says::refusal(b"close", refusal);
         return false;
@@ -297,7 +297,7 @@ fn make_frame(
     requires { ⌜ (length (now fds) ≡ 15) × (length (now slots) ≡ 16) ⌝ }
     requires { ⌜ (streams ≤ 15) × (length (now frame) ≡ 9964) ⌝ }
 {
-    let refusal = board_composer_begin::niranbok_composer_begin(state, frame, setting);
+    let refusal = composer_begin::niranbok_composer_begin(state, frame, setting);
     if refusal != 0 {
         says::refusal(b"streams", refusal);
         return false;
@@ -342,7 +342,7 @@ fn compose(pid: u16, given: Given, fds: &[i32], streams: usize)
     requires { ⌜ (length (now fds) ≡ 15) × (streams ≤ 15) ⌝ }
 {
     let mut state = [0u8; COMPOSER_BYTES];
-    board_composer_start::niranbok_composer_start(&mut state, pid, 0);
+    composer_start::niranbok_composer_start(&mut state, pid, 0);
     let mut setting = [0u8; SETTING_BYTES];
     setting_writer::write_setting(&mut setting, given.setting);
     let slots = given.slots;
