@@ -11,7 +11,7 @@ use Rattle.coding.specs.Settings.{part}
 use Rattle.coding.proofs.Parts.{length-part, copied-part}
 use Rattle.composer_bytes.specs.States.{composerLength}
 
--- with the counter and the version
+-- the state b with another counter and version
 abbrev pub numbered : List ℕ → ℕ → ℕ → List ℕ
 numbered b counter version = set (set b 3 counter) 4 version
 
@@ -22,10 +22,11 @@ module _ (b : List ℕ) (counter version : ℕ) (long : length b ≡ composerLen
   pub length-numbered : length b′ ≡ composerLength
   length-numbered = simp length-set long
 
-  -- with what was announced, a, over what was announced before; and with z behind it
+  -- with the announced bytes a over the old ones
   pub length-announced : (a : List ℕ) → length a ≡ length (part 5 80 b′) → length (put 5 80 b′ a) ≡ composerLength
   length-announced a l = same-len-mid 5 80 b′ a l ∙ length-numbered
 
+  -- and with z behind them, to the end
   parts : (a z : List ℕ) → length a ≡ 80 → length z ≡ 305 → put 85 305 (put 5 80 b′ a) z ≡ take 3 b ++ (counter ∷ version ∷ (a ++ z))
   parts a z la lz =
       let f₁ = front-kept b [] b 0 3 (front-none b) (omega arith) in
@@ -35,7 +36,7 @@ module _ (b : List ℕ) (counter version : ℕ) (long : length b ≡ composerLen
       let f₅ = front-part b (take 3 b ++ (counter ∷ []) ++ (version ∷ []) ++ a) _ z 85 305 f₄ lz in
       front-all b (take 3 b ++ (counter ∷ []) ++ (version ∷ []) ++ a ++ z) _ 390 f₅ (omega arith) ∙ simp append-assoc refl
 
-  -- what was announced copied out of the setting and in again, and zeros
+  -- what the setting announces copied out and in again, and zeros behind it
   pub ended : (t a z : List ℕ) → t ≡ copied (replicate 80 0) (part 88 80 b) → a ≡ copied (part 5 80 b′) t
       → z ≡ replicate (length (part 85 305 (put 5 80 b′ a))) 0
       → put 85 305 (put 5 80 b′ a) z ≡ take 3 b ++ (counter ∷ version ∷ (part 88 80 b ++ replicate 305 0))

@@ -16,9 +16,9 @@ pub numbers-from : (ns filled : List ℕ) (i : ℕ) {m : Bool} → eqb (getD fil
 unfolding numbersOf
 numbers-from ns filled i e h g =
     let ms = marksOf filled in
-    let is-byte : ℕ → Bool = λ n. eqb n 1 in
-    ap₂ numbersOf (drop-cons ns i 0 h) (drop-cons ms i false (rw (length-map filled is-byte) g))
-    ∙ ap₂ (λ (b : Bool) (k : ℕ). cond b (getD ns i 0) 0 ∷ numbersOf (drop k ns) (drop k ms)) (List·getD-map is-byte filled i 0 ∙ e) (sym (add-one i))
+    let is-marked : ℕ → Bool = λ n. eqb n 1 in
+    ap₂ numbersOf (drop-cons ns i 0 h) (drop-cons ms i false (rw (length-map filled is-marked) g))
+    ∙ ap₂ (λ (b : Bool) (k : ℕ). cond b (getD ns i 0) 0 ∷ numbersOf (drop k ns) (drop k ms)) (List·getD-map is-marked filled i 0 ∙ e) (sym (add-one i))
 
 pub all-numbered : (ns : List ℕ) (ms : List Bool) (i : ℕ) → length ns ≤ i → drop i ns ≡ numbersOf (drop i ns) (drop i ms)
 unfolding numbersOf

@@ -1,4 +1,4 @@
-// An open frame closed: its header says the slots that were filled. The run's state is lent bytes.
+// The call for C that closes an open frame: its header says the slots that were filled. The run's state is lent bytes.
 mod header;
 
 use coding::ANNOUNCED;

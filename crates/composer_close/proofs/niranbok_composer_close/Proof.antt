@@ -1,5 +1,5 @@
 -- `niranbok_composer_close` meets its contract: what passed its checks the header's writer does not refuse. Assumes nothing.
-use mathlib.Core.Path.{refl, sym, _∙_}
+use mathlib.Core.Path.{_≡_, refl, sym, _∙_}
 use native.Mathlib.Omega.{arith}
 use borrow.Author.Needs.{needs}
 use borrow.Author.Tests.{ne-eqb}
@@ -42,6 +42,9 @@ wrote c = c .before .before .before .before
 abbrev started : tie.Else2 → tie.Start
 started c = begun (tested (c .before))
 
+long : (c : tie.Else2) → length (started c .args .state .now) ≡ composerLength
+long c = tested (c .before) .if1 .left
+
 past : (c : tie.Else2) → ClosePassed (composerOf (started c .args .state .now)) (length (started c .args .frame .now))
 past c = close-passed _ _ (sym (c .before .close-refusal .ensures) ∙ c .if2 .left)
 
@@ -50,7 +53,7 @@ unfolding closeRefused closeState closeMemory leaves
 returns c = rw (ne-eqb (length (c .before .before .before .args .state .now)) composerLength (c .if1 .taken)) (refl, (refl, refl))
 
 close-refusal-requires : tie.Need-close-refusal-requires
-close-refusal-requires c κs = search needs
+close-refusal-requires c κs = c .before .if1 .left
 
 same-length : tie.Need-same-length
 same-length c = search needs
@@ -68,19 +71,19 @@ header-setting-requires : tie.Need-header-setting-requires
 header-setting-requires c κs =
     let checks = passed (c .before) in
     let p = past checks .open-state in
-    (tested (checks .before) .if1 .left, (p .counter, p .version))
+    (long checks, (p .counter, p .version))
 
 slice-read-word : tie.Need-slice-read-word
-slice-read-word c = search needs
+slice-read-word c = omega (arith, long (passed (looked (c .before))))
 
 slice-read-word-2 : tie.Need-slice-read-word-2
-slice-read-word-2 c = search needs
+slice-read-word-2 c = omega (arith, long (passed (looked (c .before .before))))
 
 word-requires : tie.Need-word-requires
 word-requires c κs = search needs
 
 slice-read-kind-of : tie.Need-slice-read-kind-of
-slice-read-kind-of c = search needs
+slice-read-kind-of c = omega (arith, long (passed (looked (told (c .before)))))
 
 kind-of-requires : tie.Need-kind-of-requires
 kind-of-requires c κs = search needs
@@ -98,7 +101,7 @@ write-requires : tie.Need-write-requires
 write-requires c κs = search needs
 
 end-frame-requires : tie.Need-end-frame-requires
-end-frame-requires c κs = search needs
+end-frame-requires c κs = long (passed (looked (told (worded (kinded (c .before .before .before))))))
 
 same-length-2 : tie.Need-same-length-2
 same-length-2 c = search needs
@@ -117,12 +120,12 @@ returns-3 c =
     let look = looked say in
     let checks = passed look in
     let p = past checks in
-    let long = tested (checks .before) .if1 .left in
+    let l = long checks in
     let args = started checks .args in
     let said = say .header-setting .ensures in
-    close-done (args .state .now) (args .frame .now) long (checks .before .close-refusal .ensures) (checks .if2 .left)
-    (closed-state (args .state .now) long (p .open-state) said (look .look .ensures) (ended .end-frame .ensures))
-    (closed-memory (args .state .now) long (p .open-state) said (args .frame .now) (p .long) (kind .kind-of .ensures) (word .word .ensures) (write .write .ensures .1))
+    close-done (args .state .now) (args .frame .now) l (checks .before .close-refusal .ensures) (checks .if2 .left)
+    (closed-state (args .state .now) l (p .open-state) said (look .look .ensures) (ended .end-frame .ensures))
+    (closed-memory (args .state .now) l (p .open-state) said (args .frame .now) (p .long) (kind .kind-of .ensures) (word .word .ensures) (write .write .ensures .1))
 
 pub niranbok-composer-close-spec : {M : Type 1} → statement M
 niranbok-composer-close-spec =
