@@ -35,6 +35,7 @@ byte-of-part j k m b h = getD-take m (drop j b) k 0 h ∙ getD-drop j b k 0
 
 -- ---- 17
 
+-- what is announced
 pub announced-in : (b : List ℕ) → length b ≡ announcedLength → announcedChecks (announcedOf b) ≡ informationChecks (getD b 0 0) (getD b 1 0) (wordAt 2 b) (part 64 15 b) (getD b 79 0)
 unfolding announcedChecks announcedOf
 announced-in b whole = rw (eq-eqb (length b) announcedLength whole) refl
@@ -44,7 +45,7 @@ pub announced-of-zeros : (b : List ℕ) → (length b ≡ announcedLength → �
 unfolding firstOf announcedChecks announcedOf announced blank someAtLeast anyBelow
 announced-of-zeros b h = rw (ne-eqb (length b) announcedLength h)
 
--- behind what is announced
+-- a setting: the rows behind what is announced, and all
 abbrev pub restIn : Kind → List ℕ → List Check
 restIn kind b =
     (17, someAtLeast (2 ^ 4) (part 82 52 b))
@@ -65,6 +66,7 @@ widths-of-zeros Kind.Extended b h = rw (ne-eqb (length b) settingLength h)
 
 -- ---- 8 to 11
 
+-- the rows of a setting
 abbrev pub rulesIn : Kind → List ℕ → List Check
 rulesIn kind b =
     (8, not (byKind kind (eqb (getD b 3 0) 1) (within 1 2 (getD b 3 0))))

@@ -74,6 +74,7 @@ fn has_pair_before(availability: u16, ts: &[u16], os: &[u16], j: usize) -> bool
 pub fn has_pair_twice(availability: u16, ts: &[u16; STREAMS], os: &[u16; STREAMS]) -> bool
     ensures { λ r. ⌜ r ≡ pairTwice availability (now (ts .entry)) (now (os .entry)) ⌝ }
 {
+    // As slices, which tell the length that the arrays' types have.
     let ts: &[u16] = ts;
     let os: &[u16] = os;
     let mut met = [0u8; 64];

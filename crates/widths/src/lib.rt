@@ -67,6 +67,7 @@ pub fn absent_refusal(
     }
 }
 
+// Its private data a plain header has, so none are asked for.
 fn plain_absent_refusal(
     auxiliary: &[u8],
     group_id: u8,
