@@ -87,8 +87,8 @@ pub fn open_rule_refusal(bytes: &[u8]) -> u8
     setting_in_place::rule_refusal(words::kind_of(bytes[2]), &bytes[SETTING..FILLED])
 }
 
-// Whether a slot that is planned for no stream is marked filled. It does not stop early and always reads both, so that many slots are
-// compared at a time.
+// Whether a slot that is planned for no stream is marked filled. Each is asked alike and none stops it, so that many are compared at a
+// time.
 fn has_unplanned(plan: &[u8], filled: &[u8]) -> bool
     requires { ⌜ (length (now plan) ≡ lastSlot) × (length (now filled) ≡ lastSlot) ⌝ }
     ensures { λ t. ⌜ t ≡ someUnplanned (now (plan .entry)) (marksOf (now (filled .entry))) ⌝ }
@@ -96,13 +96,7 @@ fn has_unplanned(plan: &[u8], filled: &[u8]) -> bool
     let mut found = false;
     let mut i = 0;
     while i < SLOTS {
-        let mark = filled[i];
-        let number = plan[i];
-        if mark == 1 {
-            if number == 0 {
-                found = true;
-            }
-        }
+        found = found | ((filled[i] == 1) & (plan[i] == 0));
         i += 1;
     }
     found
@@ -118,10 +112,7 @@ pub fn mark_refusal(bytes: &[u8]) -> u8
     if bytes[OPEN] != 1 {
         return 0;
     }
-    if has_unplanned(
-        &bytes[PLAN..PLAN + SLOTS],
-        &bytes[FILLED..COMPOSER_BYTES],
-    ) {
+    if has_unplanned(&bytes[PLAN..PLAN + SLOTS], &bytes[FILLED..COMPOSER_BYTES]) {
         return 17;
     }
     0

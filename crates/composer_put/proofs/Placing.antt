@@ -57,7 +57,6 @@ module _ (r : ℕ) (plan : List ℕ) (bytes₀ : List ℕ) (stream frame₀ : Li
     g : i < length marks₀
     g = rw (length-map bytes₀ (λ (n : ℕ). eqb n 1)) g′
 
-
     -- a mark that stays
     as-it-was : markByte (getD marks₀ i false) ≡ getD bytes₀ i 0
     unfolding markByte

@@ -29,13 +29,7 @@ fn place(state: &mut [u8], frame: &mut [u8], stream: &[u8], r: u8) -> usize
 {
     let mut plan = [0u8; SLOTS];
     slices::copy(&mut plan, &state[PLAN..PLAN + SLOTS]);
-    let left = slots::place(
-        frame,
-        stream,
-        &plan,
-        &mut state[FILLED..COMPOSER_BYTES],
-        r,
-    );
+    let left = slots::place(frame, stream, &plan, &mut state[FILLED..COMPOSER_BYTES], r);
     (stream.len() - left.len()) / PACKET_BYTES
 }
 

@@ -18,7 +18,7 @@ module _ (test : ℕ → Bool) where
   any-more n a t = rw (add-one, a, t)
 
   -- of a loop that does not stop: with a number that passes it one is found, with one that fails it nothing changes
-  any-next : (n : ℕ) → anyBelow (n + 1) test ≡ anyBelow n test || test n
+  pub any-next : (n : ℕ) → anyBelow (n + 1) test ≡ anyBelow n test || test n
   unfolding anyBelow
   any-next n = rw add-one refl
 

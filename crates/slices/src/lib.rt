@@ -53,8 +53,7 @@ pub fn some_at_least(xs: &[u8], limit: u8) -> bool
 // What is handed over as a byte is below 256.
 fn is_byte(x: u8)
     ensures { λ _. ⌜ x < 256 ⌝ }
-{
-}
+{}
 
 // Looks at each element and does nothing with it, so that a compiler leaves it out: a slice's elements are bytes.
 pub fn look(xs: &[u8])

@@ -1,15 +1,13 @@
 -- `has_unplanned` meets its contract: it has found what is among the slots before slot i. Assumes nothing.
 use Prim.Native.Nat.{_-_, _≤_}
-use mathlib.Core.Path.{_≡_, sym}
-use mathlib.Core.Bool.{false, _&&_}
-use mathlib.Core.Logic.{⊎-elim}
+use mathlib.Core.Path.{_≡_, sym, ap, ap₂, _∙_}
+use mathlib.Core.Bool.{Bool, false, _&&_, _||_}
 use native.Mathlib.Omega.{arith}
 use borrow.Author.Needs.{needs}
-use borrow.Author.Tests.{eq-eqb, ne-eqb}
 use lib.Dec.{eqb}
 use lib.ListN.{length, getD}
 use Rattle.slices.specs.Slices.{anyBelow}
-use Rattle.slices.proofs.Any.{any-none, any-here, any-same}
+use Rattle.slices.proofs.Any.{any-none, any-next}
 use Rattle.composer_state.specs.Slots.{someUnplanned}
 use Rattle.composer_bytes.specs.States.{marksOf}
 use Rattle.composer_bytes.proofs.There.{mark-at}
@@ -25,11 +23,11 @@ abbrev μ-loop : tie.MeasureT-loop
 loop-holds : tie.Need-loop-holds Inv-loop μ-loop
 loop-holds c = (omega arith, any-none _)
 
-shared-slice-read-mark : tie.Need-shared-slice-read-mark Inv-loop μ-loop
-shared-slice-read-mark c = search needs
+shared-slice-read-found : tie.Need-shared-slice-read-found Inv-loop μ-loop
+shared-slice-read-found c = search needs
 
-shared-slice-read-number : tie.Need-shared-slice-read-number Inv-loop μ-loop
-shared-slice-read-number c = search needs
+shared-slice-read-found-2 : tie.Need-shared-slice-read-found-2 Inv-loop μ-loop
+shared-slice-read-found-2 c = search needs
 
 add-i : tie.Need-add-i Inv-loop μ-loop
 add-i c = search needs
@@ -39,17 +37,11 @@ loop-less c = search needs
 
 loop-again : tie.Need-loop-again Inv-loop μ-loop
 loop-again c =
-    let loop = c .before .before .before .before in
-    let marks = loop .before .args .filled .now in
-    let at = mark-at marks (loop .loop .i) in (
-      omega arith,
-      ⊎-elim
-          (λ w. any-here _ (loop .loop .i) (simp (at, eq-eqb _ _ (w .0 .taken), eq-eqb _ _ (w .1 .taken))) (w .2))
-          (⊎-elim
-          (λ w. any-same _ (loop .loop .i) (loop .loop .inv .1) (simp (at, eq-eqb _ _ (w .0 .taken), ne-eqb _ _ (w .1 .left))) (w .2))
-          (λ w. any-same _ (loop .loop .i) (loop .loop .inv .1) (simp (at, ne-eqb _ _ (w .0 .left))) (w .1)))
-          (c .if1 .came),
-    )
+    let loop = c .before .before .before in
+    let args = loop .before .args in
+    let i = loop .loop .i in
+    let unplanned = eqb (getD (args .plan .now) i 0) 0 in
+    (omega arith, any-next _ i ∙ ap₂ (λ (b : Bool) (m : Bool). b || (m && unplanned)) (loop .loop .inv .1) (mark-at (args .filled .now) i))
 
 returns : tie.Need-returns Inv-loop μ-loop
 unfolding someUnplanned
@@ -64,8 +56,8 @@ has-unplanned-spec =
     Inv-loop
     μ-loop
     loop-holds
-    shared-slice-read-mark
-    shared-slice-read-number
+    shared-slice-read-found
+    shared-slice-read-found-2
     add-i
     loop-less
     loop-again
