@@ -1,2 +1,3 @@
 pub mod Calls
 pub mod Coding
+pub mod OnBytes
