@@ -96,14 +96,14 @@ pub fn rule_refusal(kind: Kind, bytes: &[u8]) -> u8
         return 8;
     }
     let availability = words::word(bytes[AVAILABILITY], bytes[AVAILABILITY_LOW]);
-    if setting_rules::has_unavailable(availability, &bytes[NUMBERS..PRIVATE]) {
+    if available_slots::has_unavailable(availability, &bytes[NUMBERS..PRIVATE]) {
         return 9;
     }
     let mut ts_id = [0u16; STREAMS];
     words::read_words(&mut ts_id, &bytes[STREAM_IDS..NETWORK_IDS]);
     let mut original_network_id = [0u16; STREAMS];
     words::read_words(&mut original_network_id, &bytes[NETWORK_IDS..STATUSES]);
-    if setting_rules::has_pair_twice(availability, &ts_id, &original_network_id) {
+    if identifier_pairs::has_pair_twice(availability, &ts_id, &original_network_id) {
         return 10;
     }
     setting_rules::bonding_refusal(

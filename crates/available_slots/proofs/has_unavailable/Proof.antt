@@ -10,9 +10,9 @@ use Rattle.slices.specs.Slices.{anyBelow}
 use Rattle.slices.proofs.Any.{any-none, any-here, any-same}
 use Rattle.counters.specs.Counters.{lastStream}
 use Rattle.rules.specs.Rules.{unavailable, someUnavailable}
-use Rattle.setting_rules.proofs.Unavailable.{its-bit, beyond, at-most-last}
-use Rattle.setting_rules.proofs.has_unavailable.Statement.{statement}
-use Rattle.setting_rules.proofs.has_unavailable.Tie as tie
+use Rattle.available_slots.proofs.Unavailable.{its-bit, beyond, at-most-last}
+use Rattle.available_slots.proofs.has_unavailable.Statement.{statement}
+use Rattle.available_slots.proofs.has_unavailable.Tie as tie
 
 abbrev Inv-loop : tie.InvT-loop
 Inv-loop availability numbers allowed found₀ i₀ found i =

@@ -7,9 +7,9 @@ use borrow.Author.Needs.{needs}
 use lib.ListN.{length, length-set}
 use Rattle.slices.proofs.Any.{any-found}
 use Rattle.rules.specs.Rules.{pairTwice}
-use Rattle.setting_rules.proofs.Pairs.{places, Seen, seen-none, no-mark, seen-more, seen-absent}
-use Rattle.setting_rules.proofs.has_pair_twice.Statement.{statement}
-use Rattle.setting_rules.proofs.has_pair_twice.Tie as tie
+use Rattle.identifier_pairs.proofs.Pairs.{places, Seen, seen-none, no-mark, seen-more, seen-absent}
+use Rattle.identifier_pairs.proofs.has_pair_twice.Statement.{statement}
+use Rattle.identifier_pairs.proofs.has_pair_twice.Tie as tie
 
 abbrev Inv-loop : tie.InvT-loop
 Inv-loop availability ts₀ os₀ ts os met₀ j₀ met j = (j ≤ length ts) × (length met ≡ places) × Seen availability ts os met j

@@ -7,8 +7,8 @@ use borrow.Author.Needs.{needs}
 use Rattle.slices.specs.Slices.{anyBelow}
 use Rattle.slices.proofs.Any.{any-none, any-more, any-found}
 use Rattle.rules.specs.Rules.{samePair}
-use Rattle.setting_rules.proofs.has_pair_before.Statement.{statement}
-use Rattle.setting_rules.proofs.has_pair_before.Tie as tie
+use Rattle.identifier_pairs.proofs.has_pair_before.Statement.{statement}
+use Rattle.identifier_pairs.proofs.has_pair_before.Tie as tie
 
 abbrev Inv-loop : tie.InvT-loop
 Inv-loop availability ts os j i₀ i = (i ≤ j) × (anyBelow i (λ k. samePair availability ts os k j) ≡ false)

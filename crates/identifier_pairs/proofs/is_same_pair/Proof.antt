@@ -1,8 +1,8 @@
 use mathlib.Core.Path.{sym, _∙_}
 use borrow.Author.Needs.{needs}
 use borrow.Author.Tests.{eq-eqb, ne-eqb, not-true, not-false}
-use Rattle.setting_rules.proofs.is_same_pair.Statement.{statement}
-use Rattle.setting_rules.proofs.is_same_pair.Tie as tie
+use Rattle.identifier_pairs.proofs.is_same_pair.Statement.{statement}
+use Rattle.identifier_pairs.proofs.is_same_pair.Tie as tie
 
 mul-if1 : tie.Need-mul-if1
 mul-if1 c = search needs
