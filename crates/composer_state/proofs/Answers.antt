@@ -4,7 +4,7 @@ use mathlib.Core.Path.{_≡_, refl, sym, _∙_}
 use mathlib.Core.Bool.{Bool, true, false, cond, not}
 use mathlib.Core.List.{List, _∷_}
 use native.Mathlib.Omega.{arith}
-use borrow.Author.Tests.{ne-eqb, eqb-true}
+use borrow.Author.Tests.{eqb-true}
 use lib.Dec.{eqb}
 use Rattle.refusal_table.specs.Refusal.{Check, firstOf}
 use Rattle.composer_state.specs.declared.Composer.{Composer}
@@ -13,10 +13,6 @@ use Rattle.composer_state.specs.Composing.{lengthCheck, answer}
 
 -- n is the refusal, and m what the code found it to be
 module _ {m n : ℕ} (e : m ≡ n) where
-  pub refused : (new old : Composer) → (m ≡ 0 → ⊥) → record { refusal = m; state = old } ≡ answer n new old
-  unfolding answer
-  refused new old h = rw (sym e, ne-eqb m 0 h)
-
   pub granted : (new old : Composer) → m ≡ 0 → record { refusal = 0; state = new } ≡ answer n new old
   unfolding answer
   granted new old z = rw (sym e ∙ z)

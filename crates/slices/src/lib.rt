@@ -59,9 +59,9 @@ fn is_byte(x: u8)
 pub fn look(xs: &[u8])
     ensures { λ _. ⌜ someAtLeast 256 (now (xs .entry)) ≡ false ⌝ }
 {
-    let mut i = 0;
-    while i < xs.len() {
-        is_byte(xs[i]);
-        i += 1;
+    let mut at = 0;
+    while at < xs.len() {
+        is_byte(xs[at]);
+        at += 1;
     }
 }

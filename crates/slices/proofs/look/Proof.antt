@@ -1,4 +1,4 @@
--- `look` meets its contract: each of the elements before i was read, and is a byte. Assumes nothing.
+-- `look` meets its contract: each of the elements before `at` was read, and is a byte. Assumes nothing.
 use Prim.Native.Nat.{_-_, _≤_}
 use mathlib.Core.Path.{_≡_, sym}
 use mathlib.Core.Bool.{false}
@@ -13,10 +13,10 @@ use Rattle.slices.proofs.look.Statement.{statement}
 use Rattle.slices.proofs.look.Tie as tie
 
 abbrev Inv-loop : tie.InvT-loop
-Inv-loop xs i₀ i = (i ≤ length xs) × (anyBelow i (λ k. leb 256 (getD xs k 0)) ≡ false)
+Inv-loop xs at₀ at = (at ≤ length xs) × (anyBelow at (λ k. leb 256 (getD xs k 0)) ≡ false)
 
 abbrev μ-loop : tie.MeasureT-loop
-μ-loop xs i₀ i = length xs - i
+μ-loop xs at₀ at = length xs - at
 
 loop-holds : tie.Need-loop-holds Inv-loop μ-loop
 loop-holds c = (omega arith, any-none _)
@@ -27,8 +27,8 @@ shared-slice-read-is-byte c = search needs
 is-byte-requires : tie.Need-is-byte-requires Inv-loop μ-loop
 is-byte-requires c κs = search needs
 
-add-i : tie.Need-add-i Inv-loop μ-loop
-add-i c = search needs
+add-at : tie.Need-add-at Inv-loop μ-loop
+add-at c = search needs
 
 loop-less : tie.Need-loop-less Inv-loop μ-loop
 loop-less c = search needs
@@ -36,17 +36,17 @@ loop-less c = search needs
 loop-again : tie.Need-loop-again Inv-loop μ-loop
 loop-again c =
     let turn = c .before .before .before .loop in
-    (omega arith, any-more _ (turn .i) (turn .inv .1) (lt-leb 256 _ (c .is-byte .ensures)))
+    (omega arith, any-more _ (turn .at) (turn .inv .1) (lt-leb 256 _ (c .is-byte .ensures)))
 
 returns : tie.Need-returns Inv-loop μ-loop
 unfolding someAtLeast
 returns c =
     let turn = c .before .loop in
     let xs = c .before .before .before .args .xs .now in
-    let all : turn .i ≡ length xs = omega arith in
+    let all : turn .at ≡ length xs = omega arith in
     rw all at (turn .inv .1)
 
 pub look-spec : {M : Type 1} → statement M
 look-spec =
     tie.close
-    (tie.spec Inv-loop μ-loop loop-holds shared-slice-read-is-byte is-byte-requires add-i loop-less loop-again returns)
+    (tie.spec Inv-loop μ-loop loop-holds shared-slice-read-is-byte is-byte-requires add-at loop-less loop-again returns)
