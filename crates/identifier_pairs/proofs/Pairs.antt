@@ -1,23 +1,45 @@
 -- Equal pairs of identifiers, looked for only where a stream before has left its mark. Assumes nothing.
-use Prim.Native.Nat.{ℕ, _+_, _%_, _<_}
+use Prim.Native.Nat.{ℕ, zero, suc, _+_, _/_, _%_, _^_, _<_}
 use mathlib.Core.Path.{_≡_, refl, sym, ap, _∙_}
 use mathlib.Core.Bool.{Bool, true, false, _&&_, true≢false, and-false}
 use mathlib.Core.List.{List}
 use native.Mathlib.Omega.{arith}
 use native.Mathlib.Decide.{ℕ-discrete}
-use native.Mathlib.Nat.{mod-lt}
+use native.Mathlib.Nat.{mod-lt, one-mul}
 use borrow.Author.Tests.{eqb-true}
 use lib.Dec.{eqb, lit<}
-use lib.ListN.{length, getD, set}
-use lib.Seq.{getD-set-same, getD-set-other}
+use lib.Bits.{bitOr, or-comm, or-shr, or-mod}
+use lib.Pow.{shl-shr}
+use lib.ListN.{getD}
 use Rattle.slices.specs.Slices.{anyBelow}
 use Rattle.slices.proofs.Any.{any-none, any-more, any-no}
 use Rattle.counters.specs.Counters.{available}
 use Rattle.rules.specs.Rules.{samePair}
 
--- how many places there are for marks
+-- how many places there are for marks, each a bit of one number
 abbrev pub places : ℕ
 places = 64
+
+-- the bit at a place
+abbrev pub bit : ℕ → ℕ → ℕ
+bit met k = met / 2 ^ k % 2
+
+-- a mark stays beside others, and one that is left is there
+bits-kept : (a b : ℕ) → a % 2 ≡ 1 → bitOr a b % 2 ≡ 1
+bits-kept a b e = or-mod a b 1 ∙ ap (λ (x : ℕ). bitOr x (b % 2)) e ∙ one-or (b % 2) (mod-lt b (lit< tt))
+  where
+    one-or : (x : ℕ) → x < 2 → bitOr 1 x ≡ 1
+    one-or zero h = refl
+    one-or (suc zero) h = refl
+    one-or (suc (suc x)) h = absurd (omega arith)
+
+still-met : (met more k : ℕ) → bit met k ≡ 1 → bit (bitOr met more) k ≡ 1
+still-met met more k e = ap (λ (n : ℕ). n % 2) (or-shr met more k) ∙ bits-kept (met / 2 ^ k) (more / 2 ^ k) e
+
+now-met : (met k : ℕ) → bit (bitOr met (2 ^ k)) k ≡ 1
+now-met met k =
+    let one : 2 ^ k / 2 ^ k ≡ 1 = ap (λ (n : ℕ). n / 2 ^ k) (sym (one-mul (2 ^ k))) ∙ shl-shr 1 k in
+    ap (λ (n : ℕ). bit n k) (or-comm met (2 ^ k)) ∙ still-met (2 ^ k) met k (ap (λ (n : ℕ). n % 2) one)
 
 module _ (availability : ℕ) (ts os : List ℕ) where
   -- the place of stream i + 1
@@ -29,16 +51,16 @@ module _ (availability : ℕ) (ts os : List ℕ) where
   pairs j = anyBelow j (λ i. samePair availability ts os i j)
 
   -- each available stream before stream j + 1 has left its mark, and none makes a pair with one before it
-  pub record Seen (met : List ℕ) (j : ℕ) : Type 0 where
-    pub mark : (i : ℕ) → i < j → available availability (i + 1) ≡ true → getD met (place i) 0 ≡ 1
+  pub record Seen (met j : ℕ) : Type 0 where
+    pub mark : (i : ℕ) → i < j → available availability (i + 1) ≡ true → bit met (place i) ≡ 1
     pub none : anyBelow j pairs ≡ false
 
-  pub seen-none : (met : List ℕ) → Seen met 0
+  pub seen-none : (met : ℕ) → Seen met 0
   seen-none met = record { mark = λ i h a. absurd (omega arith); none = any-none pairs }
 
-  module _ {met : List ℕ} {j : ℕ} (s : Seen met j) where
+  module _ {met j : ℕ} (s : Seen met j) where
     -- no stream before has left the mark of stream j + 1
-    pub no-mark : getD met (place j) 0 ≡ 0 → pairs j ≡ false
+    pub no-mark : bit met (place j) ≡ 0 → pairs j ≡ false
     no-mark z = any-no (λ i. samePair availability ts os i j) j (λ i l. differ i l (eqb (getD ts i 0) (getD ts j 0)) refl (available availability (i + 1)) refl)
       where
         differ : (i : ℕ) → i < j → (b : Bool) → eqb (getD ts i 0) (getD ts j 0) ≡ b → (a : Bool) → available availability (i + 1) ≡ a
@@ -47,25 +69,22 @@ module _ (availability : ℕ) (ts os : List ℕ) where
         differ i l true e false h = and-false (eqb (getD os i 0) (getD os j 0))
         differ i l true e true h =
             let same : getD ts i 0 ≡ getD ts j 0 = eqb-true (getD ts i 0) (getD ts j 0) e in
-            let one : getD met (place j) 0 ≡ 1 = ap (λ (t : ℕ). getD met (t % places) 0) (sym same) ∙ s .mark i l h in
+            let one : bit met (place j) ≡ 1 = ap (λ (t : ℕ). bit met (t % places)) (sym same) ∙ s .mark i l h in
             absurd (omega arith)
 
     -- stream j + 1 makes no pair, and leaves its mark
-    pub seen-more : length met ≡ places → pairs j ≡ false → Seen (set met (place j) 1) (j + 1)
-    seen-more l p = record { mark = λ i h a. at i h a (ℕ-discrete (place i) (place j)) (ℕ-discrete i j); none = any-more pairs j (s .none) p }
+    pub seen-more : pairs j ≡ false → Seen (bitOr met (2 ^ place j)) (j + 1)
+    seen-more p = record { mark = λ i h a. at i h a (ℕ-discrete i j); none = any-more pairs j (s .none) p }
       where
-        at : (i : ℕ) → i < j + 1 → available availability (i + 1) ≡ true → Dec (place i ≡ place j) → Dec (i ≡ j)
-            → getD (set met (place j) 1) (place i) 0 ≡ 1
-        at i h a (yes e) d =
-            ap (λ (k : ℕ). getD (set met (place j) 1) k 0) e ∙ getD-set-same met (place j) 1 0 (rw l (mod-lt (getD ts j 0) (lit< tt)))
-        at i h a (no d) (yes e) = absurd (d (ap place e))
-        at i h a (no d) (no e) = getD-set-other met (place j) (place i) 1 0 d ∙ s .mark i (omega arith) a
+        at : (i : ℕ) → i < j + 1 → available availability (i + 1) ≡ true → Dec (i ≡ j) → bit (bitOr met (2 ^ place j)) (place i) ≡ 1
+        at i h a (yes e) = ap (λ (k : ℕ). bit (bitOr met (2 ^ place j)) (place k)) e ∙ now-met met (place j)
+        at i h a (no e) = still-met met (2 ^ place j) (place i) (s .mark i (omega arith) a)
 
     -- stream j + 1 is not available
     pub seen-absent : available availability (j + 1) ≡ false → Seen met (j + 1)
     seen-absent f = record { mark = λ i h a. at i h a (ℕ-discrete i j); none = any-more pairs j (s .none) apart }
       where
-        at : (i : ℕ) → i < j + 1 → available availability (i + 1) ≡ true → Dec (i ≡ j) → getD met (place i) 0 ≡ 1
+        at : (i : ℕ) → i < j + 1 → available availability (i + 1) ≡ true → Dec (i ≡ j) → bit met (place i) ≡ 1
         at i h a (yes e) = absurd (true≢false (sym a ∙ ap (λ (k : ℕ). available availability (k + 1)) e ∙ f))
         at i h a (no d) = s .mark i (omega arith) a
 

@@ -43,24 +43,24 @@ fn has_pair_before(availability: u16, ts: &[u16], os: &[u16], j: usize) -> bool
 }
 
 // Whether two available streams have equal identifier pairs. Those before a stream are looked through only where one of them has
-// the same low bits in its ts_id.
+// the same low six bits in its ts_id, for each content of which `met` has a bit.
 pub fn has_pair_twice(availability: u16, ts: &[u16; STREAMS], os: &[u16; STREAMS]) -> bool
     ensures { λ r. ⌜ r ≡ pairTwice availability (now (ts .entry)) (now (os .entry)) ⌝ }
 {
     // As slices, which tell the length that the arrays' types have.
     let ts: &[u16] = ts;
     let os: &[u16] = os;
-    let mut met = [0u8; 64];
+    let mut met = 0u64;
     let mut j = 0;
     while j < ts.len() {
         if RelativeNumber((j + 1) as u8).is_available(availability) {
-            let k = (ts[j] % 64) as usize;
-            if met[k] != 0 {
+            let k = (ts[j] % 64) as u32;
+            if (met >> k) % 2 != 0 {
                 if has_pair_before(availability, ts, os, j) {
                     return true;
                 }
             }
-            met[k] = 1;
+            met = met | (1u64 << k);
         }
         j += 1;
     }
