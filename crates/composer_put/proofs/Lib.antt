@@ -1,4 +1,6 @@
+mod Bits
 pub mod Passed
+mod Placed
 mod Placing
 mod Rest
 mod Walk

@@ -1,42 +1,43 @@
 // What put asks of its state and of what it is lent, in the table's order.
 use crate::slots;
 use composer_bytes::AVAILABILITY;
-use composer_bytes::COMPOSER_BYTES;
-use composer_bytes::FILLED;
-use composer_bytes::PLAN;
 use counters::RelativeNumber;
 use packet::FRAME_BYTES;
 use packet::PACKET_BYTES;
-use setting::SLOTS;
 ghost use mathlib.Core.Path.{_≡_};
 ghost use lib.ListN.{length};
 ghost use Rattle.refusal_table.specs.Refusal.{firstOf};
 ghost use Rattle.composer_state.specs.Composing.{streamChecks, putRefusal};
-ghost use Rattle.composer_bytes.specs.States.{composerLength, composerOf};
+ghost use Rattle.coding.specs.Settings.{part};
+ghost use Rattle.composer_bytes.specs.States.{composerLength, composerOf, marksOf};
+ghost use Rattle.composer_put.specs.Bits.{emptySlots};
 
 // 13 and 12: what is asked of the packets that would be placed.
-fn stream_refusal(state: &[u8], stream: &[u8], r: RelativeNumber) -> u8
+fn stream_refusal(state: &[u8], stream: &[u8], r: RelativeNumber, empty: u64) -> u8
     requires { ⌜ length (now state) ≡ composerLength ⌝ }
+    requires { ⌜ empty ≡ emptySlots (r .0) (part 168 52 (now state)) (marksOf (part 338 52 (now state))) ⌝ }
     ensures { λ t. ⌜ t ≡ firstOf (streamChecks (composerOf (now (state .entry))) (r .0) (now (stream .entry))) ⌝ }
 {
     if !r.is_available(words::word(state[AVAILABILITY], state[AVAILABILITY + 1])) {
         return 13;
     }
     let pid = words::word(state[0], state[1]);
-    if slots::has_unfit(
-        stream,
-        &state[PLAN..PLAN + SLOTS],
-        &state[FILLED..COMPOSER_BYTES],
-        r.0,
-        pid,
-    ) {
+    if slots::has_unfit(stream, slots::packets_for(empty, stream.len()), pid) {
         return 12;
     }
     0
 }
 
-pub(crate) fn put_refusal(state: &[u8], stream: &[u8], r: RelativeNumber, lent: usize) -> u8
+// `empty` has the still empty slots planned for r.
+pub(crate) fn put_refusal(
+    state: &[u8],
+    stream: &[u8],
+    r: RelativeNumber,
+    empty: u64,
+    lent: usize,
+) -> u8
     requires { ⌜ length (now state) ≡ composerLength ⌝ }
+    requires { ⌜ empty ≡ emptySlots (r .0) (part 168 52 (now state)) (marksOf (part 338 52 (now state))) ⌝ }
     ensures { λ t. ⌜ t ≡ putRefusal (composerOf (now (state .entry))) (r .0) (now (stream .entry)) lent ⌝ }
 {
     if lent != FRAME_BYTES {
@@ -59,5 +60,5 @@ pub(crate) fn put_refusal(state: &[u8], stream: &[u8], r: RelativeNumber, lent: 
     if not_open != 0 {
         return not_open;
     }
-    stream_refusal(state, stream, r)
+    stream_refusal(state, stream, r, empty)
 }

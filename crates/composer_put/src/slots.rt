@@ -1,78 +1,93 @@
-// The slots of a frame gone through in rising order: slot i is the 188 bytes at 188 × i. A byte of 1 marks a filled one.
+// The slots of a frame: slot i is the 188 bytes at 188 × i, and bit i - 1 of a number that has slots. A byte of 1 marks a filled one.
 use packet::PACKET_BYTES;
 use setting::SLOTS;
+ghost use Prim.Native.Nat.{ℕ, _*_, _^_, _≤_, _<_};
 ghost use mathlib.Core.Path.{_≡_};
 ghost use mathlib.Core.Bool.{false};
-ghost use mathlib.Core.List.{map};
-ghost use lib.Dec.{eqb};
+ghost use mathlib.Core.List.{List, map};
 ghost use lib.ListN.{length};
-ghost use Rattle.slices.specs.Slices.{someAtLeast};
+ghost use Rattle.slices.specs.Slices.{anyBelow, someAtLeast};
 ghost use Rattle.counters.specs.Counters.{lastSlot};
-ghost use Rattle.packet.specs.Packets.{frameLength};
-ghost use Rattle.composer_state.specs.Slots.{takes, someUnfit, frameAfter, marksAfter, restAfter};
+ghost use Rattle.packet.specs.Packets.{packetLength, frameLength, slot, unfit};
+ghost use Rattle.composer_state.specs.Slots.{frameAfter, marksAfter, restAfter};
 ghost use Rattle.composer_bytes.specs.States.{markByte, marksOf};
+ghost use Rattle.composer_put.specs.Bits.{emptySlots, placeable};
 
-// Whether a slot planned for n takes a packet of stream r, of which so many bytes are left.
-fn is_taken(r: u8, n: u8, filled: u8, left: usize) -> bool
-    ensures { λ t. ⌜ t ≡ takes r n (eqb filled 1) left ⌝ }
-{
-    if n != r {
-        return false;
-    }
-    if filled == 1 {
-        return false;
-    }
-    PACKET_BYTES <= left
-}
-
-// 12: whether a packet that would be placed is unfit.
-pub(crate) fn has_unfit(stream: &[u8], plan: &[u8], filled: &[u8], r: u8, pid: u16) -> bool
+// The still empty slots planned for stream r. Each is asked alike and none stops it, so that many are compared at a time.
+pub(crate) fn empty_slots(plan: &[u8], filled: &[u8], r: u8) -> u64
     requires { ⌜ (length (now plan) ≡ lastSlot) × (length (now filled) ≡ lastSlot) ⌝ }
-    ensures { λ t. ⌜ t ≡ someUnfit pid r (now (plan .entry)) (marksOf (now (filled .entry))) (now (stream .entry)) ⌝ }
+    ensures { λ t. ⌜ t ≡ emptySlots r (now (plan .entry)) (marksOf (now (filled .entry))) ⌝ }
+    ensures { λ t. ⌜ t < 2 ^ lastSlot ⌝ }
 {
+    let mut slots = 0u64;
     let mut i = 0;
-    let mut at = 0;
     while i < SLOTS {
-        if is_taken(r, plan[i], filled[i], stream.len() - at) {
-            if packet::place_refusal(&stream[at..at + PACKET_BYTES], pid) != 0 {
-                return true;
-            }
-            at += PACKET_BYTES;
+        if (plan[i] == r) & (filled[i] != 1) {
+            slots += 1u64 << (i as u32);
         }
         i += 1;
+    }
+    slots
+}
+
+// How many packets of a stream of so many bytes the slots take.
+pub(crate) fn packets_for(slots: u64, bytes: usize) -> usize
+    ensures { λ t. ⌜ t ≡ placeable slots bytes ⌝ }
+{
+    let empty = u64::count_ones(slots) as usize;
+    let packets = bytes / PACKET_BYTES;
+    if packets < empty {
+        return packets;
+    }
+    empty
+}
+
+// 12: whether one of the stream's first packets, so many, is unfit.
+pub(crate) fn has_unfit(stream: &[u8], packets: usize, pid: u16) -> bool
+    requires { ⌜ packetLength * packets ≤ length (now stream) ⌝ }
+    ensures { λ t. ⌜ t ≡ anyBelow packets (λ k. unfit pid (slot k (now (stream .entry)))) ⌝ }
+{
+    let mut k = 0;
+    while k < packets {
+        let at = PACKET_BYTES * k;
+        if packet::place_refusal(&stream[at..at + PACKET_BYTES], pid) != 0 {
+            return true;
+        }
+        k += 1;
     }
     false
 }
 
-// Copies the stream's packets into the still empty slots planned for r, in rising order, marks them filled, and hands back
-// the rest of the stream.
+// Copies the stream's packets into the slots, in rising order, until slots or packets run out, marks them filled, and hands back
+// the rest of the stream. It asks for no plan: the contract is that of any plan and stream whose still empty slots these are.
 pub(crate) fn place<'a>(
     frame: &mut [u8],
     stream: &'a [u8],
-    plan: &[u8],
     filled: &mut [u8],
-    r: u8,
+    slots: u64,
 ) -> &'a [u8]
-    requires { ⌜ length (now frame) ≡ frameLength ⌝ }
-    requires { ⌜ (length (now plan) ≡ lastSlot) × (length (now filled) ≡ lastSlot) ⌝ }
+    requires { ⌜ (length (now frame) ≡ frameLength) × (length (now filled) ≡ lastSlot) ⌝ }
     requires { ⌜ someAtLeast 2 (now filled) ≡ false ⌝ }
-    ensures { λ t. ⌜ now t ≡ restAfter r (now (plan .entry)) (marksOf (now (filled .entry))) (now (stream .entry)) ⌝ }
-    ensures { λ _. ⌜ now (frame .exit) ≡ frameAfter r (now (plan .entry)) (marksOf (now (filled .entry))) (now (stream .entry)) (now (frame .entry)) ⌝ }
-    ensures { λ _. ⌜ now (filled .exit) ≡ map markByte (marksAfter r (now (plan .entry)) (marksOf (now (filled .entry))) (now (stream .entry))) ⌝ }
+    requires { ⌜ slots < 2 ^ lastSlot ⌝ }
+    ensures { λ t. ⌜ ((r : ℕ) (plan : List ℕ) → length plan ≡ lastSlot → slots ≡ emptySlots r plan (marksOf (now (filled .entry))) → now t ≡ restAfter r plan (marksOf (now (filled .entry))) (now (stream .entry))) ⌝ }
+    ensures { λ _. ⌜ ((r : ℕ) (plan : List ℕ) → length plan ≡ lastSlot → slots ≡ emptySlots r plan (marksOf (now (filled .entry))) → now (frame .exit) ≡ frameAfter r plan (marksOf (now (filled .entry))) (now (stream .entry)) (now (frame .entry))) ⌝ }
+    ensures { λ _. ⌜ ((r : ℕ) (plan : List ℕ) → length plan ≡ lastSlot → slots ≡ emptySlots r plan (marksOf (now (filled .entry))) → now (filled .exit) ≡ map markByte (marksAfter r plan (marksOf (now (filled .entry))) (now (stream .entry)))) ⌝ }
 {
+    let mut rest = slots;
     let mut i = 0;
     let mut at = 0;
-    while i < SLOTS {
-        if is_taken(r, plan[i], filled[i], stream.len() - at) {
-            let slot = PACKET_BYTES * (i + 1);
-            slices::copy(
-                &mut frame[slot..slot + PACKET_BYTES],
-                &stream[at..at + PACKET_BYTES],
-            );
-            filled[i] = 1;
-            at += PACKET_BYTES;
-        }
+    while (rest != 0) & (PACKET_BYTES <= stream.len() - at) {
+        let passed = u64::trailing_zeros(rest);
+        i += passed as usize;
+        filled[i] = 1;
         i += 1;
+        let slot = PACKET_BYTES * i;
+        slices::copy(
+            &mut frame[slot..slot + PACKET_BYTES],
+            &stream[at..at + PACKET_BYTES],
+        );
+        at += PACKET_BYTES;
+        rest = (rest >> passed) / 2;
     }
     &stream[at..]
 }

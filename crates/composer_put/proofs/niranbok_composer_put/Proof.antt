@@ -3,26 +3,36 @@ use Prim.Native.Nat.{ℕ}
 use mathlib.Core.Path.{_≡_, refl, sym, ap, ap₂, _∙_}
 use mathlib.Core.Bool.{Bool, true}
 use mathlib.Core.List.{List, _++_, map}
+use native.Mathlib.Omega.{arith}
 use borrow.Author.Needs.{needs}
 use borrow.Author.Tests.{ne-eqb}
+use denote.Ref.{now}
 use lib.ListN.{length, take}
 use Rattle.refusal_table.specs.Refusal.{leaves}
-use Rattle.composer_state.specs.Slots.{placedBy, marksAfter, frameAfter}
-use Rattle.composer_bytes.specs.States.{composerLength, markByte, isCoded, composerOf}
+use Rattle.counters.specs.Counters.{lastSlot}
+use Rattle.coding.specs.Settings.{part}
+use Rattle.coding.proofs.Parts.{length-part}
+use Rattle.composer_state.specs.Slots.{placedBy, marksAfter, restAfter, frameAfter}
+use Rattle.composer_bytes.specs.States.{composerLength, markByte, marksOf, isCoded, composerOf}
 use Rattle.composer_bytes.proofs.Same.{marked-bytes, marks-low, all-bytes, coded-by-counter}
-use Rattle.composer_bytes.proofs.There.{plan-there, marks-there}
+use Rattle.composer_bytes.proofs.There.{put-end, plan-there, marks-there}
 use Rattle.board_frame.specs.Calls.{putRefused, putPlaced, putState, putMemory}
 use Rattle.board_frame.proofs.Calls.{put-refused, put-done}
+use Rattle.composer_put.specs.Bits.{emptySlots}
+use Rattle.composer_put.proofs.Rest.{left-within, counted}
 use Rattle.composer_put.proofs.Passed.{PutPassed, put-passed}
 use Rattle.composer_put.proofs.niranbok_composer_put.Statement.{statement}
 use Rattle.composer_put.proofs.niranbok_composer_put.Tie as tie
 
--- from the place behind the length, and behind the checks, to the function's start
+-- from the place behind the length, and behind the checks, to the function's start; and from that behind the placing to the checks
 abbrev start₁ : tie.Else1 → tie.Start
 start₁ c = c .before .before .before .before
 
 abbrev start₂ : tie.Else2 → tie.Start
-start₂ c = start₁ (c .before .before .before)
+start₂ c = start₁ (c .before .before .before .before .before .before .before)
+
+abbrev checked : tie.After-place → tie.Else2
+checked c = c .before .before .before .before .before
 
 -- behind the checks
 past : (c : tie.Else2)
@@ -32,29 +42,85 @@ past c = put-passed _ _ _ _ (sym (c .before .put-refusal .ensures) ∙ c .if2 .l
 coded : (c : tie.Else2) → isCoded (start₂ c .args .state .now) ≡ true
 coded c = coded-by-counter (start₂ c .args .state .now) (past c .open-state .counter)
 
+-- the still empty slots' bits
+bits : (c : tie.After-empty-slots)
+    → c .empty-slots .result
+    ≡ emptySlots (start₁ (c .before .before .before .before) .args .r) (part 168 52 (start₁ (c .before .before .before .before) .args .state .now))
+    (marksOf (part 338 52 (start₁ (c .before .before .before .before) .args .state .now)))
+bits c = c .empty-slots .ensures .0
+
+plan-long : (c : tie.Else2) → length (part 168 52 (start₂ c .args .state .now)) ≡ lastSlot
+plan-long c = length-part 168 52 (start₂ c .args .state .now) (omega (arith, c .before .before .before .before .before .before .before .if1 .left))
+
+-- what the placing leaves of the stream
+left : (c : tie.After-place)
+    → now (c .place .result)
+    ≡ restAfter (start₂ (checked c) .args .r) (part 168 52 (start₂ (checked c) .args .state .now)) (marksOf (part 338 52 (start₂ (checked c) .args .state .now))) (start₂ (checked c) .args .stream .now)
+left c = c .place .ensures .0 _ _ (plan-long (checked c)) (bits (checked c .before .before .before))
+
 returns : tie.Need-returns
 unfolding putRefused putPlaced putState putMemory leaves
 returns c = rw (ne-eqb (length (c .before .before .before .before .args .state .now)) composerLength (c .if1 .taken)) (refl, (refl, (refl, refl)))
 
+add-empty-slots : tie.Need-add-empty-slots
+add-empty-slots c = search needs
+
+sub-empty-slots : tie.Need-sub-empty-slots
+sub-empty-slots c = search needs
+
+part-empty-slots-start : tie.Need-part-empty-slots-start
+part-empty-slots-start c = search needs
+
+part-empty-slots-end : tie.Need-part-empty-slots-end
+part-empty-slots-end c = search needs
+
+sub-empty-slots-2 : tie.Need-sub-empty-slots-2
+sub-empty-slots-2 c = search needs
+
+part-empty-slots-start-2 : tie.Need-part-empty-slots-start-2
+part-empty-slots-start-2 c = search needs
+
+part-empty-slots-end-2 : tie.Need-part-empty-slots-end-2
+part-empty-slots-end-2 c = search needs
+
+empty-slots-requires : tie.Need-empty-slots-requires
+empty-slots-requires c κs = search needs
+
 put-refusal-requires : tie.Need-put-refusal-requires
-put-refusal-requires c κs = search needs
+put-refusal-requires c κs = (c .before .before .before .before .before .if1 .left, bits (c .before))
 
 same-length : tie.Need-same-length
 same-length c = search needs
 
 returns-2 : tie.Need-returns-2
 returns-2 c =
-    let k = c .before .before .before in
+    let k = c .before .before .before .before .before .before .before in
     let a = start₁ k .args in
     put-refused (a .state .now) (a .r) (a .stream .now) (a .frame .now) (k .if1 .left) (c .before .put-refusal .ensures) (c .if2 .taken)
 
 look-requires : tie.Need-look-requires
 look-requires c κs = search needs
 
+sub-place : tie.Need-sub-place
+sub-place c = search needs
+
+part-place-start : tie.Need-part-place-start
+part-place-start c = search needs
+
+part-place-end : tie.Need-part-place-end
+part-place-end c = search needs
+
 place-requires : tie.Need-place-requires
 place-requires c κs =
     let k = c .before .before .before .before in
-    ((k .before .before .before .if1 .left, past k .long), marks-low (start₂ k .args .state .now) (k .before .before .before .if1 .left) (all-bytes _ (c .before .before .look .ensures)) (coded k))
+    let b = start₂ k .args .state .now in
+    let long = k .before .before .before .before .before .before .before .if1 .left in
+    ((past k .long, length-part 338 52 b (omega arith)), (marks-low b long (all-bytes b (c .before .before .look .ensures)) (coded k), k .before .before .before .empty-slots .ensures .1))
+
+sub-placed : tie.Need-sub-placed
+sub-placed c =
+    let p = c .before .before .before .before in
+    left-within _ _ _ _ (left p)
 
 same-length-2 : tie.Need-same-length-2
 same-length-2 c = search needs
@@ -65,17 +131,18 @@ same-length-3 c = search needs
 returns-3 : tie.Need-returns-3
 returns-3 c =
     let p = c .before .before .before .before in
-    let k = p .before .before .before .before .before in
+    let k = checked p in
     let a = start₂ k .args in
     let b = a .state .now in
-    let long = k .before .before .before .if1 .left in
+    let long = k .before .before .before .before .before .before .before .if1 .left in
     let fit = all-bytes b (p .before .before .before .look .ensures) in
+    let slots = bits (k .before .before .before) in
     put-done b (a .r) (a .stream .now) (a .frame .now) long (k .before .put-refusal .ensures) (k .if2 .left)
-    (p .place .ensures .0 ∙ sym (ap₂ (λ (n : List ℕ) (m : List Bool). placedBy (a .r) n m (a .stream .now)) (plan-there b long) (marks-there b)))
-    (p .place .ensures .1 .0
+    (counted _ _ _ _ (left p) ∙ sym (ap₂ (λ (n : List ℕ) (m : List Bool). placedBy (a .r) n m (a .stream .now)) (plan-there b long) (marks-there b)))
+    (put-end 338 52 b _ long ∙ ap (λ (l : List ℕ). take 338 b ++ l) (p .place .ensures .1 .1 _ _ (plan-long k) slots)
     ∙ sym (marked-bytes b long fit (coded k) _
     ∙ ap₂ (λ (n : List ℕ) (m : List Bool). take 338 b ++ map markByte (marksAfter (a .r) n m (a .stream .now))) (plan-there b long) (marks-there b)))
-    (p .place .ensures .1 .1
+    (p .place .ensures .1 .0 _ _ (plan-long k) slots
     ∙ sym (ap₂ (λ (n : List ℕ) (m : List Bool). frameAfter (a .r) n m (a .stream .now) (a .frame .now)) (plan-there b long) (marks-there b)))
 
 pub niranbok-composer-put-spec : {M : Type 1} → statement M
@@ -83,11 +150,23 @@ niranbok-composer-put-spec =
     tie.close
     (tie.spec
     returns
+    add-empty-slots
+    sub-empty-slots
+    part-empty-slots-start
+    part-empty-slots-end
+    sub-empty-slots-2
+    part-empty-slots-start-2
+    part-empty-slots-end-2
+    empty-slots-requires
     put-refusal-requires
     same-length
     returns-2
     look-requires
+    sub-place
+    part-place-start
+    part-place-end
     place-requires
+    sub-placed
     same-length-2
     same-length-3
     returns-3)

@@ -53,11 +53,11 @@ numbers c = (17, not (within firstStream lastStream (c .args .r .0))) ∷ (opens
 -- what is asked of the state's bytes
 state-told : (c : tie.After-state-refusal) → c .state-refusal .result ≡ firstOf (states (start₂ (c .before)))
 state-told c =
-    c .state-refusal .ensures ∙ ap (λ (b : List ℕ). firstOf (stateChecks (composerOf b))) (whole-same (start₂ (c .before) .args .state .now) (start₂ (c .before) .pre))
+    c .state-refusal .ensures ∙ ap (λ (b : List ℕ). firstOf (stateChecks (composerOf b))) (whole-same (start₂ (c .before) .args .state .now) (start₂ (c .before) .pre .0))
 
 open-told : (c : tie.After-open-refusal) → c .open-refusal .result ≡ firstOf (opens (start₅ (c .before)))
 open-told c =
-    c .open-refusal .ensures ∙ ap (λ (b : List ℕ). firstOf (openChecks (composerOf b))) (whole-same (start₅ (c .before) .args .state .now) (start₅ (c .before) .pre))
+    c .open-refusal .ensures ∙ ap (λ (b : List ℕ). firstOf (openChecks (composerOf b))) (whole-same (start₅ (c .before) .args .state .now) (start₅ (c .before) .pre .0))
 
 past₂ : (c : tie.Else2) → all (start₂ c) ≡ firstOf (states (start₂ c) ++ numbers (start₂ c))
 unfolding putRefusal

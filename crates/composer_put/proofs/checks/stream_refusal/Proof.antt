@@ -5,13 +5,18 @@ use mathlib.Core.List.{List}
 use native.Mathlib.Omega.{arith}
 use borrow.Author.Needs.{needs}
 use lib.ListN.{length}
+use Rattle.slices.specs.Slices.{anyBelow}
 use Rattle.counters.specs.Counters.{available}
 use Rattle.refusal_table.specs.Refusal.{Check, firstOf}
 use Rattle.refusal_table.proofs.Refusals.{Past, answers, passed}
+use Rattle.packet.specs.Packets.{slot, unfit}
+use Rattle.coding.specs.Settings.{part}
 use Rattle.composer_state.specs.Slots.{someUnfit}
 use Rattle.composer_state.specs.Composing.{streamChecks}
-use Rattle.composer_bytes.specs.States.{composerOf}
+use Rattle.composer_bytes.specs.States.{composerOf, marksOf}
 use Rattle.composer_bytes.proofs.There.{plan-there, availability-there}
+use Rattle.composer_put.specs.Bits.{placeable}
+use Rattle.composer_put.proofs.Placed.{placeable-is, placed-is, unfit-is}
 use Rattle.composer_put.proofs.checks.stream_refusal.Statement.{statement}
 use Rattle.composer_put.proofs.checks.stream_refusal.Tie as tie
 
@@ -27,7 +32,7 @@ asked : (c : tie.After-is-available) {t : Bool} → c .is-available .result ≡ 
     → available (composerOf (start₁ c .args .state .now) .setting .availability) (start₁ c .args .r .0) ≡ t
 asked c e =
     let a = start₁ c .args in
-    ap (λ (n : ℕ). available n (a .r .0)) (availability-there (a .state .now) (start₁ c .pre) ∙ sym (c .before .word .ensures))
+    ap (λ (n : ℕ). available n (a .r .0)) (availability-there (a .state .now) (start₁ c .pre .0) ∙ sym (c .before .word .ensures))
     ∙ sym (c .is-available .ensures) ∙ e
 
 past-1 : (c : tie.Else1) → Past 1 (rows (start₁ (c .before)))
@@ -36,7 +41,7 @@ past-1 c = passed _ _ (ap not (asked (c .before) refl) ∙ c .if1 .left)
 
 -- whether a packet is unfit, as it was asked
 abbrev start₂ : tie.After-has-unfit → tie.Start
-start₂ c = start₁ (c .before .before .before .before .before .before .before)
+start₂ c = start₁ (c .before .before .before .before .before .before)
 
 unfit-asked : (c : tie.After-has-unfit) {t : Bool} → c .has-unfit .result ≡ t
     → someUnfit (composerOf (start₂ c .args .state .now) .pid) (start₂ c .args .r .0) (composerOf (start₂ c .args .state .now) .setting .«relative_ts_number») (composerOf (start₂ c .args .state .now) .filled) (start₂ c .args .stream .now)
@@ -44,11 +49,17 @@ unfit-asked : (c : tie.After-has-unfit) {t : Bool} → c .has-unfit .result ≡ 
 unfolding composerOf
 unfit-asked c e =
     let a = start₂ c .args in
-    rw (plan-there (a .state .now) (start₂ c .pre), sym (c .before .before .before .word2 .ensures)) (sym (c .has-unfit .ensures) ∙ e)
+    let marks = marksOf (part 338 52 (a .state .now)) in
+    rw (plan-there (a .state .now) (start₂ c .pre .0), sym (c .before .before .word2 .ensures))
+    (unfit-is _ (a .r .0) (part 168 52 (a .state .now)) marks (a .stream .now)
+    ∙ ap (λ (n : ℕ). anyBelow n (λ k. unfit (c .before .before .word2 .result) (slot k (a .stream .now))))
+    (placed-is (a .r .0) (part 168 52 (a .state .now)) marks (a .stream .now) ∙ ap (λ (n : ℕ). placeable n (length (a .stream .now))) (sym (start₂ c .pre .1))
+    ∙ sym (c .before .packets-for .ensures))
+    ∙ sym (c .has-unfit .ensures) ∙ e)
 
 past-2 : (c : tie.Else2) → Past 2 (rows (start₂ (c .before)))
 unfolding streamChecks
-past-2 c = past-1 (c .before .before .before .before .before .before .before) ∙ passed _ _ (unfit-asked (c .before) (c .if2 .left))
+past-2 c = past-1 (c .before .before .before .before .before .before) ∙ passed _ _ (unfit-asked (c .before) (c .if2 .left))
 
 shared-slice-read-word : tie.Need-shared-slice-read-word
 shared-slice-read-word c = search needs
@@ -78,33 +89,17 @@ shared-slice-read-word-4 c = search needs
 word-requires-2 : tie.Need-word-requires-2
 word-requires-2 c κs = search needs
 
-add-has-unfit : tie.Need-add-has-unfit
-add-has-unfit c = search needs
-
-sub-has-unfit : tie.Need-sub-has-unfit
-sub-has-unfit c = search needs
-
-part-has-unfit-start : tie.Need-part-has-unfit-start
-part-has-unfit-start c = search needs
-
-part-has-unfit-end : tie.Need-part-has-unfit-end
-part-has-unfit-end c = search needs
-
-sub-has-unfit-2 : tie.Need-sub-has-unfit-2
-sub-has-unfit-2 c = search needs
-
-part-has-unfit-start-2 : tie.Need-part-has-unfit-start-2
-part-has-unfit-start-2 c = search needs
-
-part-has-unfit-end-2 : tie.Need-part-has-unfit-end-2
-part-has-unfit-end-2 c = search needs
+packets-for-requires : tie.Need-packets-for-requires
+packets-for-requires c κs = search needs
 
 has-unfit-requires : tie.Need-has-unfit-requires
-has-unfit-requires c κs = search needs
+has-unfit-requires c κs =
+    let a = start₁ (c .before .before .before .before .before) .args in
+    omega (arith, c .packets-for .ensures, placeable-is (a .empty) (length (a .stream .now)))
 
 returns-2 : tie.Need-returns-2
 unfolding streamChecks
-returns-2 c = sym (past-1 (c .before .before .before .before .before .before .before) ∙ answers _ _ (unfit-asked (c .before) (c .if2 .taken)))
+returns-2 c = sym (past-1 (c .before .before .before .before .before .before) ∙ answers _ _ (unfit-asked (c .before) (c .if2 .taken)))
 
 returns-3 : tie.Need-returns-3
 unfolding streamChecks firstOf
@@ -123,13 +118,7 @@ stream-refusal-spec =
     shared-slice-read-word-3
     shared-slice-read-word-4
     word-requires-2
-    add-has-unfit
-    sub-has-unfit
-    part-has-unfit-start
-    part-has-unfit-end
-    sub-has-unfit-2
-    part-has-unfit-start-2
-    part-has-unfit-end-2
+    packets-for-requires
     has-unfit-requires
     returns-2
     returns-3)

@@ -1,0 +1,87 @@
+-- The still empty slots' bits, one after another. Assumes nothing.
+use Prim.Native.Nat.{ℕ, zero, suc, _+_, _*_, _/_, _%_, _^_, _≤_, _<_}
+use mathlib.Core.Path.{_≡_, refl, ap, _∙_}
+use mathlib.Core.Bool.{Bool, true, false, not, cond, _&&_}
+use mathlib.Core.List.{List}
+use native.Mathlib.Nat.{lt-of-not-le, pow-suc, mul-add, mul-assoc, mul-le-mul-left, mul-div-le, le-trans}
+use native.Mathlib.Numerals.{add-one}
+use native.Mathlib.Omega.{arith}
+use lib.Count.{under, trailingZeros}
+use lib.Dec.{eqb}
+use lib.ListN.{length, getD, drop, drop-of-length-le}
+use lib.Pow.{pow-add, pow-mono}
+use Rattle.composer_put.specs.Bits.{emptySlots}
+use Rattle.composer_put.proofs.Walk.{from-slot}
+
+-- whether slot i is still empty and planned for r
+abbrev pub emptyAt : ℕ → List ℕ → List Bool → ℕ → Bool
+emptyAt r plan marks i = eqb (getD plan i 0) r && not (getD marks i false)
+
+-- the lowest of bits
+pub lowest : (t : Bool) (above : ℕ) → ((cond t 1 0 + 2 * above) % 2 ≡ cond t 1 0) × ((cond t 1 0 + 2 * above) / 2 ≡ above)
+lowest true above = (omega arith, omega arith)
+lowest false above = (omega arith, omega arith)
+
+-- a bit more among m, below the others
+one-bit : (t : Bool) (m p bits : ℕ) → m + p * (cond t 1 0 + 2 * bits) ≡ (m + cond t p 0) + p * 2 * bits
+one-bit true m p bits = omega (arith, mul-add p 1 (2 * bits), mul-assoc p 2 bits)
+one-bit false m p bits = omega (arith, mul-add p 0 (2 * bits), mul-assoc p 2 bits)
+
+module _ (r : ℕ) (plan : List ℕ) (marks : List Bool) (i : ℕ) where
+  module _ (h : i < length plan) (g : i < length marks) {t : Bool} (e : emptyAt r plan marks i ≡ t) where
+    -- slot i's
+    pub bit-from : emptySlots r (drop i plan) (drop i marks) ≡ cond t 1 0 + 2 * emptySlots r (drop (i + 1) plan) (drop (i + 1) marks)
+    unfolding emptySlots
+    bit-from =
+        from-slot plan marks i h g (emptySlots r)
+        ∙ ap (λ (b : Bool). cond b 1 0 + 2 * emptySlots r (drop (i + 1) plan) (drop (i + 1) marks)) e
+
+    -- is put over m, where those of the slots before it are
+    pub bit-over : (m : ℕ)
+        → m + 2 ^ i * emptySlots r (drop i plan) (drop i marks)
+        ≡ (m + cond t (2 ^ i) 0) + 2 ^ (i + 1) * emptySlots r (drop (i + 1) plan) (drop (i + 1) marks)
+    bit-over m =
+        let power : 2 ^ (i + 1) ≡ 2 ^ i * 2 = ap (λ (k : ℕ). 2 ^ k) (add-one i) ∙ pow-suc 2 i in
+        rw (power, bit-from) (one-bit t m (2 ^ i) (emptySlots r (drop (i + 1) plan) (drop (i + 1) marks)))
+
+  -- behind the last slot
+  pub bits-none : length plan ≤ i → emptySlots r (drop i plan) (drop i marks) ≡ 0
+  unfolding emptySlots
+  bits-none h = rw (drop-of-length-le plan h) refl
+
+-- ---- the lowest bit that is set
+
+zeros-below : (k n : ℕ) → (n ≡ 0 → ⊥) → 2 ^ trailingZeros k n ≤ n
+unfolding trailingZeros
+zeros-below zero n some = omega arith
+zeros-below (suc k) n some = by-digit (n % 2) refl (zeros-below k (n / 2))
+  where
+    by-digit : (d : ℕ) → n % 2 ≡ d → ((n / 2 ≡ 0 → ⊥) → 2 ^ trailingZeros k (n / 2) ≤ n / 2) → 2 ^ under d (trailingZeros k (n / 2)) ≤ n
+    by-digit zero e later =
+        let half = later (λ z. some (omega arith)) in
+        rw (pow-suc 2 (trailingZeros k (n / 2))) (omega arith)
+    by-digit (suc d) e later = omega arith
+
+-- bits from bit i on, of which bit n and those above it are not set
+module _ (i m n : ℕ) (h : 2 ^ i * m < 2 ^ n) where
+  -- the lowest is below bit n
+  pub next-below : (k : ℕ) → (m ≡ 0 → ⊥) → i + trailingZeros k m < n
+  next-below k some =
+      lt-of-not-le
+      (λ g.
+      let past : 2 ^ n ≤ 2 ^ (i + trailingZeros k m) = pow-mono g in
+      let power = pow-add 2 i (trailingZeros k m) in
+      let there = mul-le-mul-left (2 ^ i) (zeros-below k m some) in
+      omega arith)
+
+  -- and so are those behind it
+  pub behind-below : (t : ℕ) → 2 ^ (i + t + 1) * (m / 2 ^ t / 2) < 2 ^ n
+  behind-below t =
+      let q = m / 2 ^ t / 2 in
+      let power : 2 ^ (i + t + 1) ≡ 2 ^ i * (2 ^ t * 2) =
+      pow-add 2 (i + t) 1 ∙ ap (λ (k : ℕ). k * 2) (pow-add 2 i t) ∙ mul-assoc (2 ^ i) (2 ^ t) 2 in
+      let twice : 2 * q ≤ m / 2 ^ t = omega arith in
+      let less = mul-le-mul-left (2 ^ i) (le-trans (mul-le-mul-left (2 ^ t) twice) (mul-div-le m (2 ^ t))) in
+      let same : 2 ^ (i + t + 1) * q ≡ 2 ^ i * (2 ^ t * (2 * q)) =
+      ap (λ (p : ℕ). p * q) power ∙ mul-assoc (2 ^ i) (2 ^ t * 2) q ∙ ap (λ (p : ℕ). 2 ^ i * p) (mul-assoc (2 ^ t) 2 q) in
+      omega arith

@@ -1,0 +1,2 @@
+-- What putting packets into a frame goes by.
+pub mod Bits
