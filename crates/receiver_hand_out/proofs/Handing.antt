@@ -17,11 +17,12 @@ use Rattle.packet.specs.Packets.{packetLength}
 use Rattle.slices.specs.Slices.{over}
 use Rattle.receiver_in_place.specs.Store.{numbered, slotsFor}
 use Rattle.receiver_in_place.proofs.Store.{length-numbered}
+use Rattle.slot_bits.specs.Bits.{slotBits}
 use Rattle.receiver_hand_out.specs.Ready.{marked}
 
 -- as many bits as slots
 pub marked-ones : (r : ℕ) (ns : List ℕ) → ones (marked r ns) ≡ slotsFor r ns
-unfolding marked slotsFor ones
+unfolding slotBits slotsFor ones
 marked-ones r [] = refl
 marked-ones r (n ∷ ns) = ones-step (cond (eqb n r) 1 0 + 2 * marked r ns) ∙ by-number (eqb n r) (marked-ones r ns)
   where
@@ -36,7 +37,7 @@ marked-ones r (n ∷ ns) = ones-step (cond (eqb n r) 1 0 + 2 * marked r ns) ∙ 
 
 -- no bit, no packet
 none-numbered : (r : ℕ) (ns bytes : List ℕ) → marked r ns ≡ 0 → numbered r ns bytes ≡ []
-unfolding marked numbered
+unfolding slotBits numbered
 none-numbered r [] bytes z = refl
 none-numbered r (n ∷ ns) bytes z = by-number (eqb n r) z (none-numbered r ns (drop packetLength bytes))
   where
@@ -59,7 +60,7 @@ module _ (r : ℕ) (ns : List ℕ) (i : ℕ) where
         ap (slotsFor r) (drop-cons ns i 0 h) ∙ ap₂ (λ (b : Bool) (k : ℕ). cond b 1 0 + slotsFor r (drop k ns)) e (sym (add-one i))
 
     pub marked-from : marked r (drop i ns) ≡ cond t 1 0 + 2 * marked r (drop (i + 1) ns)
-    unfolding marked
+    unfolding slotBits
     marked-from =
         ap (marked r) (drop-cons ns i 0 h) ∙ ap₂ (λ (b : Bool) (k : ℕ). cond b 1 0 + 2 * marked r (drop k ns)) e (sym (add-one i))
 
@@ -84,7 +85,7 @@ module _ (r : ℕ) (ns : List ℕ) (i : ℕ) where
 
   -- behind the last slot
   pub marked-none : length ns ≤ i → marked r (drop i ns) ≡ 0
-  unfolding marked
+  unfolding slotBits
   marked-none h = rw (drop-of-length-le ns h) refl
 
 -- over the front

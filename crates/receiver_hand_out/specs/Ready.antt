@@ -1,10 +1,11 @@
 -- The checks before a frame is handed out, up to the room for its packets; and the slots with one number as bits.
-use Prim.Native.Nat.{ℕ, _+_, _*_}
-use mathlib.Core.Bool.{cond, not}
-use mathlib.Core.List.{List, [], _∷_, _++_}
+use Prim.Native.Nat.{ℕ}
+use mathlib.Core.Bool.{not}
+use mathlib.Core.List.{List, [], _∷_, _++_, map}
 use lib.Dec.{eqb}
 use Rattle.counters.specs.Counters.{firstStream, lastStream, within}
 use Rattle.refusal_table.specs.Refusal.{Check}
+use Rattle.slot_bits.specs.Bits.{slotBits}
 use Rattle.receiver_table.specs.Table.{isReady}
 use Rattle.receiver_in_place.specs.declared.Receiver.{Receiver}
 use Rattle.receiver_in_place.specs.Store.{storeLength}
@@ -16,7 +17,6 @@ readyChecks c r store =
     (1, not (eqb store storeLength))
     ∷ (receiverChecks c ++ ((17, not (within firstStream lastStream r)) ∷ (16, not (isReady (c .stage))) ∷ []))
 
--- the slots with number r: the first one's bit is the lowest
-unfoldable pub marked : ℕ → List ℕ → ℕ
-marked r [] = 0
-marked r (n ∷ ns) = cond (eqb n r) 1 0 + 2 * marked r ns
+-- the slots with number r, as bits
+abbrev pub marked : ℕ → List ℕ → ℕ
+marked r numbers = slotBits (map (λ (n : ℕ). eqb n r) numbers)

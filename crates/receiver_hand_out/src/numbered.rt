@@ -18,15 +18,15 @@ fn marks_of(numbers: &[u8], r: u8) -> u64
     requires { ⌜ length (now numbers) ≡ lastSlot ⌝ }
     ensures { λ t. ⌜ t ≡ marked r (now (numbers .entry)) ⌝ }
 {
-    let mut marks = 0u64;
+    let mut shares = [0u8; SLOTS];
     let mut i = 0;
     while i < SLOTS {
         if numbers[i] == r {
-            marks += 1u64 << (i as u32);
+            shares[i] = 1u8 << ((i % 8) as u32);
         }
         i += 1;
     }
-    marks
+    slot_bits::summed_of(&shares)
 }
 
 // 15: room for fewer packets than have number r; else copies those, in slot order, to the front of `out`.

@@ -1,53 +1,60 @@
--- `marks_of` meets its contract: the bits of the slots before slot i are set. Assumes nothing.
-use Prim.Native.Nat.{ℕ, _+_, _-_, _*_, _%_, _^_, _≤_, _<_}
-use mathlib.Core.Path.{_≡_, ap, _∙_}
+-- `marks_of` meets its contract: the shares of the slots before slot i are left. Assumes nothing.
+use Prim.Native.Nat.{ℕ, zero, suc, _+_, _-_, _≤_, _<_}
+use mathlib.Core.Path.{_≡_, refl, _∙_}
+use mathlib.Core.Bool.{Bool, false}
+use mathlib.Core.List.{List, [], _∷_, map}
 use mathlib.Core.Logic.{⊎-elim}
 use native.Mathlib.Omega.{arith}
-use native.Mathlib.Nat.{pow-suc}
-use native.Mathlib.Numerals.{add-one}
 use borrow.Author.Needs.{needs}
 use borrow.Author.Tests.{eq-eqb, ne-eqb}
-use lib.ListN.{drop}
-use lib.Pow.{shl-exact, pow-mono}
+use lib.Dec.{eqb}
+use lib.ListN.{length, getD, length-map}
 use Rattle.counters.specs.Counters.{lastSlot}
-use Rattle.receiver_hand_out.specs.Ready.{marked}
-use Rattle.receiver_hand_out.proofs.Handing.{marked-over, marked-none}
+use Rattle.slot_bits.proofs.Sharing.{Sharing, shifted, sharing-none, sharing-told, sharing-not, sharing-long, sharing-all}
 use Rattle.receiver_hand_out.proofs.numbered.marks_of.Statement.{statement}
 use Rattle.receiver_hand_out.proofs.numbered.marks_of.Tie as tie
 
 abbrev Inv-loop : tie.InvT-loop
-Inv-loop numbers r marks₀ i₀ marks i = (i ≤ lastSlot) × (marks < 2 ^ i) × (marks + 2 ^ i * marked r (drop i numbers) ≡ marked r numbers)
+Inv-loop numbers r shares₀ i₀ shares i = (i ≤ lastSlot) × (length shares ≡ lastSlot) × Sharing (map (λ (n : ℕ). eqb n r) numbers) shares i
 
 abbrev μ-loop : tie.MeasureT-loop
-μ-loop numbers r marks₀ i₀ marks i = lastSlot - i
+μ-loop numbers r shares₀ i₀ shares i = lastSlot - i
 
--- nothing is shifted out
-shifted : (i : ℕ) → i < lastSlot → 1 * 2 ^ i % 2 ^ 64 ≡ 2 ^ i
-shifted i inside = shl-exact 1 i 64 (omega arith) (omega arith) ∙ omega arith
+-- which slots have the number, and how many slots there are
+abbrev told : tie.Start Inv-loop μ-loop → List Bool
+told c = map (λ (n : ℕ). eqb n (c .args .r)) (c .args .numbers .now)
 
-double : (i : ℕ) → 2 ^ (i + 1) ≡ 2 ^ i * 2
-double i = ap (λ (k : ℕ). 2 ^ k) (add-one i) ∙ pow-suc 2 i
+told-long : (c : tie.Start Inv-loop μ-loop) → length (told c) ≡ lastSlot
+told-long c = length-map (c .args .numbers .now) (λ (n : ℕ). eqb n (c .args .r)) ∙ c .pre
+
+-- slot i, as it was asked
+asked : (c : tie.Start Inv-loop μ-loop) (i : ℕ) {t : Bool} → i < lastSlot → eqb (getD (c .args .numbers .now) i 0) (c .args .r) ≡ t → getD (told c) i false ≡ t
+asked c i inside e = each (c .args .numbers .now) i (omega (arith, c .pre)) ∙ e
+  where
+    each : (ns : List ℕ) (i : ℕ) → i < length ns → getD (map (λ (n : ℕ). eqb n (c .args .r)) ns) i false ≡ eqb (getD ns i 0) (c .args .r)
+    each [] i h = absurd (omega arith)
+    each (n ∷ ns) zero h = refl
+    each (n ∷ ns) (suc i) h = each ns i (omega arith)
 
 loop-holds : tie.Need-loop-holds Inv-loop μ-loop
-loop-holds c = (omega arith, omega arith, omega arith)
+loop-holds c =
+    let start = c .before in
+    (omega arith, omega arith, sharing-none (told start))
 
 shared-slice-read-if1 : tie.Need-shared-slice-read-if1 Inv-loop μ-loop
 shared-slice-read-if1 c = search needs
 
-cast-marks : tie.Need-cast-marks Inv-loop μ-loop
-cast-marks c = search needs
+cast-shares : tie.Need-cast-shares Inv-loop μ-loop
+cast-shares c = search needs
 
-cast-marks-2 : tie.Need-cast-marks-2 Inv-loop μ-loop
-cast-marks-2 c = search needs
+cast-shares-2 : tie.Need-cast-shares-2 Inv-loop μ-loop
+cast-shares-2 c = search needs
 
-shl-marks : tie.Need-shl-marks Inv-loop μ-loop
-shl-marks c = search needs
+shl-shares : tie.Need-shl-shares Inv-loop μ-loop
+shl-shares c = search needs
 
-add-marks : tie.Need-add-marks Inv-loop μ-loop
-add-marks c =
-    let k = c .before .before .before in
-    let bit = shifted (k .loop .i) (omega arith) in
-    omega (arith, pow-mono {i = k .loop .i} {j = lastSlot} (omega arith))
+array-write-shares : tie.Need-array-write-shares Inv-loop μ-loop
+array-write-shares c = search needs
 
 add-i : tie.Need-add-i Inv-loop μ-loop
 add-i c = search needs
@@ -57,26 +64,25 @@ loop-less c = search needs
 
 loop-again : tie.Need-loop-again Inv-loop μ-loop
 loop-again c =
-    let k = c .before .before .before in
-    let s = k .before in
-    let i = k .loop .i in
-    let bit = shifted i (omega arith) in
-    let twice = double i in
-    let marks = k .loop .inv .2 in (
-      omega arith,
-      ⊎-elim (λ w. rw (w .1) (omega arith)) (λ w. rw (w .1) (omega arith)) (c .if1 .came),
-      ⊎-elim
-          (λ w. let over = marked-over (s .args .r) (s .args .numbers .now) i (omega arith) (eq-eqb _ _ (w .0 .taken)) (k .loop .marks) in rw (w .1) (omega arith))
-          (λ w. let over = marked-over (s .args .r) (s .args .numbers .now) i (omega arith) (ne-eqb _ _ (w .0 .left)) (k .loop .marks) in rw (w .1) (omega arith))
-          (c .if1 .came),
-    )
+    let loop = c .before .before .before in
+    let start = loop .before .before in
+    let i = loop .loop .i in
+    let inside : i < lastSlot = omega arith in
+    let shared : Sharing (told start) (c .if1 .shares) (i + 1) =
+    ⊎-elim
+    (λ w. rw (w .1, shifted i) (sharing-told (told start) (told-long start) (loop .loop .inv .2) inside (asked start i inside (eq-eqb _ _ (w .0 .taken)))))
+    (λ w. rw (w .1) (sharing-not (told start) (told-long start) (loop .loop .inv .2) inside (asked start i inside (ne-eqb _ _ (w .0 .left)))))
+    (c .if1 .came) in
+    (omega arith, sharing-long (told start) (told-long start) shared (omega arith), shared)
+
+summed-of-requires : tie.Need-summed-of-requires Inv-loop μ-loop
+summed-of-requires c κs = search needs
 
 returns : tie.Need-returns Inv-loop μ-loop
 returns c =
-    let k = c .before in
-    let none = marked-none (k .before .args .r) (k .before .args .numbers .now) (k .loop .i) (omega arith) in
-    let marks : k .loop .marks + 2 ^ k .loop .i * 0 ≡ marked (k .before .args .r) (k .before .args .numbers .now) = rw none at (k .loop .inv .2) in
-    omega arith
+    let loop = c .before .before .before in
+    let start = loop .before .before in
+    c .summed-of .ensures ∙ sharing-all (told start) (told-long start) (loop .loop .inv .2) (omega arith)
 
 pub marks-of-spec : {M : Type 1} → statement M
 marks-of-spec =
@@ -86,11 +92,12 @@ marks-of-spec =
     μ-loop
     loop-holds
     shared-slice-read-if1
-    cast-marks
-    cast-marks-2
-    shl-marks
-    add-marks
+    cast-shares
+    cast-shares-2
+    shl-shares
+    array-write-shares
     add-i
     loop-less
     loop-again
+    summed-of-requires
     returns)

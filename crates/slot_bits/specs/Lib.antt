@@ -1,0 +1,2 @@
+-- Slots as bits of one number.
+pub mod Bits
