@@ -2,15 +2,16 @@
 use Prim.Native.Nat.{ℕ, zero, suc, _+_, _*_, _/_, _%_, _^_, _≤_, _<_}
 use mathlib.Core.Path.{_≡_, refl, ap, _∙_}
 use mathlib.Core.Bool.{Bool, true, false, not, cond, _&&_}
-use mathlib.Core.List.{List}
-use native.Mathlib.Nat.{lt-of-not-le, pow-suc, mul-add, mul-assoc, mul-le-mul-left, mul-div-le, le-trans}
+use mathlib.Core.List.{List, [], _∷_}
+use native.Mathlib.Nat.{lt-of-not-le, pow-suc, mul-assoc, mul-le-mul-left, mul-div-le, le-trans}
 use native.Mathlib.Numerals.{add-one}
 use native.Mathlib.Omega.{arith}
 use lib.Count.{under, trailingZeros}
 use lib.Dec.{eqb}
 use lib.ListN.{length, getD, drop, drop-of-length-le}
 use lib.Pow.{pow-add, pow-mono}
-use Rattle.composer_put.specs.Bits.{emptySlots}
+use Rattle.slot_bits.specs.Bits.{slotBits}
+use Rattle.composer_put.specs.Bits.{emptyFor, emptySlots}
 use Rattle.composer_put.proofs.Walk.{from-slot}
 
 -- whether slot i is still empty and planned for r
@@ -22,31 +23,33 @@ pub lowest : (t : Bool) (above : ℕ) → ((cond t 1 0 + 2 * above) % 2 ≡ cond
 lowest true above = (omega arith, omega arith)
 lowest false above = (omega arith, omega arith)
 
--- a bit more among m, below the others
-one-bit : (t : Bool) (m p bits : ℕ) → m + p * (cond t 1 0 + 2 * bits) ≡ (m + cond t p 0) + p * 2 * bits
-one-bit true m p bits = omega (arith, mul-add p 1 (2 * bits), mul-assoc p 2 bits)
-one-bit false m p bits = omega (arith, mul-add p 0 (2 * bits), mul-assoc p 2 bits)
+-- the slots that are asked for: as many as the plan has, and each by its own number and mark
+pub length-empty : (r : ℕ) (plan : List ℕ) (marks : List Bool) → length plan ≡ length marks → length (emptyFor r plan marks) ≡ length plan
+unfolding emptyFor
+length-empty r [] ms e = refl
+length-empty r (n ∷ ns) [] e = absurd (omega arith)
+length-empty r (n ∷ ns) (m ∷ ms) e = ap suc (length-empty r ns ms (omega arith))
+
+pub empty-there : (r : ℕ) (plan : List ℕ) (marks : List Bool) (i : ℕ) → i < length plan → i < length marks
+    → getD (emptyFor r plan marks) i false ≡ eqb (getD plan i 0) r && not (getD marks i false)
+unfolding emptyFor
+empty-there r [] ms i h g = absurd (omega arith)
+empty-there r (n ∷ ns) [] i h g = absurd (omega arith)
+empty-there r (n ∷ ns) (m ∷ ms) zero h g = refl
+empty-there r (n ∷ ns) (m ∷ ms) (suc i) h g = empty-there r ns ms i (omega arith) (omega arith)
 
 module _ (r : ℕ) (plan : List ℕ) (marks : List Bool) (i : ℕ) where
   module _ (h : i < length plan) (g : i < length marks) {t : Bool} (e : emptyAt r plan marks i ≡ t) where
     -- slot i's
     pub bit-from : emptySlots r (drop i plan) (drop i marks) ≡ cond t 1 0 + 2 * emptySlots r (drop (i + 1) plan) (drop (i + 1) marks)
-    unfolding emptySlots
+    unfolding emptyFor slotBits
     bit-from =
         from-slot plan marks i h g (emptySlots r)
         ∙ ap (λ (b : Bool). cond b 1 0 + 2 * emptySlots r (drop (i + 1) plan) (drop (i + 1) marks)) e
 
-    -- is put over m, where those of the slots before it are
-    pub bit-over : (m : ℕ)
-        → m + 2 ^ i * emptySlots r (drop i plan) (drop i marks)
-        ≡ (m + cond t (2 ^ i) 0) + 2 ^ (i + 1) * emptySlots r (drop (i + 1) plan) (drop (i + 1) marks)
-    bit-over m =
-        let power : 2 ^ (i + 1) ≡ 2 ^ i * 2 = ap (λ (k : ℕ). 2 ^ k) (add-one i) ∙ pow-suc 2 i in
-        rw (power, bit-from) (one-bit t m (2 ^ i) (emptySlots r (drop (i + 1) plan) (drop (i + 1) marks)))
-
   -- behind the last slot
   pub bits-none : length plan ≤ i → emptySlots r (drop i plan) (drop i marks) ≡ 0
-  unfolding emptySlots
+  unfolding emptyFor slotBits
   bits-none h = rw (drop-of-length-le plan h) refl
 
 -- ---- the lowest bit that is set

@@ -13,7 +13,8 @@ use lib.Seq.{drop-drop}
 use Rattle.slices.specs.Slices.{anyBelow}
 use Rattle.packet.specs.Packets.{packetLength, slot, unfit}
 use Rattle.composer_state.specs.Slots.{takes, placedBy, someUnfit}
-use Rattle.composer_put.specs.Bits.{emptySlots, placeable}
+use Rattle.slot_bits.specs.Bits.{slotBits}
+use Rattle.composer_put.specs.Bits.{emptyFor, emptySlots, placeable}
 use Rattle.composer_put.proofs.Bits.{lowest}
 
 -- ---- how many
@@ -55,7 +56,7 @@ ones-from t above = ones-step (cond t 1 0 + 2 * above) ∙ ap₂ (λ (b n : ℕ)
 
 module _ (r : ℕ) where
   pub placed-is : (plan : List ℕ) (marks : List Bool) (stream : List ℕ) → placedBy r plan marks stream ≡ placeable (emptySlots r plan marks) (length stream)
-  unfolding placedBy emptySlots
+  unfolding placedBy emptyFor slotBits
   placed-is [] ms stream = none (length stream)
   placed-is (n ∷ ns) [] stream = none (length stream)
   placed-is (n ∷ ns) (m ∷ ms) stream =

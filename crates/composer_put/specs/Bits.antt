@@ -1,16 +1,21 @@
 -- The still empty slots as bits, and how many packets they take.
-use Prim.Native.Nat.{ℕ, _+_, _*_, _/_}
+use Prim.Native.Nat.{ℕ, _/_}
 use mathlib.Core.Bool.{Bool, cond, not, _&&_}
 use mathlib.Core.List.{List, [], _∷_}
 use lib.Count.{ones}
 use lib.Dec.{eqb, ltb}
 use Rattle.packet.specs.Packets.{packetLength}
+use Rattle.slot_bits.specs.Bits.{slotBits}
 
--- those planned for stream r: the first one's bit is the lowest
-unfoldable pub emptySlots : ℕ → List ℕ → List Bool → ℕ
-emptySlots r [] ms = 0
-emptySlots r (n ∷ ns) [] = 0
-emptySlots r (n ∷ ns) (m ∷ ms) = cond (eqb n r && not m) 1 0 + 2 * emptySlots r ns ms
+-- which slots are planned for stream r and not filled
+unfoldable pub emptyFor : ℕ → List ℕ → List Bool → List Bool
+emptyFor r [] ms = []
+emptyFor r (n ∷ ns) [] = []
+emptyFor r (n ∷ ns) (m ∷ ms) = (eqb n r && not m) ∷ emptyFor r ns ms
+
+-- those as bits
+abbrev pub emptySlots : ℕ → List ℕ → List Bool → ℕ
+emptySlots r plan marks = slotBits (emptyFor r plan marks)
 
 -- one packet for each slot, until slots or packets run out
 unfoldable pub placeable : ℕ → ℕ → ℕ

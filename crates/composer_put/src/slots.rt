@@ -19,15 +19,13 @@ pub(crate) fn empty_slots(plan: &[u8], filled: &[u8], r: u8) -> u64
     ensures { λ t. ⌜ t ≡ emptySlots r (now (plan .entry)) (marksOf (now (filled .entry))) ⌝ }
     ensures { λ t. ⌜ t < 2 ^ lastSlot ⌝ }
 {
-    let mut slots = 0u64;
+    let mut shares = [0u8; SLOTS];
     let mut i = 0;
     while i < SLOTS {
-        if (plan[i] == r) & (filled[i] != 1) {
-            slots += 1u64 << (i as u32);
-        }
+        shares[i] = slot_bits::share((plan[i] == r) & (filled[i] != 1), i);
         i += 1;
     }
-    slots
+    slot_bits::summed_of(&shares)
 }
 
 // How many packets of a stream of so many bytes the slots take.

@@ -46,11 +46,6 @@ none-numbered r (n ∷ ns) bytes z = by-number (eqb n r) z (none-numbered r ns (
     by-number true z later = absurd (omega arith)
     by-number false z later = later (omega arith)
 
--- a bit more among m, below the others
-one-bit : (t : Bool) (m p marks : ℕ) → m + p * (cond t 1 0 + 2 * marks) ≡ (m + cond t p 0) + p * 2 * marks
-one-bit true m p marks = omega (arith, mul-add p 1 (2 * marks), mul-assoc p 2 marks)
-one-bit false m p marks = omega (arith, mul-add p 0 (2 * marks), mul-assoc p 2 marks)
-
 module _ (r : ℕ) (ns : List ℕ) (i : ℕ) where
   module _ (h : i < length ns) {t : Bool} (e : eqb (getD ns i 0) r ≡ t) where
     -- slot i
@@ -63,12 +58,6 @@ module _ (r : ℕ) (ns : List ℕ) (i : ℕ) where
     unfolding slotBits
     marked-from =
         ap (marked r) (drop-cons ns i 0 h) ∙ ap₂ (λ (b : Bool) (k : ℕ). cond b 1 0 + 2 * marked r (drop k ns)) e (sym (add-one i))
-
-    -- its bit is put over m, where those of the slots before it are
-    pub marked-over : (m : ℕ) → m + 2 ^ i * marked r (drop i ns) ≡ (m + cond t (2 ^ i) 0) + 2 ^ (i + 1) * marked r (drop (i + 1) ns)
-    marked-over m =
-        let power : 2 ^ (i + 1) ≡ 2 ^ i * 2 = ap (λ (k : ℕ). 2 ^ k) (add-one i) ∙ pow-suc 2 i in
-        rw (power, marked-from) (one-bit t m (2 ^ i) (marked r (drop (i + 1) ns)))
 
     numbered-from : (store : List ℕ)
         → numbered r (drop i ns) (drop (packetLength * i) store)

@@ -21,9 +21,7 @@ fn marks_of(numbers: &[u8], r: u8) -> u64
     let mut shares = [0u8; SLOTS];
     let mut i = 0;
     while i < SLOTS {
-        if numbers[i] == r {
-            shares[i] = 1u8 << ((i % 8) as u32);
-        }
+        shares[i] = slot_bits::share(numbers[i] == r, i);
         i += 1;
     }
     slot_bits::summed_of(&shares)

@@ -1,11 +1,12 @@
 -- Shares added up, eight slots at a time, and what they make. Assumes nothing.
-use Prim.Native.Nat.{ℕ, zero, suc, _+_, _*_, _/_, _%_, _^_, _≤_}
+use Prim.Native.Nat.{ℕ, zero, suc, _+_, _*_, _/_, _%_, _^_, _≤_, _<_}
 use mathlib.Core.Path.{_≡_, sym, ap, ap₂, _∙_}
 use mathlib.Core.Bool.{Bool, true, false, cond}
 use mathlib.Core.List.{List, [], _∷_}
 use native.Mathlib.Nat.{add-assoc, add-zero, zero-add, zero-mul, mul-one, add-mul, mul-add, mul-assoc, mul-comm, pow-suc}
 use native.Mathlib.Numerals.{add-one}
 use native.Mathlib.Omega.{arith}
+use lib.Dec.{lit<}
 use lib.ListN.{length, take, drop, drop-of-length-le}
 use lib.Pow.{pow-add}
 use lib.Seq.{drop-drop}
@@ -63,3 +64,13 @@ shares-make k (b ∷ bs) =
     ap₂ _+_ (share-is k b)
     (shares-make (k + 1) bs ∙ ap (λ (n : ℕ). n * slotBits bs) (ap (λ (n : ℕ). 2 ^ n) (add-one k) ∙ pow-suc 2 k) ∙ mul-assoc (2 ^ k) 2 (slotBits bs))
     ∙ sym (mul-add (2 ^ k) (cond b 1 0) (2 * slotBits bs))
+
+-- as many bits as slots
+pub slots-low : (bs : List Bool) → slotBits bs < 2 ^ length bs
+unfolding slotBits
+slots-low [] = lit< tt
+slots-low (b ∷ bs) = one-more b (slots-low bs)
+  where
+    one-more : (b : Bool) → slotBits bs < 2 ^ length bs → cond b 1 0 + 2 * slotBits bs < 2 ^ suc (length bs)
+    one-more true h = omega (arith, pow-suc 2 (length bs))
+    one-more false h = omega (arith, pow-suc 2 (length bs))

@@ -8,10 +8,14 @@ unfoldable pub slotBits : List Bool → ℕ
 slotBits [] = 0
 slotBits (b ∷ bs) = cond b 1 0 + 2 * slotBits bs
 
--- what each slot that is told leaves of the byte that eight slots make, from slot k on
+-- what slot k, if it is told, leaves of the byte that eight slots make
+abbrev pub shareOf : Bool → ℕ → ℕ
+shareOf b k = cond b (2 ^ (k % 8)) 0
+
+-- what each slot leaves, from slot k on
 unfoldable pub shares : ℕ → List Bool → List ℕ
 shares k [] = []
-shares k (b ∷ bs) = cond b (2 ^ (k % 8)) 0 ∷ shares (k + 1) bs
+shares k (b ∷ bs) = shareOf b k ∷ shares (k + 1) bs
 
 -- numbers added up
 unfoldable pub total : List ℕ → ℕ

@@ -3,7 +3,17 @@ use setting::SLOTS;
 ghost use mathlib.Core.Path.{_≡_};
 ghost use Prim.Native.Nat.{_*_, _≤_};
 ghost use lib.ListN.{length};
-ghost use Rattle.slot_bits.specs.Bits.{total, summed};
+ghost use Rattle.slot_bits.specs.Bits.{shareOf, total, summed};
+
+// The share that slot i leaves where it is told.
+pub fn share(told: bool, i: usize) -> u8
+    ensures { λ t. ⌜ t ≡ shareOf told i ⌝ }
+{
+    if told {
+        return 1u8 << ((i % 8) as u32);
+    }
+    0
+}
 
 // A byte as a wider number, of which it is known that it was a byte.
 fn wide(share: u8) -> u64

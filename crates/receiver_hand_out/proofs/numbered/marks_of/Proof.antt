@@ -3,14 +3,12 @@ use Prim.Native.Nat.{ℕ, zero, suc, _+_, _-_, _≤_, _<_}
 use mathlib.Core.Path.{_≡_, refl, _∙_}
 use mathlib.Core.Bool.{Bool, false}
 use mathlib.Core.List.{List, [], _∷_, map}
-use mathlib.Core.Logic.{⊎-elim}
 use native.Mathlib.Omega.{arith}
 use borrow.Author.Needs.{needs}
-use borrow.Author.Tests.{eq-eqb, ne-eqb}
 use lib.Dec.{eqb}
 use lib.ListN.{length, getD, length-map}
 use Rattle.counters.specs.Counters.{lastSlot}
-use Rattle.slot_bits.proofs.Sharing.{Sharing, shifted, sharing-none, sharing-told, sharing-not, sharing-long, sharing-all}
+use Rattle.slot_bits.proofs.Sharing.{Sharing, sharing-none, sharing-more, sharing-long, sharing-all}
 use Rattle.receiver_hand_out.proofs.numbered.marks_of.Statement.{statement}
 use Rattle.receiver_hand_out.proofs.numbered.marks_of.Tie as tie
 
@@ -20,16 +18,15 @@ Inv-loop numbers r shares₀ i₀ shares i = (i ≤ lastSlot) × (length shares 
 abbrev μ-loop : tie.MeasureT-loop
 μ-loop numbers r shares₀ i₀ shares i = lastSlot - i
 
--- which slots have the number, and how many slots there are
+-- which slots have the number, how many slots there are, and slot i as it is asked
 abbrev told : tie.Start Inv-loop μ-loop → List Bool
 told c = map (λ (n : ℕ). eqb n (c .args .r)) (c .args .numbers .now)
 
 told-long : (c : tie.Start Inv-loop μ-loop) → length (told c) ≡ lastSlot
 told-long c = length-map (c .args .numbers .now) (λ (n : ℕ). eqb n (c .args .r)) ∙ c .pre
 
--- slot i, as it was asked
-asked : (c : tie.Start Inv-loop μ-loop) (i : ℕ) {t : Bool} → i < lastSlot → eqb (getD (c .args .numbers .now) i 0) (c .args .r) ≡ t → getD (told c) i false ≡ t
-asked c i inside e = each (c .args .numbers .now) i (omega (arith, c .pre)) ∙ e
+asked : (c : tie.Start Inv-loop μ-loop) (i : ℕ) → i < lastSlot → getD (told c) i false ≡ eqb (getD (c .args .numbers .now) i 0) (c .args .r)
+asked c i inside = each (c .args .numbers .now) i (omega (arith, c .pre))
   where
     each : (ns : List ℕ) (i : ℕ) → i < length ns → getD (map (λ (n : ℕ). eqb n (c .args .r)) ns) i false ≡ eqb (getD ns i 0) (c .args .r)
     each [] i h = absurd (omega arith)
@@ -37,21 +34,13 @@ asked c i inside e = each (c .args .numbers .now) i (omega (arith, c .pre)) ∙ 
     each (n ∷ ns) (suc i) h = each ns i (omega arith)
 
 loop-holds : tie.Need-loop-holds Inv-loop μ-loop
-loop-holds c =
-    let start = c .before in
-    (omega arith, omega arith, sharing-none (told start))
+loop-holds c = (omega arith, omega arith, sharing-none (told (c .before)))
 
-shared-slice-read-if1 : tie.Need-shared-slice-read-if1 Inv-loop μ-loop
-shared-slice-read-if1 c = search needs
+shared-slice-read-share : tie.Need-shared-slice-read-share Inv-loop μ-loop
+shared-slice-read-share c = search needs
 
-cast-shares : tie.Need-cast-shares Inv-loop μ-loop
-cast-shares c = search needs
-
-cast-shares-2 : tie.Need-cast-shares-2 Inv-loop μ-loop
-cast-shares-2 c = search needs
-
-shl-shares : tie.Need-shl-shares Inv-loop μ-loop
-shl-shares c = search needs
+share-requires : tie.Need-share-requires Inv-loop μ-loop
+share-requires c κs = search needs
 
 array-write-shares : tie.Need-array-write-shares Inv-loop μ-loop
 array-write-shares c = search needs
@@ -68,11 +57,7 @@ loop-again c =
     let start = loop .before .before in
     let i = loop .loop .i in
     let inside : i < lastSlot = omega arith in
-    let shared : Sharing (told start) (c .if1 .shares) (i + 1) =
-    ⊎-elim
-    (λ w. rw (w .1, shifted i) (sharing-told (told start) (told-long start) (loop .loop .inv .2) inside (asked start i inside (eq-eqb _ _ (w .0 .taken)))))
-    (λ w. rw (w .1) (sharing-not (told start) (told-long start) (loop .loop .inv .2) inside (asked start i inside (ne-eqb _ _ (w .0 .left)))))
-    (c .if1 .came) in
+    let shared = sharing-more (told start) (told-long start) (loop .loop .inv .2) inside (asked start i inside) (c .share .ensures) in
     (omega arith, sharing-long (told start) (told-long start) shared (omega arith), shared)
 
 summed-of-requires : tie.Need-summed-of-requires Inv-loop μ-loop
@@ -91,10 +76,8 @@ marks-of-spec =
     Inv-loop
     μ-loop
     loop-holds
-    shared-slice-read-if1
-    cast-shares
-    cast-shares-2
-    shl-shares
+    shared-slice-read-share
+    share-requires
     array-write-shares
     add-i
     loop-less
