@@ -2,7 +2,9 @@
 use counters::RelativeNumber;
 use setting::STREAMS;
 ghost use mathlib.Core.Path.{_≡_};
-ghost use Prim.Native.Nat.{_<_};
+ghost use Prim.Native.Nat.{ℕ, _<_};
+ghost use mathlib.Core.Bool.{false};
+ghost use mathlib.Core.List.{List};
 ghost use lib.ListN.{length};
 ghost use Rattle.slices.specs.Slices.{anyBelow};
 ghost use Rattle.counters.specs.Counters.{lastStream};
@@ -42,27 +44,50 @@ fn has_pair_before(availability: u16, ts: &[u16], os: &[u16], j: usize) -> bool
     false
 }
 
-// Whether two available streams have equal identifier pairs. Those before a stream are looked through only where one of them has
-// the same low six bits in its ts_id, for each content of which `met` has a bit.
+// Whether an available stream has the low six bits of the ts_id of one before it, for each content of which `met` has a bit. Where none
+// has, no two pairs are equal.
+fn some_alike(availability: u16, ts: &[u16]) -> bool
+    requires { ⌜ length (now ts) ≡ lastStream ⌝ }
+    ensures { λ r. ⌜ ((os : List ℕ) → r ≡ false → pairTwice availability (now (ts .entry)) os ≡ false) ⌝ }
+{
+    let mut met = 0u64;
+    let mut alike = false;
+    let mut j = 0;
+    while j < ts.len() {
+        if RelativeNumber((j + 1) as u8).is_available(availability) {
+            let k = (ts[j] % 64) as u32;
+            alike = alike | ((met >> k) % 2 == 1);
+            met = met | (1u64 << k);
+        }
+        j += 1;
+    }
+    alike
+}
+
+// Whether some stream makes such a pair with one before it.
+fn has_pair(availability: u16, ts: &[u16], os: &[u16]) -> bool
+    requires { ⌜ (length (now ts) ≡ lastStream) × (length (now os) ≡ lastStream) ⌝ }
+    ensures { λ r. ⌜ r ≡ pairTwice availability (now (ts .entry)) (now (os .entry)) ⌝ }
+{
+    let mut j = 0;
+    while j < ts.len() {
+        if has_pair_before(availability, ts, os, j) {
+            return true;
+        }
+        j += 1;
+    }
+    false
+}
+
+// Whether two available streams have equal identifier pairs. They are compared only where some are alike.
 pub fn has_pair_twice(availability: u16, ts: &[u16; STREAMS], os: &[u16; STREAMS]) -> bool
     ensures { λ r. ⌜ r ≡ pairTwice availability (now (ts .entry)) (now (os .entry)) ⌝ }
 {
     // As slices, which tell the length that the arrays' types have.
     let ts: &[u16] = ts;
     let os: &[u16] = os;
-    let mut met = 0u64;
-    let mut j = 0;
-    while j < ts.len() {
-        if RelativeNumber((j + 1) as u8).is_available(availability) {
-            let k = (ts[j] % 64) as u32;
-            if (met >> k) % 2 != 0 {
-                if has_pair_before(availability, ts, os, j) {
-                    return true;
-                }
-            }
-            met = met | (1u64 << k);
-        }
-        j += 1;
+    if !some_alike(availability, ts) {
+        return false;
     }
-    false
+    has_pair(availability, ts, os)
 }
