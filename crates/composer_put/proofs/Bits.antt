@@ -18,11 +18,6 @@ use Rattle.composer_put.proofs.Walk.{from-slot}
 abbrev pub emptyAt : ℕ → List ℕ → List Bool → ℕ → Bool
 emptyAt r plan marks i = eqb (getD plan i 0) r && not (getD marks i false)
 
--- the lowest of bits
-pub lowest : (t : Bool) (above : ℕ) → ((cond t 1 0 + 2 * above) % 2 ≡ cond t 1 0) × ((cond t 1 0 + 2 * above) / 2 ≡ above)
-lowest true above = (omega arith, omega arith)
-lowest false above = (omega arith, omega arith)
-
 -- the slots that are asked for: as many as the plan has, and each by its own number and mark
 pub length-empty : (r : ℕ) (plan : List ℕ) (marks : List Bool) → length plan ≡ length marks → length (emptyFor r plan marks) ≡ length plan
 unfolding emptyFor

@@ -6,7 +6,7 @@ use mathlib.Core.List.{List, [], _∷_}
 use native.Mathlib.Numerals.{one-add}
 use native.Mathlib.Omega.{arith}
 use borrow.Author.Tests.{leb-true, leb-false, ltb-true, ltb-false}
-use lib.Count.{ones, ones-step}
+use lib.Count.{ones}
 use lib.Dec.{leb, ltb, eqb}
 use lib.ListN.{length, take, drop, length-drop}
 use lib.Seq.{drop-drop}
@@ -15,7 +15,7 @@ use Rattle.packet.specs.Packets.{packetLength, slot, unfit}
 use Rattle.composer_state.specs.Slots.{takes, placedBy, someUnfit}
 use Rattle.slot_bits.specs.Bits.{slotBits}
 use Rattle.composer_put.specs.Bits.{emptyFor, emptySlots, placeable}
-use Rattle.composer_put.proofs.Bits.{lowest}
+use Rattle.slot_bits.proofs.NextBit.{ones-from}
 
 -- ---- how many
 
@@ -49,10 +49,6 @@ one-more bytes h = omega arith
 
 too-few : (bytes : ℕ) → bytes < packetLength → bytes / packetLength ≡ 0
 too-few bytes h = omega arith
-
--- a bit is counted
-ones-from : (t : Bool) (above : ℕ) → ones (cond t 1 0 + 2 * above) ≡ cond t 1 0 + ones above
-ones-from t above = ones-step (cond t 1 0 + 2 * above) ∙ ap₂ (λ (b n : ℕ). b + ones n) (lowest t above .0) (lowest t above .1)
 
 module _ (r : ℕ) where
   pub placed-is : (plan : List ℕ) (marks : List Bool) (stream : List ℕ) → placedBy r plan marks stream ≡ placeable (emptySlots r plan marks) (length stream)

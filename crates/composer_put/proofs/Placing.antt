@@ -1,14 +1,13 @@
 -- A frame into which a stream is being placed, from one still empty slot to the next: what the loop needs that does it. Assumes
 -- nothing.
-use Prim.Native.Nat.{ℕ, zero, suc, _+_, _-_, _*_, _/_, _%_, _^_, _≤_, _<_}
-use mathlib.Core.Path.{_≡_, refl, sym, ap, ap₂, _∙_}
+use Prim.Native.Nat.{ℕ, zero, suc, _+_, _-_, _*_, _/_, _^_, _≤_, _<_}
+use mathlib.Core.Path.{_≡_, refl, sym, ap, ap₂, subst, _∙_}
 use mathlib.Core.Bool.{Bool, true, false, not, cond, _&&_, and-assoc, and-false}
 use mathlib.Core.Logic.{_⊎_, inl, inr, ⊎-elim}
 use mathlib.Core.List.{List, [], _∷_, map}
-use native.Mathlib.Nat.{lt-of-not-le, pow-suc, mul-comm, div-div-eq-div-mul}
 use native.Mathlib.Omega.{arith}
 use borrow.Author.Tests.{le-leb, lt-leb}
-use lib.Count.{under, trailingZeros}
+use lib.Count.{trailingZeros}
 use lib.Dec.{eqb, leb}
 use lib.ListN.{length, getD, take, drop, set, length-drop, length-map, List·getD-map}
 use lib.Seq.{drop-drop, length-take-le}
@@ -21,7 +20,8 @@ use Rattle.composer_state.specs.Slots.{takes, frameAfter, slotsAfter, marksAfte
 use Rattle.composer_bytes.specs.States.{markByte, marksOf}
 use Rattle.composer_bytes.proofs.Same.{marks-same}
 use Rattle.composer_put.specs.Bits.{emptySlots}
-use Rattle.composer_put.proofs.Bits.{emptyAt, lowest, bit-from, bits-none}
+use Rattle.slot_bits.proofs.NextBit.{lowest, next}
+use Rattle.composer_put.proofs.Bits.{emptyAt, bit-from, bits-none}
 use Rattle.composer_put.proofs.Walk.{rest-from, marks-from, slots-from, rest-none, marks-none, slots-none}
 
 -- from an element on
@@ -160,28 +160,16 @@ module _ (r : ℕ) (plan : List ℕ) (bytes₀ : List ℕ) (stream frame₀ : Li
     -- it stands behind as many slots as the bits have zeros below
     pub placing-next : (k : ℕ) {frame bytes : List ℕ} {i at m : ℕ} → lastSlot ≤ i + k → Placing frame bytes i at m → (m ≡ 0 → ⊥)
         → {j : ℕ} → i + trailingZeros k m ≡ j → Next frame bytes at j (m / 2 ^ trailingZeros k m)
-    unfolding trailingZeros
-    placing-next zero {i = i} h p some e = absurd (some (p .left ∙ bits-none r plan marks₀ i (omega arith)))
-    placing-next (suc k) {frame} {bytes} {i} {at} {m} h p some {j} e =
-        let inside : i < lastSlot = lt-of-not-le (λ g. some (p .left ∙ bits-none r plan marks₀ i (omega arith))) in
-        by-slot (emptyAt r plan marks₀ i) inside refl (bits p inside) e (λ q some′ e′. placing-next k (omega arith) q some′ e′)
-      where
-        by-slot : (t : Bool) → i < lastSlot → emptyAt r plan marks₀ i ≡ t → m ≡ cond t 1 0 + 2 * emptySlots r (drop (i + 1) plan) (drop (i + 1) marks₀)
-            → i + under (m % 2) (trailingZeros k (m / 2)) ≡ j
-            → (Placing frame bytes (i + 1) at (m / 2) → (m / 2 ≡ 0 → ⊥) → i + 1 + trailingZeros k (m / 2) ≡ j → Next frame bytes at j (m / 2 / 2 ^ trailingZeros k (m / 2)))
-            → Next frame bytes at j (m / 2 ^ under (m % 2) (trailingZeros k (m / 2)))
-        by-slot true inside d b e later =
-            let odd : m % 2 ≡ 1 = omega arith in
-            let there : i + under 1 (trailingZeros k (m / 2)) ≡ j = rw odd at e in
-            let at-it : i ≡ j = omega arith in
-            let whole : m / 2 ^ 0 ≡ m = omega arith in
-            rw (odd, whole, sym at-it) (record { placing = p; inside = inside; here = d })
-        by-slot false inside d b e later =
-            let even : m % 2 ≡ 0 = omega arith in
-            let t = trailingZeros k (m / 2) in
-            let there : i + under 0 t ≡ j = rw even at e in
-            let less : m / 2 ^ suc t ≡ m / 2 / 2 ^ t = ap (λ (n : ℕ). m / n) (pow-suc 2 t ∙ mul-comm (2 ^ t) 2) ∙ sym (div-div-eq-div-mul m 2 (2 ^ t)) in
-            rw (even, less) (later (placing-passed p inside (takes-by p inside d refl)) (λ z. some (omega arith)) (omega arith))
+    placing-next k {frame} {bytes} {i} {at} {m} h p some {j} e =
+        let left : ℕ → ℕ = λ l. emptySlots r (drop l plan) (drop l marks₀) in
+        let x =
+        next lastSlot (emptyAt r plan marks₀) left
+        (λ l g. bit-from r plan marks₀ l (omega arith) (rw (length-map bytes₀ (λ (n : ℕ). eqb n 1)) (omega arith)) refl)
+        (λ l g. bits-none r plan marks₀ l (omega arith))
+        (λ l. Placing frame bytes l at (left l))
+        (λ l g d q. subst (Placing frame bytes (l + 1) at) (bits-behind q g) (placing-passed q g (takes-by q g d refl)))
+        k h (subst (Placing frame bytes i at) (p .left) p) (p .left) some e in
+        record { placing = subst (Placing frame bytes j at) (sym (x .rest)) (x .here); inside = x .inside; here = x .is-told }
 
     -- all others are passed over when nothing can be placed any more
     pub placing-over : (k : ℕ) {frame bytes : List ℕ} {i at m : ℕ} → i + k ≡ lastSlot → Placing frame bytes i at m

@@ -4,10 +4,9 @@ use Prim.Native.Nat.{ℕ, zero, suc, _+_, _*_, _/_, _%_, _^_, _≤_, _<_}
 use mathlib.Core.Path.{_≡_, refl, sym, ap, ap₂, subst, _∙_}
 use mathlib.Core.Bool.{Bool, true, false, cond}
 use mathlib.Core.List.{List, [], _∷_, _++_, append-assoc}
-use native.Mathlib.Nat.{lt-of-not-le, pow-suc, mul-add, mul-comm, mul-assoc, div-div-eq-div-mul}
 use native.Mathlib.Numerals.{add-one}
 use native.Mathlib.Omega.{arith}
-use lib.Count.{ones, ones-step, under, trailingZeros}
+use lib.Count.{ones, trailingZeros}
 use lib.Dec.{eqb}
 use lib.ListN.{length, getD, take, drop, length-drop, drop-of-length-le}
 use lib.Seq.{drop-cons, drop-drop, length-take-le}
@@ -18,22 +17,14 @@ use Rattle.slices.specs.Slices.{over}
 use Rattle.receiver_in_place.specs.Store.{numbered, slotsFor}
 use Rattle.receiver_in_place.proofs.Store.{length-numbered}
 use Rattle.slot_bits.specs.Bits.{slotBits}
+use Rattle.slot_bits.proofs.NextBit.{ones-from, next}
 use Rattle.receiver_hand_out.specs.Ready.{marked}
 
 -- as many bits as slots
 pub marked-ones : (r : ℕ) (ns : List ℕ) → ones (marked r ns) ≡ slotsFor r ns
 unfolding slotBits slotsFor ones
 marked-ones r [] = refl
-marked-ones r (n ∷ ns) = ones-step (cond (eqb n r) 1 0 + 2 * marked r ns) ∙ by-number (eqb n r) (marked-ones r ns)
-  where
-    by-number : (t : Bool) → ones (marked r ns) ≡ slotsFor r ns
-        → (cond t 1 0 + 2 * marked r ns) % 2 + ones ((cond t 1 0 + 2 * marked r ns) / 2) ≡ cond t 1 0 + slotsFor r ns
-    by-number true later =
-        let half : (1 + 2 * marked r ns) / 2 ≡ marked r ns = omega arith in
-        rw (half, later) (omega arith)
-    by-number false later =
-        let half : (0 + 2 * marked r ns) / 2 ≡ marked r ns = omega arith in
-        rw (half, later) (omega arith)
+marked-ones r (n ∷ ns) = ones-from (eqb n r) (marked r ns) ∙ ap (λ (k : ℕ). cond (eqb n r) 1 0 + k) (marked-ones r ns)
 
 -- no bit, no packet
 none-numbered : (r : ℕ) (ns bytes : List ℕ) → marked r ns ≡ 0 → numbered r ns bytes ≡ []
@@ -168,28 +159,8 @@ module _ (r : ℕ) (ns store out₀ : List ℕ) where
   -- which stands behind as many slots as the marks have zeros below
   pub handing-next : (k : ℕ) {out : List ℕ} {i at m : ℕ} → length ns ≤ i + k → HandingOut out i at → m ≡ marked r (drop i ns) → (m ≡ 0 → ⊥)
       → {j : ℕ} → i + trailingZeros k m ≡ j → Next out at j (m / 2 ^ trailingZeros k m)
-  unfolding trailingZeros
-  handing-next zero {out} {i} {at} {m} h w e some p =
-      let inside : i < length ns = lt-of-not-le (λ g. some (e ∙ marked-none r ns i g)) in
-      absurd (omega arith)
-  handing-next (suc k) {out} {i} {at} {m} h w e some {j} p =
-      let inside : i < length ns = lt-of-not-le (λ g. some (e ∙ marked-none r ns i g)) in
-      by-number (eqb (getD ns i 0) r) inside refl p (λ g e' some' p'. handing-next k (omega arith) g e' some' p')
-    where
-      by-number : (t : Bool) → i < length ns → eqb (getD ns i 0) r ≡ t → i + under (m % 2) (trailingZeros k (m / 2)) ≡ j
-          → (HandingOut out (i + 1) at → m / 2 ≡ marked r (drop (i + 1) ns) → (m / 2 ≡ 0 → ⊥) → i + 1 + trailingZeros k (m / 2) ≡ j → Next out at j (m / 2 / 2 ^ trailingZeros k (m / 2)))
-          → Next out at j (m / 2 ^ under (m % 2) (trailingZeros k (m / 2)))
-      by-number true inside d p later =
-          let marks = marked-from r ns i inside d in
-          let odd : m % 2 ≡ 1 = omega arith in
-          let there : i + under 1 (trailingZeros k (m / 2)) ≡ j = rw odd at p in
-          let at-it : i ≡ j = omega arith in
-          let whole : m / 2 ^ 0 ≡ m = omega arith in
-          rw (odd, whole, sym at-it) (record { handed = w; inside = inside; here = d; rest = e })
-      by-number false inside d p later =
-          let marks = marked-from r ns i inside d in
-          let even : m % 2 ≡ 0 = omega arith in
-          let t = trailingZeros k (m / 2) in
-          let there : i + under 0 t ≡ j = rw even at p in
-          let less : m / 2 ^ suc t ≡ m / 2 / 2 ^ t = ap (λ (n : ℕ). m / n) (pow-suc 2 t ∙ mul-comm (2 ^ t) 2) ∙ sym (div-div-eq-div-mul m 2 (2 ^ t)) in
-          rw (even, less) (later (handing-passed w inside d) (omega arith) (λ z. some (omega arith)) (omega arith))
+  handing-next k {out} {i} {at} h w e some p =
+      let x =
+      next (length ns) (λ l. eqb (getD ns l 0) r) (λ l. marked r (drop l ns)) (λ l g. marked-from r ns l g refl) (λ l g. marked-none r ns l g)
+      (λ l. HandingOut out l at) (λ l g d v. handing-passed v g d) k h w e some p in
+      record { handed = x .here; inside = x .inside; here = x .is-told; rest = x .rest }

@@ -1,2 +1,3 @@
+pub mod NextBit
 pub mod Sharing
 pub mod Summing
