@@ -1,0 +1,2 @@
+-- The slots' relative numbers, two a byte.
+pub mod Packed
