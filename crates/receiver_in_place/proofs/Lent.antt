@@ -1,26 +1,57 @@
 -- A receiver whose numbers are lent: each call over them is the receiver's own, of which the PID and the kind stay. Assumes nothing.
-use Prim.Native.Nat.{ℕ}
-use mathlib.Core.Path.{_≡_, refl, ap, _∙_}
+use Prim.Native.Nat.{ℕ, _^_}
+use mathlib.Core.Path.{_≡_, refl, ap, ap₂, _∙_}
 use mathlib.Core.Bool.{Bool, true, false, cond}
-use mathlib.Core.List.{List}
+use mathlib.Core.List.{List, [], _∷_, _++_}
+use native.Mathlib.Omega.{arith}
 use borrow.Author.Tests.{eq-eqb}
 use lib.Dec.{eqb}
-use lib.ListN.{length, take-append-drop}
+use lib.ListN.{length, take, drop, length-drop, take-append-drop}
+use lib.Seq.{length-take-le}
+use Rattle.bits.proofs.Laws.{fit-take, fit-drop}
+use Rattle.slices.specs.Slices.{someAtLeast}
+use Rattle.rules.proofs.Fields.{fit-some}
+use Rattle.refusal_table.specs.Refusal.{firstOf, none, more}
+use Rattle.slot_numbers.specs.Packed.{packedLength, packed, unpacked}
+use Rattle.slot_numbers.proofs.Packing.{packed-unpacked, none-past-last}
 use Rattle.setting.specs.declared.Kind.{Kind}
 use Rattle.counters.specs.Counters.{lastSlot}
 use Rattle.receiver_table.specs.declared.Stage.{Stage}
-use Rattle.receiver_table.specs.Table.{Sort, good, broken, other}
+use Rattle.receiver_table.specs.Table.{Sort, good, broken, other, stageChecks}
 use Rattle.receiver_in_place.specs.declared.Receiver.{Receiver}
 use Rattle.receiver_in_place.specs.declared.Received.{Received}
 use Rattle.receiver_in_place.specs.declared.HandedOut.{HandedOut}
 use Rattle.receiver_in_place.specs.declared.Step.{Step}
 use Rattle.receiver_in_place.specs.Receiving.{moved, renumbered, receiverAfter, receiverChecks, receiveRefusal, receiveOf, receiveStore, handOutRefusal, handOutOf, handOutBuffer}
 use Rattle.receiver_in_place.specs.InPlace.{numbersLength, receiverWith, numbersOf, stepOf, receiveStep, receiveNumbers, receiveInto, handOutWith, handOutInto}
+use Rattle.receiver_in_place.proofs.ReceiverChecks.{none-more}
 
--- the numbers as they are lent
-pub numbers-with : (pid : ℕ) (kind : Kind) (stage : Stage) (numbers : List ℕ) → numbersOf (receiverWith pid kind stage numbers) ≡ numbers
-unfolding numbersOf receiverWith
-numbers-with pid kind stage numbers = take-append-drop lastSlot numbers
+-- the numbers as they are lent, of which there are as many as two headers give, in bytes
+module _ (numbers : List ℕ) (l : length numbers ≡ numbersLength) where
+  first-long : length (take packedLength numbers) ≡ packedLength
+  first-long = length-take-le packedLength numbers (omega (arith, l))
+
+  second-long : length (drop packedLength numbers) ≡ packedLength
+  second-long = rw length-drop (omega (arith, l))
+
+  -- taken out and packed again, the first part and all of them
+  module _ (b : someAtLeast (2 ^ 8) numbers ≡ false) where
+    pub first-back : packed (unpacked (take packedLength numbers)) ≡ take packedLength numbers
+    first-back = packed-unpacked (take packedLength numbers) (first-long, fit-take packedLength (fit-some 8 numbers b))
+
+    pub numbers-with : (pid : ℕ) (kind : Kind) (stage : Stage) → numbersOf (receiverWith pid kind stage numbers) ≡ numbers
+    unfolding numbersOf receiverWith
+    numbers-with pid kind stage =
+        ap₂ (λ (x y : List ℕ). x ++ y) first-back (packed-unpacked (drop packedLength numbers) (second-long, fit-drop packedLength (fit-some 8 numbers b)))
+        ∙ take-append-drop packedLength numbers
+
+  -- none of them is out of range: behind the PID it is the stage that may be refused
+  pub stage-alone : (stage : Stage)
+      → firstOf (stageChecks stage
+      ++ ((17, someAtLeast (2 ^ 4) (unpacked (take packedLength numbers))) ∷ (17, someAtLeast (2 ^ 4) (unpacked (drop packedLength numbers))) ∷ []))
+      ≡ firstOf (stageChecks stage)
+  stage-alone stage =
+      none-more (stageChecks stage) (more (none-past-last (take packedLength numbers) first-long) (more (none-past-last (drop packedLength numbers) second-long) none))
 
 -- ---- the calls
 

@@ -1,15 +1,21 @@
 -- Laws of the receiver's checks. Assumes nothing.
-use Prim.Native.Nat.{_^_}
-use mathlib.Core.Path.{_≡_, refl}
-use mathlib.Core.Bool.{true}
-use mathlib.Core.List.{[], _∷_}
+use Prim.Native.Nat.{ℕ, _^_}
+use mathlib.Core.Path.{_≡_, refl, ap}
+use mathlib.Core.Bool.{true, cond}
+use mathlib.Core.List.{List, [], _∷_, _++_}
 use Rattle.slices.specs.Slices.{someAtLeast}
-use Rattle.refusal_table.specs.Refusal.{firstOf, NoneHolds}
-use Rattle.refusal_table.proofs.Refusals.{numbered, none-first, numbered-append}
+use Rattle.refusal_table.specs.Refusal.{Check, firstOf, NoneHolds}
+use Rattle.refusal_table.proofs.Refusals.{first-none, numbered, numbered-append}
 use Rattle.receiver_table.specs.declared.Stage.{Stage}
 use Rattle.receiver_in_place.specs.declared.Receiver.{Receiver}
 use Rattle.receiver_table.specs.Table.{stageChecks}
 use Rattle.receiver_in_place.specs.Receiving.{receiverChecks}
+
+-- checks that do not hold add nothing behind others
+pub none-more : (cs : List Check) {ds : List Check} → NoneHolds ds → firstOf (cs ++ ds) ≡ firstOf cs
+unfolding firstOf
+none-more [] p = first-none p
+none-more (c ∷ cs) p = ap (λ (n : ℕ). cond (c .1) (c .0) n) (none-more cs p)
 
 -- no check of a part has the number 0: where it answers 0, none holds
 
@@ -18,9 +24,6 @@ unfolding stageChecks
 stage-numbered Stage.Waiting = refl
 stage-numbered (Stage.Open from k) = refl
 stage-numbered (Stage.Ready from) = refl
-
-pub stage-none : (stage : Stage) → firstOf (stageChecks stage) ≡ 0 → NoneHolds (stageChecks stage)
-stage-none stage e = none-first (stageChecks stage) (stage-numbered stage) e
 
 pub receiver-numbered : (c : Receiver) → numbered (receiverChecks c) ≡ true
 unfolding receiverChecks

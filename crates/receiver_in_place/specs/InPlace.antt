@@ -1,11 +1,11 @@
--- The receiver's calls over lent numbers: 52 by the header of the open frame, and behind them the 52 by the header before it.
+-- The receiver's calls over lent numbers, two a byte: 26 bytes by the header of the open frame, and behind them 26 by the header before it.
 use Prim.Native.Nat.{ℕ}
 use mathlib.Core.Bool.{cond}
 use mathlib.Core.List.{List, _++_}
 use lib.Dec.{eqb}
 use lib.ListN.{length, take, drop}
 use Rattle.setting.specs.declared.Kind.{Kind}
-use Rattle.counters.specs.Counters.{lastSlot}
+use Rattle.slot_numbers.specs.Packed.{packedLength, packed, unpacked}
 use Rattle.receiver_table.specs.declared.Stage.{Stage}
 use Rattle.receiver_table.specs.declared.Event.{Event}
 use Rattle.receiver_in_place.specs.declared.Receiver.{Receiver}
@@ -14,18 +14,18 @@ use Rattle.receiver_in_place.specs.declared.HandedOut.{HandedOut}
 use Rattle.receiver_in_place.specs.declared.Step.{Step}
 use Rattle.receiver_in_place.specs.Receiving.{receiveOf, receiveStore, handOutOf, handOutBuffer}
 
--- the numbers by two headers
+-- the numbers by two headers, in bytes
 abbrev pub numbersLength : ℕ
-numbersLength = 104
+numbersLength = 52
 
 -- the receiver with these parts
 unfoldable pub receiverWith : ℕ → Kind → Stage → List ℕ → Receiver
 receiverWith pid kind stage numbers =
-    record { pid = pid; kind = kind; stage = stage; numbers = take lastSlot numbers; before = drop lastSlot numbers }
+    record { pid = pid; kind = kind; stage = stage; numbers = unpacked (take packedLength numbers); before = unpacked (drop packedLength numbers) }
 
 -- a receiver's numbers as they are lent
 unfoldable pub numbersOf : Receiver → List ℕ
-numbersOf c = c .numbers ++ c .before
+numbersOf c = packed (c .numbers) ++ packed (c .before)
 
 -- what a receipt answers beside the numbers
 unfoldable pub stepOf : Received → Step

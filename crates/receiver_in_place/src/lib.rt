@@ -5,21 +5,18 @@ use receiver_table::Event;
 use receiver_table::Stage;
 use setting::Kind;
 use setting::SLOTS;
-use setting::limits;
+use slot_numbers::PACKED_BYTES;
 ghost use mathlib.Core.Path.{_≡_};
-ghost use Prim.Native.Nat.{_^_};
-ghost use lib.ListN.{length};
-ghost use Rattle.slices.specs.Slices.{someAtLeast};
 ghost use Rattle.setting.specs.declared.Kind.{Kind};
 ghost use Rattle.refusal_table.specs.Refusal.{firstOf};
 ghost use Rattle.receiver_in_place.specs.Receiving.{receiverChecks};
-ghost use Rattle.receiver_in_place.specs.InPlace.{numbersLength, receiverWith, lentRefusal};
+ghost use Rattle.receiver_in_place.specs.InPlace.{receiverWith, lentRefusal};
 
 // The bytes of the store: a packet for each slot but the header's.
 pub const STORE_BYTES: usize = PACKET_BYTES * SLOTS;
 
-// The slots' numbers by the header of the open frame and by the one before it.
-pub const NUMBERS_BYTES: usize = SLOTS + SLOTS;
+// The slots' numbers by the header of the open frame and by the one before it, two a byte.
+pub const NUMBERS_BYTES: usize = PACKED_BYTES + PACKED_BYTES;
 
 // A receiver's state. A saved one may hold anything: each call checks it.
 pub struct Receiver {
@@ -59,33 +56,7 @@ pub struct HandedOut {
     pub packets: usize,
 }
 
-// The numbers as two runs of whole vectors, of which the second starts before the first ends.
-const RUN: usize = 64;
-
-const SECOND_RUN: usize = NUMBERS_BYTES - RUN;
-
-// Whether some number is 16 or more: looks for the largest of both runs at once, since 104 is no whole number of vectors.
-fn some_past_last(numbers: &[u8]) -> bool
-    requires { ⌜ length (now numbers) ≡ numbersLength ⌝ }
-    ensures { λ r. ⌜ r ≡ someAtLeast (2 ^ 4) (now (numbers .entry)) ⌝ }
-{
-    let mut most = 0;
-    let mut i = 0;
-    while i < RUN {
-        let first = numbers[i];
-        if most < first {
-            most = first;
-        }
-        let second = numbers[SECOND_RUN + i];
-        if most < second {
-            most = second;
-        }
-        i += 1;
-    }
-    limits::NUMBERS <= most
-}
-
-// 1, 2 and 17: how many numbers are lent, and the state's PID and numbers, of either kind.
+// 1, 2 and 17: how many numbers are lent, and the state's PID and stage, of either kind. No number that four bits hold is out of range.
 pub fn state_refusal(pid: u16, stage: Stage, numbers: &[u8]) -> u8
     ensures { λ r. ⌜ ((kind : Kind) → r ≡ lentRefusal (now (numbers .entry)) (firstOf (receiverChecks (receiverWith pid kind stage (now (numbers .entry)))))) ⌝ }
 {
@@ -95,12 +66,5 @@ pub fn state_refusal(pid: u16, stage: Stage, numbers: &[u8]) -> u8
     if !rules::pid_allowed(pid) {
         return 2;
     }
-    let shown = receiver_stage::stage_refusal(stage);
-    if shown != 0 {
-        return shown;
-    }
-    if some_past_last(numbers) {
-        return 17;
-    }
-    0
+    receiver_stage::stage_refusal(stage)
 }

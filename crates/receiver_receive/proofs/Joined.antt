@@ -1,30 +1,52 @@
--- Numbers in two parts, put together. Assumes nothing.
-use Prim.Native.Nat.{ℕ, _+_, _≤_}
+-- Numbers in two parts, put together, and those of a header. Assumes nothing.
+use Prim.Native.Nat.{ℕ, _+_, _≤_, _^_}
 use mathlib.Core.Path.{_≡_, sym, ap, ap₂, _∙_}
+use mathlib.Core.Bool.{false}
 use mathlib.Core.List.{List, [], _++_}
 use native.Mathlib.Omega.{arith}
 use lib.ListN.{length, take, drop, replicate, length-drop, length-replicate}
 use lib.Seq.{length-take-le}
-use Rattle.slices.specs.Slices.{copied}
+use Rattle.slices.specs.Slices.{copied, someAtLeast}
 use Rattle.slices.proofs.Front.{put, front-none, front-part, front-length, front-all, copied-over}
-use Rattle.counters.specs.Counters.{lastSlot}
+use Rattle.setting.specs.declared.Kind.{Kind}
+use Rattle.rules.proofs.Fields.{fit-some}
+use Rattle.layout.specs.Rows.{place, rowAt}
+use Rattle.layout.specs.Header.{reading}
+use Rattle.layout.proofs.Cut.{part-row}
+use Rattle.layout.proofs.LaidOut.{laid-out}
+use Rattle.packet.specs.Packets.{packetLength}
+use Rattle.slot_numbers.specs.Packed.{packedLength, packed, unpacked}
+use Rattle.slot_numbers.proofs.Packing.{packed-unpacked}
 use Rattle.receiver_in_place.specs.InPlace.{numbersLength}
 
 -- a part of the numbers copied over as many zeros
-pub copied-part : (b : List ℕ) (i k : ℕ) → i + lastSlot ≤ length b → k ≡ lastSlot → copied (replicate lastSlot 0) (take k (drop i b)) ≡ take lastSlot (drop i b)
+pub copied-part : (b : List ℕ) (i k : ℕ) → i + packedLength ≤ length b → k ≡ packedLength → copied (replicate packedLength 0) (take k (drop i b)) ≡ take packedLength (drop i b)
 copied-part b i k h e =
-    rw e (copied-over _ _ (length-replicate {A = ℕ} lastSlot 0 ∙ sym (length-take-le lastSlot (drop i b) (rw length-drop (omega arith)))))
+    rw e (copied-over _ _ (length-replicate {A = ℕ} packedLength 0 ∙ sym (length-take-le packedLength (drop i b) (rw length-drop (omega arith)))))
 
-pub joined : (ns a b : List ℕ) → length ns ≡ numbersLength → length a ≡ lastSlot → length b ≡ lastSlot
-    → {x y : List ℕ} → x ≡ copied (take lastSlot (drop 0 ns)) a → y ≡ copied (take lastSlot (drop lastSlot (put 0 lastSlot ns x))) b
-    → put lastSlot lastSlot (put 0 lastSlot ns x) y ≡ a ++ b
+pub joined : (ns a b : List ℕ) → length ns ≡ numbersLength → length a ≡ packedLength → length b ≡ packedLength
+    → {x y : List ℕ} → x ≡ copied (take packedLength (drop 0 ns)) a → y ≡ copied (take packedLength (drop packedLength (put 0 packedLength ns x))) b
+    → put packedLength packedLength (put 0 packedLength ns x) y ≡ a ++ b
 joined ns a b l m n {x} {y} e f =
-    let into : length (take lastSlot ns) ≡ lastSlot = length-take-le lastSlot ns (omega (arith, l)) in
-    let first : x ≡ a = e ∙ copied-over (take lastSlot ns) a (into ∙ sym m) in
-    let fronted = front-part ns [] ns x 0 lastSlot (front-none ns) (ap length first ∙ m) in
-    let kept : length (put 0 lastSlot ns x) ≡ length ns = front-length ns x (put 0 lastSlot ns x) lastSlot fronted (omega (arith, l)) in
-    let into₂ : length (take lastSlot (drop lastSlot (put 0 lastSlot ns x))) ≡ lastSlot =
-    length-take-le lastSlot (drop lastSlot (put 0 lastSlot ns x)) (rw length-drop (omega (arith, kept, l))) in
-    let second : y ≡ b = f ∙ copied-over (take lastSlot (drop lastSlot (put 0 lastSlot ns x))) b (into₂ ∙ sym n) in
-    front-all ns (x ++ y) _ numbersLength (front-part ns x _ y lastSlot lastSlot fronted (ap length second ∙ n)) (omega (arith, l))
+    let into : length (take packedLength ns) ≡ packedLength = length-take-le packedLength ns (omega (arith, l)) in
+    let first : x ≡ a = e ∙ copied-over (take packedLength ns) a (into ∙ sym m) in
+    let fronted = front-part ns [] ns x 0 packedLength (front-none ns) (ap length first ∙ m) in
+    let kept : length (put 0 packedLength ns x) ≡ length ns = front-length ns x (put 0 packedLength ns x) packedLength fronted (omega (arith, l)) in
+    let into₂ : length (take packedLength (drop packedLength (put 0 packedLength ns x))) ≡ packedLength =
+    length-take-le packedLength (drop packedLength (put 0 packedLength ns x)) (rw length-drop (omega (arith, kept, l))) in
+    let second : y ≡ b = f ∙ copied-over (take packedLength (drop packedLength (put 0 packedLength ns x))) b (into₂ ∙ sym n) in
+    front-all ns (x ++ y) _ numbersLength (front-part ns x _ y packedLength packedLength fronted (ap length second ∙ n)) (omega (arith, l))
     ∙ ap₂ (λ (u v : List ℕ). u ++ v) first second
+
+numbers-said : (kind : Kind) (p : List ℕ) → length p ≡ packetLength → unpacked (take packedLength (drop 73 p)) ≡ reading kind p .«relative_ts_number»
+unfolding unpacked reading laid-out rowAt place
+numbers-said Kind.Plain p l = part-row p 73 26 4 52 (omega (arith, l)) (omega arith)
+numbers-said Kind.Extended p l = part-row p 73 26 4 52 (omega (arith, l)) (omega arith)
+
+-- a header's numbers are the bytes that it has them in
+pub opened-is : (kind : Kind) (p : List ℕ) → length p ≡ packetLength → someAtLeast (2 ^ 8) (take packedLength (drop 73 p)) ≡ false
+    → packed (reading kind p .«relative_ts_number») ≡ take packedLength (drop 73 p)
+opened-is kind p l b =
+    let opened = take packedLength (drop 73 p) in
+    ap packed (sym (numbers-said kind p l))
+    ∙ packed-unpacked opened (length-take-le packedLength (drop 73 p) (rw length-drop (omega (arith, l))), fit-some 8 opened b)

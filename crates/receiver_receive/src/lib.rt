@@ -8,12 +8,15 @@ use receiver_table::Row;
 use receiver_table::Stage;
 use setting::Kind;
 use setting::SLOTS;
+use slot_numbers::PACKED_BYTES;
 ghost use mathlib.Core.Path.{_≡_};
-ghost use mathlib.Core.Bool.{true};
+ghost use mathlib.Core.Bool.{true, false};
 ghost use mathlib.Core.List.{_++_};
-ghost use lib.ListN.{length};
+ghost use Prim.Native.Nat.{_^_};
+ghost use lib.ListN.{length, take, drop};
 ghost use Rattle.setting.specs.declared.Kind.{Kind};
-ghost use Rattle.counters.specs.Counters.{lastSlot};
+ghost use Rattle.slices.specs.Slices.{someAtLeast};
+ghost use Rattle.slot_numbers.specs.Packed.{packedLength};
 ghost use Rattle.packet.specs.Packets.{packetLength, unfit};
 ghost use Rattle.receiver_table.specs.Table.{other};
 ghost use Rattle.receiver_in_place.specs.Store.{storeLength};
@@ -61,17 +64,31 @@ fn accepted(row: Row) -> Step
 
 // Puts the numbers together: the open frame's, and behind them those of the frame before it.
 fn join(numbers: &mut [u8], opened: &[u8], before: &[u8])
-    requires { ⌜ (length (now opened) ≡ lastSlot) × (length (now before) ≡ lastSlot) ⌝ }
+    requires { ⌜ (length (now opened) ≡ packedLength) × (length (now before) ≡ packedLength) ⌝ }
     requires { ⌜ length (now numbers) ≡ numbersLength ⌝ }
     ensures { λ _. ⌜ now (numbers .exit) ≡ now (opened .entry) ++ now (before .entry) ⌝ }
 {
-    slices::copy(&mut numbers[0..SLOTS], opened);
-    slices::copy(&mut numbers[SLOTS..NUMBERS_BYTES], before);
+    slices::copy(&mut numbers[0..PACKED_BYTES], opened);
+    slices::copy(&mut numbers[PACKED_BYTES..NUMBERS_BYTES], before);
+}
+
+// The numbers behind a header: its own, which are looked at since packing them again has to give these bytes, and those that were the open
+// frame's.
+fn renew(numbers: &mut [u8], packet: &[u8])
+    requires { ⌜ (length (now numbers) ≡ numbersLength) × (length (now packet) ≡ packetLength) ⌝ }
+    ensures { λ _. ⌜ now (numbers .exit) ≡ take packedLength (drop 73 (now (packet .entry))) ++ take packedLength (now (numbers .entry)) ⌝ }
+    ensures { λ _. ⌜ someAtLeast (2 ^ 8) (take packedLength (drop 73 (now (packet .entry)))) ≡ false ⌝ }
+{
+    let mut before = [0u8; PACKED_BYTES];
+    slices::copy(&mut before, &numbers[0..PACKED_BYTES]);
+    slices::look(&packet[layout::NUMBERS..layout::PRIVATE]);
+    join(numbers, &packet[layout::NUMBERS..layout::PRIVATE], &before);
 }
 
 // Takes a packet that may stand in no slot: a header, whose numbers are the open frame's now, or a broken one.
 fn take_header(pid: u16, kind: Kind, stage: Stage, numbers: &mut [u8], packet: &[u8]) -> Step
     requires { ⌜ (length (now numbers) ≡ numbersLength) × (unfit pid (now packet) ≡ true) ⌝ }
+    requires { ⌜ someAtLeast (2 ^ 8) (now numbers) ≡ false ⌝ }
     requires { ⌜ receiveRefusal (receiverWith pid kind stage (now numbers)) (length (now packet)) storeLength ≡ 0 ⌝ }
     ensures { λ r. ⌜ r ≡ stepOf (receiveOf (receiverWith pid kind stage (now (numbers .entry))) (now (packet .entry)) storeLength) ⌝ }
     ensures { λ _. ⌜ now (numbers .exit) ≡ numbersOf (receiveOf (receiverWith pid kind stage (now (numbers .entry))) (now (packet .entry)) storeLength .state) ⌝ }
@@ -80,15 +97,13 @@ fn take_header(pid: u16, kind: Kind, stage: Stage, numbers: &mut [u8], packet: &
     if reading.refusal != 0 {
         return accepted(receiver_table::broken_row(stage));
     }
+    renew(numbers, packet);
     let said = reading.setting;
-    let opened = said.relative_ts_number;
-    let mut before = [0u8; SLOTS];
-    slices::copy(&mut before, &numbers[0..SLOTS]);
-    join(numbers, &opened, &before);
     accepted(receiver_table::header_row(stage, said.continuity_counter))
 }
 
-// Takes one packet, of a receiver whose numbers are lent. Only a good header changes them.
+// Takes one packet, of a receiver whose numbers are lent. Only a good header changes them. They are looked at because what is left of them
+// as it was is what packing them again gives, bytes being bytes.
 pub fn receive_in_place(
     pid: u16,
     kind: Kind,
@@ -101,6 +116,7 @@ pub fn receive_in_place(
     ensures { λ _. ⌜ now (numbers .exit) ≡ receiveNumbers pid kind stage (now (numbers .entry)) (now (packet .entry)) (length (now (store .entry))) ⌝ }
     ensures { λ _. ⌜ now (store .exit) ≡ receiveInto pid kind stage (now (numbers .entry)) (now (packet .entry)) (now (store .entry)) ⌝ }
 {
+    slices::look(numbers);
     let refusal = receive_refusal(pid, stage, numbers, packet.len(), store.len());
     if refusal != 0 {
         return Step {

@@ -15,8 +15,11 @@ use Rattle.receiver_receive.proofs.Steps.{kept-step, receives, refuses}
 use Rattle.receiver_receive.proofs.receive_in_place.Statement.{statement}
 use Rattle.receiver_receive.proofs.receive_in_place.Tie as tie
 
+abbrev looked : tie.Else1 → tie.After-look
+looked c = c .before .before .before
+
 abbrev start : tie.Else1 → tie.Start
-start c = c .before .before .before .before .before .before
+start c = looked c .before .before .before .before .before
 
 -- the receiver
 abbrev of : tie.Start → Receiver
@@ -32,6 +35,9 @@ unfitting c =
     let a = start k .args in
     may-not-stand (a .pid) (a .packet .now) (whole-packet (of (start k)) _ _ (accepted k .1)) (λ e. c .if2 .left (c .before .place-refusal .ensures ∙ e))
 
+look-requires : tie.Need-look-requires
+look-requires c κs = search needs
+
 receive-refusal-requires : tie.Need-receive-refusal-requires
 receive-refusal-requires c κs = search needs
 
@@ -41,8 +47,9 @@ same-length c = search needs
 returns : tie.Need-returns
 returns c =
     let call = c .before in
-    let a = call .before .before .before .before .before .args in
-    refuses (a .pid) (a .kind) (a .stage) (a .numbers .now) (a .packet .now) (a .store .now) (call .receive-refusal .ensures (a .kind)) (c .if1 .taken)
+    let look = call .before .before in
+    let a = look .before .before .before .before .before .args in
+    refuses (a .pid) (a .kind) (a .stage) (a .numbers .now) (a .packet .now) (look .look .ensures) (a .store .now) (call .receive-refusal .ensures (a .kind)) (c .if1 .taken)
 
 place-refusal-requires : tie.Need-place-refusal-requires
 place-refusal-requires c κs = search needs
@@ -76,8 +83,8 @@ returns-2 c =
     let a = s .args in
     let e = accepted k in
     let sort = other-sort (a .kind) (a .pid) (a .packet .now) (may-stand (a .pid) (a .packet .now) (sym (fit .before .place-refusal .ensures) ∙ fit .if2 .taken)) in
-    receives (a .pid) (a .kind) (a .stage) (a .numbers .now) (a .packet .now) (a .store .now) (e .0)
-    (kept-step (a .pid) (a .kind) (a .stage) (a .numbers .now) (a .packet .now) _ (c .accepted .ensures)
+    receives (a .pid) (a .kind) (a .stage) (a .numbers .now) (a .packet .now) (looked k .look .ensures) (a .store .now) (e .0)
+    (kept-step (a .pid) (a .kind) (a .stage) (a .numbers .now) (a .packet .now) (looked k .look .ensures) _ (e .0) (c .accepted .ensures)
     (other-receipt (of s) (a .packet .now) _ (e .1) sort (row .other-row .ensures)))
     (other-store (of s) (a .packet .now) (a .store .now) (e .1) sort (call .store-packet .ensures))
 
@@ -85,7 +92,7 @@ take-header-requires : tie.Need-take-header-requires
 take-header-requires c κs =
     let k = c .before .before .before in
     let e = accepted k in
-    ((e .0, unfitting (c .before)), rw (sym (whole-store (of (start k)) _ _ (e .1))) (e .1))
+    ((e .0, unfitting (c .before)), (looked k .look .ensures, rw (sym (whole-store (of (start k)) _ _ (e .1))) (e .1)))
 
 same-length-4 : tie.Need-same-length-4
 same-length-4 c = search needs
@@ -99,7 +106,7 @@ returns-3 c =
     let s = start k in
     let a = s .args in
     let e = accepted k in
-    receives (a .pid) (a .kind) (a .stage) (a .numbers .now) (a .packet .now) (a .store .now) (e .0)
+    receives (a .pid) (a .kind) (a .stage) (a .numbers .now) (a .packet .now) (looked k .look .ensures) (a .store .now) (e .0)
     (rw (whole-store (of s) _ _ (e .1)) (call .take-header .ensures))
     (unfit-store (of s) (a .packet .now) (a .store .now) (e .1) (unfitting unfitted))
 
@@ -107,6 +114,7 @@ pub receive-in-place-spec : {M : Type 1} → statement M
 receive-in-place-spec =
     tie.close
     (tie.spec
+    look-requires
     receive-refusal-requires
     same-length
     returns
