@@ -1,11 +1,11 @@
 -- The numbers that bytes say are the bytes' halves, the high one first. Assumes nothing.
-use Prim.Native.Nat.{ℕ, _*_, _/_, _%_}
+use Prim.Native.Nat.{ℕ, zero, suc, _*_, _/_, _%_}
 use mathlib.Core.Path.{_≡_, refl, sym, ap, ap₂, _∙_}
 use mathlib.Core.List.{List, [], _∷_, _++_, append-assoc, append-nil}
 use native.Mathlib.Nat.{mod-lt}
 use native.Mathlib.Omega.{arith}
 use lib.Dec.{lit<}
-use lib.ListN.{length}
+use lib.ListN.{length, getD}
 use Rattle.bits.specs.Fields.{Fit, none, more, bitsOf, run, cut}
 use Rattle.bits.proofs.Laws.{bitsOf-split, bitsOf-mod, cut-run}
 use Rattle.counters.specs.Counters.{lastSlot}
@@ -39,3 +39,22 @@ unfolding unpacked
 unpacked-halves bs l =
     let many : lastSlot ≡ length (halves bs) = sym (length-halves bs ∙ ap (λ (n : ℕ). 2 * n) l) in
     ap₂ (cut 4) many (run-halves bs ∙ sym (append-nil (run 4 (halves bs)))) ∙ cut-run (halves-fit bs) []
+
+-- half i
+pub high-half : (bs : List ℕ) (i : ℕ) → i % 2 ≡ 0 → getD (halves bs) i 0 ≡ getD bs (i / 2) 0 / 16 % 16
+unfolding halves
+high-half [] i e = refl
+high-half (b ∷ bs) zero e = refl
+high-half (b ∷ bs) (suc zero) e = absurd (omega arith)
+high-half (b ∷ bs) (suc (suc i)) e =
+    let next : suc (suc i) / 2 ≡ suc (i / 2) = omega arith in
+    high-half bs i (omega arith) ∙ rw next
+
+pub low-half : (bs : List ℕ) (i : ℕ) → i % 2 ≡ 1 → getD (halves bs) i 0 ≡ getD bs (i / 2) 0 % 16
+unfolding halves
+low-half [] i e = refl
+low-half (b ∷ bs) zero e = absurd (omega arith)
+low-half (b ∷ bs) (suc zero) e = refl
+low-half (b ∷ bs) (suc (suc i)) e =
+    let next : suc (suc i) / 2 ≡ suc (i / 2) = omega arith in
+    low-half bs i (omega arith) ∙ rw next
