@@ -1,19 +1,21 @@
 -- What handing out was given that is not refused, and what it answers and leaves. Assumes nothing.
-use Prim.Native.Nat.{ℕ, _*_}
+use Prim.Native.Nat.{ℕ, _*_, _≤_}
 use mathlib.Core.Path.{_≡_, refl, sym, ap, _∙_}
 use mathlib.Core.Bool.{Bool, true, false, cond, not}
 use mathlib.Core.List.{List, [], _∷_, _++_, append-assoc}
 use native.Mathlib.Decide.{ℕ-discrete}
 use native.Mathlib.Omega.{arith}
-use borrow.Author.Tests.{eq-eqb, ne-eqb, eqb-true, not-false}
-use lib.Dec.{eqb, ltb}
+use borrow.Author.Tests.{eq-eqb, ne-eqb, eqb-true, leb-true, not-false}
+use lib.Dec.{eqb, leb, ltb}
 use lib.ListN.{length, take, drop, length-drop}
 use lib.Seq.{take-all}
 use Rattle.slices.specs.Slices.{over}
+use Rattle.slices.proofs.Any.{both}
 use Rattle.setting.specs.declared.Kind.{Kind}
-use Rattle.counters.specs.Counters.{firstStream, lastStream, lastSlot, within}
+use Rattle.slot_numbers.specs.Packed.{packedLength, unpacked}
+use Rattle.counters.specs.Counters.{firstStream, lastStream, within}
 use Rattle.refusal_table.specs.Refusal.{Check, firstOf, NoneHolds, leaves}
-use Rattle.refusal_table.proofs.Refusals.{none-first, none-at, numbered-append, onward, at-once, kept}
+use Rattle.refusal_table.proofs.Refusals.{none-first, none-at, none-behind, numbered-append, onward, at-once, kept}
 use Rattle.packet.specs.Packets.{packetLength}
 use Rattle.receiver_table.specs.declared.Stage.{Stage}
 use Rattle.receiver_table.specs.Table.{isReady}
@@ -27,8 +29,8 @@ use Rattle.receiver_in_place.proofs.LentRefusal.{own-refusal, other-refusal}
 use Rattle.receiver_hand_out.specs.Ready.{readyChecks}
 
 -- the second part is all that is behind the first
-pub behind-first : (ns : List ℕ) → length ns ≡ numbersLength → take lastSlot (drop lastSlot ns) ≡ drop lastSlot ns
-behind-first ns l = take-all lastSlot (drop lastSlot ns) (rw length-drop (omega (arith, l)))
+pub behind-first : (ns : List ℕ) → length ns ≡ numbersLength → unpacked (take packedLength (drop packedLength ns)) ≡ unpacked (drop packedLength ns)
+behind-first ns l = ap unpacked (take-all packedLength (drop packedLength ns) (rw length-drop (omega (arith, l))))
 
 pub receiver-none : (c : Receiver) → firstOf (receiverChecks c) ≡ 0 → NoneHolds (receiverChecks c)
 receiver-none c e = none-first (receiverChecks c) (receiver-numbered c) e
@@ -58,6 +60,12 @@ module _ (c : Receiver) (r store : ℕ) where
     pub handed-store : store ≡ storeLength
     unfolding readyChecks
     handed-store = eqb-true store storeLength (not-false _ (none-at none-before 0))
+
+    pub handed-number : (firstStream ≤ r) × (r ≤ lastStream)
+    unfolding readyChecks
+    handed-number =
+        let allowed = both (leb firstStream r) (leb r lastStream) (not-false _ (none-at (none-behind (receiverChecks c) (none-behind ((1, not (eqb store storeLength)) ∷ []) none-before)) 0)) in
+        (leb-true firstStream r (allowed .0), leb-true r lastStream (allowed .1))
 
     by-room : (out : ℕ) → handOutRefusal c r store out ≡ cond (short out) 15 0
     unfolding firstOf

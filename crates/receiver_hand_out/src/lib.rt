@@ -6,7 +6,7 @@ use receiver_in_place::HandedOut;
 use receiver_in_place::NUMBERS_BYTES;
 use receiver_in_place::STORE_BYTES;
 use receiver_table::Stage;
-use setting::SLOTS;
+use slot_numbers::PACKED_BYTES;
 ghost use mathlib.Core.Path.{_≡_};
 ghost use lib.ListN.{length};
 ghost use Rattle.setting.specs.declared.Kind.{Kind};
@@ -56,5 +56,5 @@ pub fn hand_out_in_place(
             packets: 0,
         };
     }
-    numbered::hand_out(out, store, &numbers[SLOTS..NUMBERS_BYTES], r.0)
+    numbered::hand_out(out, store, &numbers[PACKED_BYTES..NUMBERS_BYTES], r.0)
 }

@@ -1,1 +1,2 @@
+pub mod Halves
 pub mod Packing

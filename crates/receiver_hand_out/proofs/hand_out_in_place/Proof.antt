@@ -3,13 +3,13 @@ use mathlib.Core.Path.{_≡_}
 use borrow.Author.Needs.{needs}
 use lib.ListN.{length, take, drop}
 use Rattle.setting.specs.declared.Kind.{Kind}
-use Rattle.counters.specs.Counters.{lastSlot}
+use Rattle.slot_numbers.specs.Packed.{packedLength, unpacked}
 use Rattle.refusal_table.specs.Refusal.{firstOf}
 use Rattle.receiver_in_place.specs.declared.Receiver.{Receiver}
 use Rattle.receiver_in_place.specs.InPlace.{numbersLength, receiverWith}
 use Rattle.receiver_in_place.proofs.LentRefusal.{lent-accepted}
 use Rattle.receiver_hand_out.specs.Ready.{readyChecks}
-use Rattle.receiver_hand_out.proofs.Frames.{behind-first, state-first, refused-before, handed-store, handed-frame, handed-buffer, hands, refuses-frame}
+use Rattle.receiver_hand_out.proofs.Frames.{behind-first, state-first, refused-before, handed-store, handed-number, handed-frame, handed-buffer, hands, refuses-frame}
 use Rattle.receiver_hand_out.proofs.hand_out_in_place.Statement.{statement}
 use Rattle.receiver_hand_out.proofs.hand_out_in_place.Tie as tie
 
@@ -26,7 +26,8 @@ accepted : (c : tie.Else1)
 accepted c = lent-accepted (start c .args .numbers .now) _ (c .before .ready-refusal .ensures) (c .if1 .left)
 
 -- the numbers of the frame before
-part : (c : tie.Else1) → take lastSlot (drop lastSlot (start c .args .numbers .now)) ≡ drop lastSlot (start c .args .numbers .now)
+part : (c : tie.Else1)
+    → unpacked (take packedLength (drop packedLength (start c .args .numbers .now))) ≡ unpacked (drop packedLength (start c .args .numbers .now))
 part c = behind-first (start c .args .numbers .now) (accepted c .0)
 
 ready-refusal-requires : tie.Need-ready-refusal-requires
@@ -55,7 +56,9 @@ part-hand-out-end c =
 hand-out-requires : tie.Need-hand-out-requires
 hand-out-requires c κs =
     let k = c .before .before in
-    (search needs, handed-store (of (start k)) (start k .args .r .0) _ (accepted k .1))
+    let s = start k in
+    let number = handed-number (of s) (s .args .r .0) (length (s .args .store .now)) (accepted k .1) in
+    (search needs, handed-store (of s) (s .args .r .0) _ (accepted k .1), number .0, number .1)
 
 same-length : tie.Need-same-length
 same-length c = search needs

@@ -10,6 +10,8 @@ use lib.ListN.{length, take, drop}
 use Rattle.slices.proofs.Front.{copied-over}
 use Rattle.slices.proofs.Toward.{toward-length}
 use Rattle.counters.specs.Counters.{lastSlot}
+use Rattle.slot_numbers.specs.Packed.{unpacked}
+use Rattle.slot_numbers.proofs.Packing.{length-unpacked}
 use Rattle.packet.specs.Packets.{packetLength}
 use Rattle.receiver_in_place.specs.Store.{slotsFor}
 use Rattle.receiver_hand_out.specs.Ready.{marked}
@@ -19,7 +21,7 @@ use Rattle.receiver_hand_out.proofs.numbered.hand_out.Tie as tie
 
 abbrev Inv-loop : tie.InvT-loop
 Inv-loop out₀ store numbers r marks packets rest₀ i₀ at₀ out rest i at =
-    (i ≤ lastSlot) × (at ≤ length out₀) × (length out ≡ length out₀) × HandingOut r numbers store out₀ out i at × (rest ≡ marked r (drop i numbers))
+    (i ≤ lastSlot) × (at ≤ length out₀) × (length out ≡ length out₀) × HandingOut r (unpacked numbers) store out₀ out i at × (rest ≡ marked r (drop i (unpacked numbers)))
 
 abbrev μ-loop : tie.MeasureT-loop
 μ-loop out₀ store numbers r marks packets rest₀ i₀ at₀ out rest i at = lastSlot - i
@@ -32,8 +34,8 @@ abbrev start : tie.At-loop Inv-loop μ-loop → tie.Start Inv-loop μ-loop
 start c = given (c .before .before)
 
 -- how many slots have the number
-counted : (c : tie.After-marks-of Inv-loop μ-loop) → ones (c .marks-of .result) ≡ slotsFor (given c .args .r) (given c .args .numbers .now)
-counted c = ap ones (c .marks-of .ensures) ∙ marked-ones (given c .args .r) (given c .args .numbers .now)
+counted : (c : tie.After-marks-of Inv-loop μ-loop) → ones (c .marks-of .result) ≡ slotsFor (given c .args .r) (unpacked (given c .args .numbers .now))
+counted c = ap ones (c .marks-of .ensures) ∙ marked-ones (given c .args .r) (unpacked (given c .args .numbers .now))
 
 -- the slots that are passed over, and the next one with the number
 abbrev zeros : tie.In-loop Inv-loop μ-loop → ℕ
@@ -43,13 +45,16 @@ abbrev slot : tie.In-loop Inv-loop μ-loop → ℕ
 slot c = c .before .loop .i + zeros c
 
 found : (c : tie.In-loop Inv-loop μ-loop)
-    → Next (start (c .before) .args .r) (start (c .before) .args .numbers .now) (start (c .before) .args .store .now) (start (c .before) .args .out .now)
+    → Next (start (c .before) .args .r) (unpacked (start (c .before) .args .numbers .now)) (start (c .before) .args .store .now) (start (c .before) .args .out .now)
     (c .before .loop .out) (c .before .loop .at) (slot c) (c .before .loop .rest / 2 ^ zeros c)
-found c = handing-next _ _ _ _ 64 (omega arith) (c .before .loop .inv .3) (c .before .loop .inv .4) (c .loop-test .taken) refl
+found c =
+    let many = length-unpacked (start (c .before) .args .numbers .now) in
+    handing-next _ _ _ _ 64 (omega arith) (c .before .loop .inv .3) (c .before .loop .inv .4) (c .loop-test .taken) refl
 
 inside : (c : tie.In-loop Inv-loop μ-loop) → slot c < lastSlot
 inside c =
     let next = found c .inside in
+    let many = length-unpacked (start (c .before) .args .numbers .now) in
     omega arith
 
 -- for whose packet there is room
@@ -89,11 +94,13 @@ returns : tie.Need-returns Inv-loop μ-loop
 returns c =
     let s = given (c .before) in
     let n = counted (c .before) in
-    let less = lt-ltb (length (s .args .out .now)) (packetLength * slotsFor (s .args .r) (s .args .numbers .now)) (omega arith) in
+    let less = lt-ltb (length (s .args .out .now)) (packetLength * slotsFor (s .args .r) (unpacked (s .args .numbers .now))) (omega arith) in
     (rw less refl, rw less refl)
 
 loop-holds : tie.Need-loop-holds Inv-loop μ-loop
-loop-holds c = (omega arith, omega arith, refl, handing-none _ _ _ _ (omega arith), c .before .marks-of .ensures)
+loop-holds c =
+    let many = length-unpacked (given (c .before) .args .numbers .now) in
+    (omega arith, omega arith, refl, handing-none _ _ _ _ (omega arith), c .before .marks-of .ensures)
 
 cast-i : tie.Need-cast-i Inv-loop μ-loop
 cast-i c =
@@ -190,7 +197,7 @@ returns-2 c =
     let s = start k in
     let n = counted (k .before .before) in
     let enough = k .before .if1 .left in
-    let holds = le-ltb (length (s .args .out .now)) (packetLength * slotsFor (s .args .r) (s .args .numbers .now)) (omega arith) in
+    let holds = le-ltb (length (s .args .out .now)) (packetLength * slotsFor (s .args .r) (unpacked (s .args .numbers .now))) (omega arith) in
     (rw (holds, n) refl, rw holds (handing-all _ _ _ _ (k .loop .inv .3) (sym (k .loop .inv .4) ∙ c .loop-test .left)))
 
 pub hand-out-spec : {M : Type 1} → statement M

@@ -1,6 +1,6 @@
 -- `marks_of` meets its contract: the shares of the slots before slot i are left. Assumes nothing.
 use Prim.Native.Nat.{ℕ, zero, suc, _+_, _-_, _≤_, _<_}
-use mathlib.Core.Path.{_≡_, refl, _∙_}
+use mathlib.Core.Path.{_≡_, refl, sym, ap, _∙_}
 use mathlib.Core.Bool.{Bool, false}
 use mathlib.Core.List.{List, [], _∷_, map}
 use native.Mathlib.Omega.{arith}
@@ -8,25 +8,27 @@ use borrow.Author.Needs.{needs}
 use lib.Dec.{eqb}
 use lib.ListN.{length, getD, length-map}
 use Rattle.counters.specs.Counters.{lastSlot}
+use Rattle.slot_numbers.specs.Packed.{unpacked}
+use Rattle.slot_numbers.proofs.Packing.{length-unpacked}
 use Rattle.slot_bits.proofs.Sharing.{Sharing, sharing-none, sharing-more, sharing-long, sharing-all}
 use Rattle.receiver_hand_out.proofs.numbered.marks_of.Statement.{statement}
 use Rattle.receiver_hand_out.proofs.numbered.marks_of.Tie as tie
 
 abbrev Inv-loop : tie.InvT-loop
-Inv-loop numbers r shares₀ i₀ shares i = (i ≤ lastSlot) × (length shares ≡ lastSlot) × Sharing (map (λ (n : ℕ). eqb n r) numbers) shares i
+Inv-loop numbers r shares₀ i₀ shares i = (i ≤ lastSlot) × (length shares ≡ lastSlot) × Sharing (map (λ (n : ℕ). eqb n r) (unpacked numbers)) shares i
 
 abbrev μ-loop : tie.MeasureT-loop
 μ-loop numbers r shares₀ i₀ shares i = lastSlot - i
 
 -- which slots have the number, how many slots there are, and slot i as it is asked
 abbrev told : tie.Start Inv-loop μ-loop → List Bool
-told c = map (λ (n : ℕ). eqb n (c .args .r)) (c .args .numbers .now)
+told c = map (λ (n : ℕ). eqb n (c .args .r)) (unpacked (c .args .numbers .now))
 
 told-long : (c : tie.Start Inv-loop μ-loop) → length (told c) ≡ lastSlot
-told-long c = length-map (c .args .numbers .now) (λ (n : ℕ). eqb n (c .args .r)) ∙ c .pre
+told-long c = length-map (unpacked (c .args .numbers .now)) (λ (n : ℕ). eqb n (c .args .r)) ∙ length-unpacked (c .args .numbers .now)
 
-asked : (c : tie.Start Inv-loop μ-loop) (i : ℕ) → i < lastSlot → getD (told c) i false ≡ eqb (getD (c .args .numbers .now) i 0) (c .args .r)
-asked c i inside = each (c .args .numbers .now) i (omega (arith, c .pre))
+asked : (c : tie.Start Inv-loop μ-loop) (i : ℕ) → i < lastSlot → getD (told c) i false ≡ eqb (getD (unpacked (c .args .numbers .now)) i 0) (c .args .r)
+asked c i inside = each (unpacked (c .args .numbers .now)) i (omega (arith, length-unpacked (c .args .numbers .now)))
   where
     each : (ns : List ℕ) (i : ℕ) → i < length ns → getD (map (λ (n : ℕ). eqb n (c .args .r)) ns) i false ≡ eqb (getD ns i 0) (c .args .r)
     each [] i h = absurd (omega arith)
@@ -36,8 +38,8 @@ asked c i inside = each (c .args .numbers .now) i (omega (arith, c .pre))
 loop-holds : tie.Need-loop-holds Inv-loop μ-loop
 loop-holds c = (omega arith, omega arith, sharing-none (told (c .before)))
 
-shared-slice-read-share : tie.Need-shared-slice-read-share Inv-loop μ-loop
-shared-slice-read-share c = search needs
+number-at-requires : tie.Need-number-at-requires Inv-loop μ-loop
+number-at-requires c κs = search needs
 
 share-requires : tie.Need-share-requires Inv-loop μ-loop
 share-requires c κs = search needs
@@ -57,7 +59,7 @@ loop-again c =
     let start = loop .before .before in
     let i = loop .loop .i in
     let inside : i < lastSlot = omega arith in
-    let shared = sharing-more (told start) (told-long start) (loop .loop .inv .2) inside (asked start i inside) (c .share .ensures) in
+    let shared = sharing-more (told start) (told-long start) (loop .loop .inv .2) inside (asked start i inside ∙ ap (λ (n : ℕ). eqb n (start .args .r)) (sym (c .before .number-at .ensures))) (c .share .ensures) in
     (omega arith, sharing-long (told start) (told-long start) shared (omega arith), shared)
 
 summed-of-requires : tie.Need-summed-of-requires Inv-loop μ-loop
@@ -76,7 +78,7 @@ marks-of-spec =
     Inv-loop
     μ-loop
     loop-holds
-    shared-slice-read-share
+    number-at-requires
     share-requires
     array-write-shares
     add-i
