@@ -1,12 +1,12 @@
 -- What each exported call answers and leaves, by how the receiver's own call went. Assumes nothing.
-use Prim.Native.Nat.{ℕ, _<_, _≤_}
+use Prim.Native.Nat.{ℕ, _/_, _%_, _^_, _<_, _≤_}
 use mathlib.Core.Path.{_≡_, refl, sym, ap, _∙_}
-use mathlib.Core.Bool.{true, false, not}
+use mathlib.Core.Bool.{Bool, true, false, not}
 use mathlib.Core.List.{List, [], _∷_}
 use native.Mathlib.Omega.{arith}
 use borrow.Author.Tests.{eq-eqb, ne-eqb, lt-ltb, le-ltb}
-use lib.ListN.{length, drop, replicate}
-use Rattle.slices.specs.Slices.{copied}
+use lib.ListN.{length, getD, take, drop, replicate}
+use Rattle.slices.specs.Slices.{copied, someAtLeast}
 use Rattle.slices.proofs.Front.{put}
 use Rattle.setting.specs.declared.Kind.{Kind}
 use Rattle.refusal_table.specs.Refusal.{firstOf, none}
@@ -20,9 +20,11 @@ use Rattle.receiver_in_place.specs.declared.Step.{Step}
 use Rattle.receiver_in_place.specs.Receiving.{waiting, startReceiverOf, receiveOf, handOutOf}
 use Rattle.receiver_in_place.specs.InPlace.{numbersLength, numbersOf, stepOf, receiveStep, receiveNumbers, receiveInto, handOutWith, handOutInto}
 use Rattle.receiver_in_place.proofs.Lent.{lent-step, lent-numbers, lent-store, lent-frame, lent-buffer, keeps, refused-keeps}
-use Rattle.receiver_bytes.specs.Stages.{receiverLength, frontBytes}
+use Rattle.words.specs.Words.{wordBytes}
+use Rattle.receiver_bytes.specs.Stages.{receiverLength, stageBytes}
 use Rattle.board_receiver.specs.States.{receiverBytes, receiverOf, eventNumber}
-use Rattle.board_receiver.proofs.Parts.{renewed-bytes, put-back, lent, lent-length, said-whole, said-numbers}
+use Rattle.board_receiver.proofs.Parts.{kind-same, zeros-packed, renewed-bytes, put-back, lent, lent-length, said-whole, said-numbers}
+use Rattle.board_receiver.proofs.Uncoded.{no-kind}
 use Rattle.board_receiver.specs.Calls.{startRefused, startState, receiveRefused, receiveEvent, receiveState, receiveMemory, handOutRefused, handOutPackets, handOutMemory}
 
 -- ---- start
@@ -57,17 +59,26 @@ module _ (state : List ℕ) (pid kind : ℕ) where
       unfolding startReceiverOf
       fresh = rw p refl
 
-      -- zeros for numbers, and before them PID, kind and stage
-      pub starts : kind ≤ 1 → {t : Kind} → t ≡ kindOf kind → {numbers : List ℕ} → numbers ≡ replicate (length (lent state l)) 0
-          → {after : List ℕ} → after ≡ copied (put 6 numbersLength state numbers) (frontBytes pid t Stage.Waiting)
-          → Starts 0 after
-      unfolding startState waiting numbersOf
-      starts h k {numbers} n b =
+      -- zeros, and over them PID and kind
+      pub starts : kind ≤ 1 → {zeros after : List ℕ} → zeros ≡ replicate (length state) 0
+          → after ≡ copied zeros (pid / 256 ∷ pid % 256 ∷ kind ∷ []) → Starts 0 after
+      unfolding startState waiting receiverBytes wordBytes stageBytes copied
+      starts h {zeros} n e =
           let granted = sym (by-kind ∙ passed 17 [] (ap not (lt-ltb kind 2 (omega arith))) ∙ first-none none) in
-          let zeros : numbers ≡ numbersOf (waiting (kindOf kind) pid) = n ∙ ap (λ (m : ℕ). replicate m 0) (lent-length state l) in
-          (granted, b ∙ renewed-bytes (waiting (kindOf kind) pid) state l refl (sym k) refl zeros ∙ ap receiverBytes (sym fresh) ∙ written granted _ state refl)
+          let none-yet : zeros ≡ replicate receiverLength 0 = n ∙ ap (λ (m : ℕ). replicate m 0) l in
+          let bytes : receiverBytes (waiting (kindOf kind) pid) ≡ pid / 256 ∷ pid % 256 ∷ kind ∷ replicate 55 0 = rw (zeros-packed, kind-same kind (lt-ltb kind 2 (omega arith))) refl in
+          (granted, e ∙ rw none-yet (sym bytes) ∙ ap receiverBytes (sym fresh) ∙ written granted _ state refl)
 
 -- ---- receive
+
+-- beside a number that is no kind nothing is accepted
+accepted-kind : (state p : List ℕ) (store : ℕ) → receiveOf (receiverOf state) p store .refusal ≡ 0 → isKind (getD state 2 0) ≡ true
+unfolding receiverOf
+accepted-kind state p store e = by-kind (isKind (getD state 2 0)) refl
+  where
+    by-kind : (t : Bool) → isKind (getD state 2 0) ≡ t → t ≡ true
+    by-kind true k = refl
+    by-kind false k = absurd (no-kind state k p store e)
 
 module _ (state p store : List ℕ) where
   -- what is asked of the answer, of the event, and of what the state and the store are then
@@ -84,7 +95,7 @@ module _ (state p store : List ℕ) where
       (refusal, (rw other refl, (kept refusal _ state (λ z. omega (arith, z)), rw other refl)))
 
   -- the receiver's own call, over the numbers where they stand
-  module _ (l : length state ≡ receiverLength) {pid : ℕ} {kind : Kind} {stage : Stage}
+  module _ (l : length state ≡ receiverLength) (w : someAtLeast (2 ^ 8) state ≡ false) {pid : ℕ} {kind : Kind} {stage : Stage}
       (i : pid ≡ receiverOf state .pid) (k : kind ≡ receiverOf state .kind) (g : stage ≡ receiverOf state .stage)
       {step : Step} (s : step ≡ receiveStep pid kind stage (lent state l) p (length store))
       {after : List ℕ} (a : after ≡ receiveNumbers pid kind stage (lent state l) p (length store))
@@ -113,21 +124,22 @@ module _ (state p store : List ℕ) where
     pub receive-refused : (event : ℕ) → event ≡ eventNumber (step .event) → (step .refusal ≡ 0 → ⊥) → Receives (step .refusal) event (put 6 numbersLength state after) memory
     unfolding receiveState stepOf
     receive-refused event v h =
-        let same : after ≡ drop 6 state = left ∙ ap numbersOf (refused-keeps (receiverOf state) p (length store) (λ z. h (ap (λ (t : Step). t .refusal) answered ∙ z))) ∙ said-numbers state l in
+        let same : after ≡ drop 6 state = left ∙ ap numbersOf (refused-keeps (receiverOf state) p (length store) (λ z. h (ap (λ (t : Step). t .refusal) answered ∙ z))) ∙ said-numbers state l w in
         let back : put 6 numbersLength state after ≡ state = ap (put 6 numbersLength state) same ∙ put-back state l in
         (refusal, (said-event event v, (back ∙ kept refusal _ state h, stored)))
 
-    pub receives : (event : ℕ) → event ≡ eventNumber (step .event) → step .refusal ≡ 0 → (bytes : List ℕ)
-        → bytes ≡ copied (put 6 numbersLength state after) (frontBytes pid kind (step .stage))
-        → Receives 0 event bytes memory
+    pub receives : (event : ℕ) → event ≡ eventNumber (step .event) → step .refusal ≡ 0 → (three : List ℕ)
+        → three ≡ copied (take 3 (drop 3 (put 6 numbersLength state after))) (stageBytes (step .stage))
+        → Receives 0 event (put 3 3 (put 6 numbersLength state after) three) memory
     unfolding receiveState stepOf
-    receives event v z bytes b =
-        let same = keeps (receiverOf state) p (length store) in (
+    receives event v z three b =
+        let same = keeps (receiverOf state) p (length store) in
+        let kind = accepted-kind state p (length store) (sym (ap (λ (t : Step). t .refusal) answered) ∙ z) in (
           sym z ∙ refusal,
           (
             said-event event v,
             (
-              b ∙ renewed-bytes (r .state) state l (same .pid ∙ sym i) (same .kind ∙ sym k) (ap (λ (t : Step). t .stage) answered) left ∙ written refusal _ state z,
+              renewed-bytes (r .state) state l w kind (same .pid) (same .kind) (ap (λ (t : Step). t .stage) answered) left b ∙ written refusal _ state z,
               stored,
             ),
           ),

@@ -3,11 +3,14 @@ use Prim.Native.Nat.{ℕ}
 use mathlib.Core.Path.{_≡_, refl}
 use mathlib.Core.Bool.{true}
 use mathlib.Core.List.{[], _∷_}
+use native.Mathlib.Nat.{le-of-eq}
 use native.Mathlib.Omega.{arith}
 use lib.Seq.{take-at, drop-at, take-all}
 use Rattle.setting.specs.declared.Kind.{Kind}
 use Rattle.words.specs.Words.{wordBytes, wordAt}
 use Rattle.words.specs.Kinds.{isKind, kindOf, kindNumber}
+use Rattle.slot_numbers.specs.Packed.{packedLength, packed}
+use Rattle.slot_numbers.proofs.Packing.{length-packed, unpacked-packed}
 use Rattle.receiver_table.specs.declared.Stage.{Stage}
 use Rattle.receiver_bytes.specs.Stages.{stageBytes, stageOf}
 use Rattle.board_receiver.specs.States.{receiverBytes, receiverOf}
@@ -43,8 +46,10 @@ receiver-back c h =
       kind-back (c .kind) .0,
       kind-back (c .kind) .1,
       s .back,
-      take-at (c .numbers) (c .before) 52 (h .numbers .0),
-      drop-at (c .numbers) (c .before) 52 (h .numbers .0),
-      take-all 52 (c .before) (omega (arith, h .before .0)),
+      take-at (packed (c .numbers)) (packed (c .before)) packedLength (length-packed (c .numbers)),
+      drop-at (packed (c .numbers)) (packed (c .before)) packedLength (length-packed (c .numbers)),
+      take-all packedLength (packed (c .before)) (le-of-eq (length-packed (c .before))),
+      unpacked-packed (c .numbers) (h .numbers),
+      unpacked-packed (c .before) (h .before),
     )
     refl

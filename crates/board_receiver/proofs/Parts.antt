@@ -1,55 +1,94 @@
 -- A receiver's bytes, as they are written and read part by part. Assumes nothing.
-use Prim.Native.Nat.{ℕ, _+_, _*_, _≤_}
-use mathlib.Core.Path.{_≡_, refl, sym, ap, _∙_}
-use mathlib.Core.Bool.{cond}
-use mathlib.Core.List.{List, [], _∷_, _++_, append-assoc, append-nil}
+use Prim.Native.Nat.{ℕ, zero, suc, _+_, _*_, _/_, _%_, _^_, _≤_}
+use mathlib.Core.Path.{_≡_, refl, sym, ap, ap₂, _∙_}
+use mathlib.Core.Bool.{true, false, cond}
+use mathlib.Core.List.{List, [], _∷_, _++_, append-nil}
 use native.Mathlib.Omega.{arith}
-use borrow.Author.Tests.{eq-eqb}
+use borrow.Author.Tests.{eq-eqb, ltb-true}
 use lib.Dec.{eqb}
-use lib.ListN.{length, length-append, getD, take, drop, length-drop, drop-of-length-le, take-append-drop}
+use lib.ListN.{length, length-append, getD, replicate, take, drop, length-drop, drop-of-length-le, take-append-drop}
 use lib.Seq.{length-take-le, take-all, drop-at, drop-drop}
-use Rattle.slices.specs.Slices.{copied}
-use Rattle.slices.proofs.Front.{put}
-use Rattle.counters.specs.Counters.{lastSlot}
+use Rattle.bits.specs.Fields.{Fit, more, bitsOf, number, run, cut}
+use Rattle.bits.proofs.Laws.{fit-take, fit-drop}
+use Rattle.slices.specs.Slices.{copied, someAtLeast}
+use Rattle.slices.proofs.Front.{put, copied-over}
 use Rattle.setting.specs.declared.Kind.{Kind}
-use Rattle.words.specs.Words.{wordBytes}
-use Rattle.words.specs.Kinds.{kindOf, kindNumber}
+use Rattle.rules.proofs.Fields.{some-fit, fit-some}
+use Rattle.words.specs.Words.{wordBytes, wordAt}
+use Rattle.words.specs.Kinds.{isKind, kindOf, kindNumber}
+use Rattle.counters.specs.Counters.{lastSlot}
+use Rattle.slot_numbers.specs.Packed.{packedLength, packed}
 use Rattle.receiver_table.specs.declared.Stage.{Stage}
 use Rattle.receiver_in_place.specs.declared.Receiver.{Receiver}
 use Rattle.receiver_in_place.specs.InPlace.{numbersLength, receiverWith, numbersOf}
 use Rattle.receiver_in_place.proofs.Lent.{numbers-with}
-use Rattle.receiver_bytes.specs.Stages.{receiverLength, stageBytes, noStage, stageIn, frontBytes}
+use Rattle.receiver_bytes.specs.Stages.{receiverLength, stageBytes, noStage, stageIn}
 use Rattle.board_receiver.specs.States.{receiverBytes, receiverOf}
 
 -- ---- written
 
-front-length : (pid : ℕ) (kind : Kind) (stage : Stage) → length (frontBytes pid kind stage) ≡ 6
-unfolding wordBytes stageBytes
-front-length pid kind Stage.Waiting = refl
-front-length pid kind (Stage.Open from k) = refl
-front-length pid kind (Stage.Ready from) = refl
+stage-length : (stage : Stage) → length (stageBytes stage) ≡ 3
+unfolding stageBytes
+stage-length Stage.Waiting = refl
+stage-length (Stage.Open from k) = refl
+stage-length (Stage.Ready from) = refl
 
--- PID, kind and stage written before the numbers that were lent and came back
-pub renewed : (state after front : List ℕ) → length state ≡ receiverLength → length front ≡ 6 → copied (put 6 numbersLength state after) front ≡ front ++ after
-unfolding copied
-renewed state after front l f =
+pub kind-same : (n : ℕ) → isKind n ≡ true → kindNumber (kindOf n) ≡ n
+unfolding kindNumber kindOf
+kind-same zero e = refl
+kind-same (suc zero) e = refl
+kind-same (suc (suc n)) e =
+    let less = ltb-true (suc (suc n)) 2 e in
+    absurd (omega arith)
+
+-- no number yet
+pub zeros-packed : packed (replicate lastSlot 0) ≡ replicate packedLength 0
+unfolding packed run bitsOf cut number
+zeros-packed = refl
+
+-- PID and kind as they stand are what they say
+front-same : (b : List ℕ) → 3 ≤ length b → Fit 8 b → isKind (getD b 2 0) ≡ true → wordBytes (wordAt 0 b ∷ []) ++ (kindNumber (kindOf (getD b 2 0)) ∷ []) ≡ take 3 b
+unfolding wordBytes
+front-same [] h f k = absurd (omega arith)
+front-same (x ∷ []) h f k = absurd (omega arith)
+front-same (x ∷ y ∷ []) h f k = absurd (omega arith)
+front-same (x ∷ y ∷ z ∷ b) h (more f (more g t)) k =
+    let high : (x * 256 + y) / 256 ≡ x = omega arith in
+    let low : (x * 256 + y) % 256 ≡ y = omega arith in
+    rw (high, low, kind-same z k) refl
+
+three-first : (b ys : List ℕ) → 3 ≤ length b → take 3 (take 6 b ++ ys) ≡ take 3 b
+three-first [] ys h = absurd (omega arith)
+three-first (x ∷ []) ys h = absurd (omega arith)
+three-first (x ∷ y ∷ []) ys h = absurd (omega arith)
+three-first (x ∷ y ∷ z ∷ b) ys h = refl
+
+-- the numbers that were lent and came back, and the stage written before them
+renewed : (state after : List ℕ) (stage : Stage) {three : List ℕ} → length state ≡ receiverLength
+    → three ≡ copied (take 3 (drop 3 (put 6 numbersLength state after))) (stageBytes stage)
+    → put 3 3 (put 6 numbersLength state after) three ≡ take 3 state ++ (stageBytes stage ++ after)
+renewed state after stage {three} l e =
     let rest = drop numbersLength (drop 6 state) in
+    let now = put 6 numbersLength state after in
     let none : rest ≡ [] = drop-of-length-le (drop 6 state) {i = numbersLength} (rw length-drop (omega (arith, l))) in
     let six : length (take 6 state) ≡ 6 = length-take-le 6 state (omega (arith, l)) in
-    let room : length front ≤ length (put 6 numbersLength state after) = rw length-append (omega (arith, f, six)) in
-    ap (λ (t : List ℕ). t ++ drop (length front) (put 6 numbersLength state after)) (take-all (length (put 6 numbersLength state after)) front room)
-    ∙ ap (λ (k : ℕ). front ++ drop k (put 6 numbersLength state after)) f
-    ∙ ap (λ (t : List ℕ). front ++ t) (drop-at (take 6 state) (after ++ rest) 6 six)
-    ∙ ap (λ (t : List ℕ). front ++ (after ++ t)) none ∙ ap (λ (t : List ℕ). front ++ t) (append-nil after)
+    let long : 6 ≤ length now = rw length-append (omega (arith, six)) in
+    let written : three ≡ stageBytes stage =
+    e ∙ copied-over (take 3 (drop 3 now)) (stageBytes stage) (length-take-le 3 (drop 3 now) (rw length-drop (omega (arith, long))) ∙ sym (stage-length stage)) in
+    let front : take 3 now ≡ take 3 state = three-first state (after ++ rest) (omega (arith, l)) in
+    let behind : drop 3 (drop 3 now) ≡ after = drop-drop 3 3 now ∙ drop-at (take 6 state) (after ++ rest) 6 six ∙ ap (λ (t : List ℕ). after ++ t) none ∙ append-nil after in
+    ap₂ (λ (x y : List ℕ). x ++ y) front (ap₂ (λ (x y : List ℕ). x ++ y) written behind)
 
-pub renewed-bytes : (c : Receiver) (state : List ℕ) → length state ≡ receiverLength → {pid : ℕ} {kind : Kind} {stage : Stage} {after : List ℕ}
-    → c .pid ≡ pid → c .kind ≡ kind → stage ≡ c .stage → after ≡ numbersOf c
-    → copied (put 6 numbersLength state after) (frontBytes pid kind stage) ≡ receiverBytes c
-unfolding receiverBytes numbersOf
-renewed-bytes c state l p k g a =
-    rw (sym p, sym k, g, a)
-    (renewed state (c .numbers ++ c .before) (frontBytes (c .pid) (c .kind) (c .stage)) l (front-length (c .pid) (c .kind) (c .stage))
-    ∙ append-assoc (wordBytes (c .pid ∷ []) ++ (kindNumber (c .kind) ∷ [])) (stageBytes (c .stage)) (c .numbers ++ c .before))
+pub renewed-bytes : (c : Receiver) (state : List ℕ) → length state ≡ receiverLength → someAtLeast (2 ^ 8) state ≡ false → isKind (getD state 2 0) ≡ true
+    → {stage : Stage} {after three : List ℕ} → c .pid ≡ receiverOf state .pid → c .kind ≡ receiverOf state .kind → stage ≡ c .stage → after ≡ numbersOf c
+    → three ≡ copied (take 3 (drop 3 (put 6 numbersLength state after))) (stageBytes stage)
+    → put 3 3 (put 6 numbersLength state after) three ≡ receiverBytes c
+unfolding receiverBytes receiverOf numbersOf
+renewed-bytes c state l b k {stage} {after} p q g a e =
+    renewed state after stage l e
+    ∙ ap₂ (λ (x y : List ℕ). x ++ y)
+    (sym (ap₂ (λ (n : ℕ) (t : Kind). wordBytes (n ∷ []) ++ (kindNumber t ∷ [])) p q ∙ front-same state (omega (arith, l)) (fit-some 8 state b) k))
+    (ap₂ (λ (t : Stage) (x : List ℕ). stageBytes t ++ x) g a)
 
 -- numbers that came back as they were
 pub put-back : (state : List ℕ) → length state ≡ receiverLength → put 6 numbersLength state (drop 6 state) ≡ state
@@ -86,8 +125,10 @@ module _ (b : List ℕ) (l : length b ≡ receiverLength) where
   pub said-whole : receiverWith (receiverOf b .pid) (receiverOf b .kind) (receiverOf b .stage) lent ≡ receiverOf b
   unfolding receiverWith receiverOf
   said-whole =
-      let second : take lastSlot (drop 58 b) ≡ drop 58 b = take-all lastSlot (drop 58 b) (rw length-drop (omega (arith, l))) in
-      rw (lent-all, drop-drop lastSlot 6 b, second) refl
+      let second : take packedLength (drop 32 b) ≡ drop 32 b = take-all packedLength (drop 32 b) (rw length-drop (omega (arith, l))) in
+      rw (lent-all, drop-drop packedLength 6 b, second) refl
 
-  pub said-numbers : numbersOf (receiverOf b) ≡ drop 6 b
-  said-numbers = ap numbersOf (sym said-whole) ∙ numbers-with (receiverOf b .pid) (receiverOf b .kind) (receiverOf b .stage) lent ∙ lent-all
+  pub said-numbers : someAtLeast (2 ^ 8) b ≡ false → numbersOf (receiverOf b) ≡ drop 6 b
+  said-numbers e =
+      let bytes : someAtLeast (2 ^ 8) lent ≡ false = some-fit 8 lent (fit-take numbersLength (fit-drop 6 (fit-some 8 b e))) in
+      ap numbersOf (sym said-whole) ∙ numbers-with lent lent-length bytes (receiverOf b .pid) (receiverOf b .kind) (receiverOf b .stage) ∙ lent-all

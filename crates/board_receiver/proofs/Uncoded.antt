@@ -1,22 +1,24 @@
 -- Bytes that code no state are refused with 17. Assumes nothing.
 use Prim.Native.Nat.{ℕ, zero, suc}
-use mathlib.Core.Path.{_≡_, refl, ap, _∙_}
+use mathlib.Core.Path.{_≡_, refl, sym, ap, subst, _∙_}
 use mathlib.Core.Bool.{Bool, true, false, cond, not, _&&_, true≢false}
-use mathlib.Core.List.{List}
+use mathlib.Core.List.{List, [], _∷_}
 use native.Mathlib.Omega.{arith}
-use borrow.Author.Tests.{eq-eqb, ne-eqb}
+use borrow.Author.Tests.{eq-eqb, ne-eqb, eqb-true}
 use lib.Dec.{eqb}
 use lib.ListN.{length, getD}
-use Rattle.refusal_table.specs.Refusal.{firstOf}
+use Rattle.refusal_table.specs.Refusal.{firstOf, NoneHolds}
 use Rattle.rules.specs.Rules.{pidAllowed}
-use Rattle.refusal_table.proofs.Refusals.{passed, at-once}
+use Rattle.refusal_table.proofs.Refusals.{passed, at-once, none-first, none-at, none-before, none-behind}
 use Rattle.packet.specs.Packets.{packetLength}
 use Rattle.words.specs.Kinds.{isKind}
 use Rattle.receiver_table.specs.declared.Stage.{Stage}
 use Rattle.receiver_in_place.specs.declared.Receiver.{Receiver}
+use Rattle.receiver_in_place.specs.declared.Received.{Received}
 use Rattle.receiver_in_place.specs.Store.{storeLength}
 use Rattle.receiver_table.specs.Table.{stageChecks}
 use Rattle.receiver_in_place.specs.Receiving.{receiverChecks, receiveRefusal, handOutRefusal, receiveOf, handOutOf}
+use Rattle.receiver_in_place.proofs.ReceiverChecks.{receiver-numbered}
 use Rattle.receiver_bytes.specs.Stages.{noStage, stageOf}
 use Rattle.board_receiver.specs.States.{isStage, isCoded, receiverOf}
 use Rattle.board_receiver.specs.Calls.{receiveRefused, handOutRefused}
@@ -71,6 +73,27 @@ module _ (c : Receiver) (p : pidAllowed (c .pid) ≡ true) (s : c .stage ≡ noS
     hand-refused r out =
         let refused = receiver-refused in
         passed 1 _ (ap not (eq-eqb _ _ l)) ∙ at-once (receiverChecks c) _ (λ z. omega (arith, refused, z)) ∙ receiver-refused
+
+-- nothing is accepted beside a number that is no kind
+none-accepted : (c : Receiver) (packet store : ℕ) → c .stage ≡ noStage → receiveRefusal c packet store ≡ 0 → ⊥
+unfolding receiveRefusal receiverChecks stageChecks
+none-accepted c packet store s e =
+    let all = none-first ((1, not (eqb packet packetLength)) ∷ (1, not (eqb store storeLength)) ∷ receiverChecks c) (receiver-numbered c) e in
+    let stage = subst (λ (t : Stage). NoneHolds (stageChecks t)) s (none-before (stageChecks (c .stage)) _ (none-behind ((1, not (eqb packet packetLength)) ∷ (1, not (eqb store storeLength)) ∷ (2, not (pidAllowed (c .pid))) ∷ []) all)) in
+    true≢false (none-at stage 0)
+
+by-refusal : (n : ℕ) (new old : Received) → old .refusal ≡ n → cond (eqb n 0) new old .refusal ≡ 0 → n ≡ 0
+by-refusal n new old o e = by-test (eqb n 0) refl e
+  where
+    by-test : (t : Bool) → eqb n 0 ≡ t → cond t new old .refusal ≡ 0 → n ≡ 0
+    by-test true k e = eqb-true n 0 k
+    by-test false k e = sym o ∙ e
+
+pub no-kind : (state : List ℕ) → isKind (getD state 2 0) ≡ false → (p : List ℕ) (store : ℕ) → receiveOf (receiverOf state) p store .refusal ≡ 0 → ⊥
+unfolding receiveOf receiverOf
+no-kind state k p store e =
+    none-accepted (receiverOf state) (length p) store (ap (λ (t : Bool). cond t (stageOf (getD state 3 0) (getD state 4 0) (getD state 5 0)) noStage) k)
+    (by-refusal (receiveRefusal (receiverOf state) (length p) store) _ _ refl e)
 
 pub uncoded-refused : UncodedRefused
 unfolding receiveRefused handOutRefused receiverOf

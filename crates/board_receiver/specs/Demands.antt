@@ -10,12 +10,12 @@ use Rattle.words.specs.Words.{wordAt}
 use Rattle.receiver_in_place.specs.declared.Receiver.{Receiver}
 use Rattle.receiver_in_place.specs.Store.{storeLength}
 use Rattle.receiver_bytes.specs.Stages.{receiverLength}
-use Rattle.board_receiver.specs.States.{receiverBytes, receiverOf, OfItsTypes, isCoded}
+use Rattle.board_receiver.specs.States.{receiverBytes, receiverOf, Codable, isCoded}
 use Rattle.board_receiver.specs.Calls.{receiveRefused, handOutRefused}
 
 -- decoding what was encoded gives the value back
 abbrev pub StateBack : Type 0
-StateBack = (c : Receiver) → OfItsTypes c → receiverOf (receiverBytes c) ≡ c
+StateBack = (c : Receiver) → Codable c → receiverOf (receiverBytes c) ≡ c
 
 -- bytes with an allowed PID that code no state are refused with 17: by receive, whatever the packet, and by hand out, whatever
 -- the number and the buffer

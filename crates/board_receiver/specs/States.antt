@@ -8,14 +8,15 @@ use Rattle.words.specs.Words.{wordBytes, wordAt}
 use Rattle.words.specs.Kinds.{isKind, kindOf, kindNumber}
 use Rattle.counters.specs.Counters.{lastSlot}
 use Rattle.setting.specs.Setting.{Array}
+use Rattle.slot_numbers.specs.Packed.{packedLength, packed, unpacked}
 use Rattle.receiver_table.specs.declared.Event.{Event}
 use Rattle.receiver_bytes.specs.Stages.{stageBytes, stageIn}
 use Rattle.receiver_in_place.specs.declared.Receiver.{Receiver}
 
--- PID, kind, stage, the slots' numbers by the open frame's header and by the one before
+-- PID, kind, stage, the slots' numbers by the open frame's header and by the one before, as headers have them
 unfoldable pub receiverBytes : Receiver → List ℕ
 receiverBytes c =
-    (wordBytes (c .pid ∷ []) ++ (kindNumber (c .kind) ∷ [])) ++ (stageBytes (c .stage) ++ (c .numbers ++ c .before))
+    (wordBytes (c .pid ∷ []) ++ (kindNumber (c .kind) ∷ [])) ++ (stageBytes (c .stage) ++ (packed (c .numbers) ++ packed (c .before)))
 
 unfoldable pub receiverOf : List ℕ → Receiver
 receiverOf b =
@@ -23,15 +24,15 @@ receiverOf b =
       pid = wordAt 0 b;
       kind = kindOf (getD b 2 0);
       stage = stageIn b;
-      numbers = take 52 (drop 6 b);
-      before = take 52 (drop 58 b);
+      numbers = unpacked (take packedLength (drop 6 b));
+      before = unpacked (take packedLength (drop 32 b));
     }
 
--- what the code's types say of a receiver
-pub record OfItsTypes (c : Receiver) : Type 0 where
+-- a receiver that bytes can say: a PID of 16 bits, and a number of four for each slot; any other is refused with 17
+pub record Codable (c : Receiver) : Type 0 where
   pub pid : c .pid < 2 ^ 16
-  pub numbers : Array lastSlot 8 (c .numbers)
-  pub before : Array lastSlot 8 (c .before)
+  pub numbers : Array lastSlot 4 (c .numbers)
+  pub before : Array lastSlot 4 (c .before)
 
 -- whether three bytes are a stage's: 0 to 2; waiting has no counter and nothing stored; ready has nothing stored
 abbrev pub isStage : ℕ → ℕ → ℕ → Bool

@@ -1,7 +1,9 @@
-// The call for C that takes a packet: the receiver's own under the coding of its state. The slots' numbers stay where they are, so that
-// a packet costs no copy of them.
+// The call for C that takes a packet: the receiver's own under the coding of its state. What a packet does not change stays where it is,
+// and is looked at, since what is not written has to be what the state's coding would write.
+use receiver_bytes::KIND;
 use receiver_bytes::NUMBERS;
 use receiver_bytes::RECEIVER_BYTES;
+use receiver_bytes::STAGE;
 use receiver_table::Event;
 ghost use mathlib.Core.Path.{_≡_};
 ghost use Rattle.board_receiver.specs.States.{eventNumber};
@@ -40,8 +42,9 @@ pub extern "C" fn niranbok_receiver_receive(
         *event = 0;
         return 1;
     }
+    slices::look(state);
     let pid = words::word(state[0], state[1]);
-    let kind = words::kind_of(state[2]);
+    let kind = words::kind_of(state[KIND]);
     let stage = receiver_bytes::stage_in(state);
     let step = receiver_receive::receive_in_place(
         pid,
@@ -57,6 +60,6 @@ pub extern "C" fn niranbok_receiver_receive(
         return step.refusal;
     }
     let after = step.stage;
-    receiver_bytes::write_front(state, pid, kind, after);
+    receiver_bytes::write_stage(&mut state[STAGE..NUMBERS], after);
     0
 }

@@ -1,11 +1,9 @@
 // The call for C that starts a receiver: the state is lent bytes.
-use receiver_bytes::NUMBERS;
 use receiver_bytes::RECEIVER_BYTES;
-use receiver_table::Stage;
 ghost use mathlib.Core.Path.{_≡_};
 ghost use Rattle.board_receiver.specs.Calls.{startRefused, startState};
 
-// Starts a receiver: writes its state.
+// Starts a receiver: writes its state. Waiting is zeros, and so are no numbers.
 #[no_mangle]
 pub extern "C" fn niranbok_receiver_start(state: &mut [u8], pid: u16, kind: u8) -> u8
     ensures { λ r. ⌜ r ≡ startRefused (now (state .entry)) pid kind ⌝ }
@@ -20,7 +18,10 @@ pub extern "C" fn niranbok_receiver_start(state: &mut [u8], pid: u16, kind: u8) 
     if 1 < kind {
         return 17;
     }
-    slices::fill(&mut state[NUMBERS..RECEIVER_BYTES], 0);
-    receiver_bytes::write_front(state, pid, words::kind_of(kind), Stage::Waiting);
+    let high = (pid / 256) as u8;
+    let low = (pid % 256) as u8;
+    let front = [high, low, kind];
+    slices::fill(state, 0);
+    slices::copy(state, &front);
     0
 }

@@ -1,2 +1,2 @@
--- The front of a receiver's state as bytes.
+-- A receiver's state as bytes: its length, and its stage.
 pub mod Stages

@@ -1,17 +1,15 @@
 -- A stage as bytes, and what bytes say as a stage.
 use Prim.Native.Nat.{ℕ}
 use mathlib.Core.Bool.{cond, _&&_}
-use mathlib.Core.List.{List, [], _∷_, _++_}
+use mathlib.Core.List.{List, [], _∷_}
 use lib.Dec.{eqb}
 use lib.ListN.{getD}
-use Rattle.setting.specs.declared.Kind.{Kind}
-use Rattle.words.specs.Words.{wordBytes}
-use Rattle.words.specs.Kinds.{isKind, kindNumber}
+use Rattle.words.specs.Kinds.{isKind}
 use Rattle.receiver_table.specs.declared.Stage.{Stage}
 
 -- how many bytes a state has
 abbrev pub receiverLength : ℕ
-receiverLength = 110
+receiverLength = 58
 
 -- where a receiver stands: 0 waiting, 1 open, 2 ready; the open frame's counter; how many packets of it are stored
 unfoldable pub stageBytes : Stage → List ℕ
@@ -32,7 +30,3 @@ stageOf tag from k =
 -- the stage that a state's bytes say: beside a number that is no kind, none
 abbrev pub stageIn : List ℕ → Stage
 stageIn b = cond (isKind (getD b 2 0)) (stageOf (getD b 3 0) (getD b 4 0) (getD b 5 0)) noStage
-
--- PID, kind and stage, with which a state's bytes begin
-abbrev pub frontBytes : ℕ → Kind → Stage → List ℕ
-frontBytes pid kind stage = (wordBytes (pid ∷ []) ++ (kindNumber kind ∷ [])) ++ stageBytes stage

@@ -1,19 +1,25 @@
-// The front of a receiver's state as bytes, read and written: PID, kind and stage.
+// A receiver's state as bytes: PID, kind, stage and the slots' numbers; the stage read and written.
 use receiver_table::Stage;
-use setting::Kind;
-use setting::SLOTS;
+use slot_numbers::PACKED_BYTES;
 ghost use mathlib.Core.Path.{_≡_};
 ghost use mathlib.Core.Bool.{cond};
 ghost use lib.Dec.{eqb};
 ghost use lib.ListN.{length};
 ghost use Rattle.slices.specs.Slices.{copied};
-ghost use Rattle.receiver_bytes.specs.Stages.{receiverLength, noStage, stageOf, stageIn, frontBytes};
+ghost use Rattle.receiver_bytes.specs.Stages.{receiverLength, stageBytes, noStage, stageOf, stageIn};
 
-// How many bytes a receiver's state takes: PID, kind, stage, the slots' numbers by the open frame's header and by the one before.
-pub const RECEIVER_BYTES: usize = NUMBERS + SLOTS + SLOTS;
+// How many bytes a receiver's state takes: PID, kind, stage, the slots' numbers by the open frame's header and by the one before, two a
+// byte.
+pub const RECEIVER_BYTES: usize = NUMBERS + PACKED_BYTES + PACKED_BYTES;
 
-// Where the numbers start.
-pub const NUMBERS: usize = 6;
+// Where the kind stands, and where the stage and the numbers start.
+pub const KIND: usize = 2;
+
+pub const STAGE: usize = 3;
+
+pub const NUMBERS: usize = STAGE + STAGE_BYTES;
+
+const STAGE_BYTES: usize = 3;
 
 // A stage that every call refuses with 17: what bytes say that are no stage's.
 fn no_stage() -> Stage
@@ -43,17 +49,13 @@ fn stage_of(tag: u8, from: u8, k: u8) -> Stage
     Stage::Waiting
 }
 
-// PID, kind and stage.
-fn front_bytes(pid: u16, kind: Kind, stage: Stage) -> [u8; NUMBERS]
-    ensures { λ r. ⌜ r ≡ frontBytes pid kind stage ⌝ }
+fn stage_bytes(stage: Stage) -> [u8; STAGE_BYTES]
+    ensures { λ r. ⌜ r ≡ stageBytes stage ⌝ }
 {
-    let high = (pid / 256) as u8;
-    let low = (pid % 256) as u8;
-    let number = words::kind_number(kind);
     match stage {
-        Stage::Waiting => [high, low, number, 0, 0, 0],
-        Stage::Open(from, k) => [high, low, number, 1, from, k],
-        Stage::Ready(from) => [high, low, number, 2, from, 0],
+        Stage::Waiting => [0, 0, 0],
+        Stage::Open(from, k) => [1, from, k],
+        Stage::Ready(from) => [2, from, 0],
     }
 }
 
@@ -64,16 +66,16 @@ pub fn stage_in(bytes: &[u8]) -> Stage
     if bytes.len() != RECEIVER_BYTES {
         return no_stage();
     }
-    if 1 < bytes[2] {
+    if 1 < bytes[KIND] {
         return no_stage();
     }
     stage_of(bytes[3], bytes[4], bytes[5])
 }
 
-// Writes PID, kind and stage, as much of them as there is room for, and leaves the rest.
-pub fn write_front(bytes: &mut [u8], pid: u16, kind: Kind, stage: Stage)
-    ensures { λ _. ⌜ now (bytes .exit) ≡ copied (now (bytes .entry)) (frontBytes pid kind stage) ⌝ }
+// Writes a stage, as much of it as there is room for, and leaves the rest.
+pub fn write_stage(bytes: &mut [u8], stage: Stage)
+    ensures { λ _. ⌜ now (bytes .exit) ≡ copied (now (bytes .entry)) (stageBytes stage) ⌝ }
 {
-    let front = front_bytes(pid, kind, stage);
-    slices::copy(bytes, &front);
+    let three = stage_bytes(stage);
+    slices::copy(bytes, &three);
 }

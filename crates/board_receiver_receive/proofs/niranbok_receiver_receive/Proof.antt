@@ -11,6 +11,9 @@ returns c =
     let a = c .before .before .before .before .args in
     receive-no-state (a .state .now) (a .packet .now) (a .store .now) (c .if1 .taken)
 
+look-requires : tie.Need-look-requires
+look-requires c κs = search needs
+
 slice-read-word : tie.Need-slice-read-word
 slice-read-word c = search needs
 
@@ -57,15 +60,25 @@ returns-2 c =
     let stage = call .before .before .before in
     let kind = stage .before .before in
     let word = kind .before .before in
-    let k = word .before .before .before in
+    let look = word .before .before .before in
+    let k = look .before .before in
     let a = k .before .before .before .before .args in
-    receive-refused (a .state .now) (a .packet .now) (a .store .now) (k .if1 .left)
+    receive-refused (a .state .now) (a .packet .now) (a .store .now) (k .if1 .left) (look .look .ensures)
     (word .word .ensures ∙ said-pid (a .state .now)) (kind .kind-of .ensures ∙ said-kind (a .state .now)) (stage .stage-in .ensures ∙ said-stage (a .state .now) (k .if1 .left))
     (call .receive-in-place .ensures .0) (call .receive-in-place .ensures .1 .0) (call .receive-in-place .ensures .1 .1)
     (event .event-number .result) (event .event-number .ensures) (c .if2 .taken)
 
-write-front-requires : tie.Need-write-front-requires
-write-front-requires c κs = search needs
+sub-write-stage : tie.Need-sub-write-stage
+sub-write-stage c = search needs
+
+part-write-stage-start : tie.Need-part-write-stage-start
+part-write-stage-start c = search needs
+
+part-write-stage-end : tie.Need-part-write-stage-end
+part-write-stage-end c = search needs
+
+write-stage-requires : tie.Need-write-stage-requires
+write-stage-requires c κs = search needs
 
 same-length-3 : tie.Need-same-length-3
 same-length-3 c = search needs
@@ -82,19 +95,21 @@ returns-3 c =
     let stage = call .before .before .before in
     let kind = stage .before .before in
     let word = kind .before .before in
-    let k = word .before .before .before in
+    let look = word .before .before .before in
+    let k = look .before .before in
     let a = k .before .before .before .before .args in
-    receives (a .state .now) (a .packet .now) (a .store .now) (k .if1 .left)
+    receives (a .state .now) (a .packet .now) (a .store .now) (k .if1 .left) (look .look .ensures)
     (word .word .ensures ∙ said-pid (a .state .now)) (kind .kind-of .ensures ∙ said-kind (a .state .now)) (stage .stage-in .ensures ∙ said-stage (a .state .now) (k .if1 .left))
     (call .receive-in-place .ensures .0) (call .receive-in-place .ensures .1 .0) (call .receive-in-place .ensures .1 .1)
     (event .event-number .result) (event .event-number .ensures) (accepted .if2 .left)
-    (written .write-front .last .0) (written .write-front .ensures)
+    (written .write-stage .last .0) (written .write-stage .ensures)
 
 pub niranbok-receiver-receive-spec : {M : Type 1} → statement M
 niranbok-receiver-receive-spec =
     tie.close
     (tie.spec
     returns
+    look-requires
     slice-read-word
     slice-read-word-2
     word-requires
@@ -109,7 +124,10 @@ niranbok-receiver-receive-spec =
     same-length
     same-length-2
     returns-2
-    write-front-requires
+    sub-write-stage
+    part-write-stage-start
+    part-write-stage-end
+    write-stage-requires
     same-length-3
     same-length-4
     returns-3)

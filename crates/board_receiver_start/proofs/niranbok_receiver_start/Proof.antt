@@ -35,37 +35,32 @@ returns-3 c =
     let a = start k .args in
     start-no-kind (a .state .now) (a .pid) (a .kind) (k .before .before .if1 .left) (allowed k) (omega (arith, c .if3 .taken))
 
-sub-fill : tie.Need-sub-fill
-sub-fill c = search needs
+cast-high : tie.Need-cast-high
+cast-high c = search needs
 
-part-fill-start : tie.Need-part-fill-start
-part-fill-start c = search needs
-
-part-fill-end : tie.Need-part-fill-end
-part-fill-end c = search needs
+cast-low : tie.Need-cast-low
+cast-low c = search needs
 
 fill-requires : tie.Need-fill-requires
 fill-requires c κs = search needs
 
-kind-of-requires : tie.Need-kind-of-requires
-kind-of-requires c κs = search needs
+slice-aggregate-copy : tie.Need-slice-aggregate-copy
+slice-aggregate-copy c = search needs
 
-write-front-requires : tie.Need-write-front-requires
-write-front-requires c κs = search needs
+copy-requires : tie.Need-copy-requires
+copy-requires c κs = search needs
 
 same-length : tie.Need-same-length
 same-length c = search needs
 
 returns-4 : tie.Need-returns-4
 returns-4 c =
-    let front = c .before .before in
-    let kind = front .before in
-    let fill = kind .before .before .before .before in
+    let copy = c .before .before in
+    let fill = copy .before .before .before .before .before in
     let known = fill .before .before in
     let k = known .before in
     let a = start k .args in
-    starts (a .state .now) (a .pid) (a .kind) (k .before .before .if1 .left) (allowed k) (known .if3 .left)
-    (kind .kind-of .ensures) (fill .fill .ensures) (front .write-front .ensures)
+    starts (a .state .now) (a .pid) (a .kind) (k .before .before .if1 .left) (allowed k) (known .if3 .left) (fill .fill .ensures) (copy .copy .ensures)
 
 pub niranbok-receiver-start-spec : {M : Type 1} → statement M
 niranbok-receiver-start-spec =
@@ -75,11 +70,10 @@ niranbok-receiver-start-spec =
     pid-allowed-requires
     returns-2
     returns-3
-    sub-fill
-    part-fill-start
-    part-fill-end
+    cast-high
+    cast-low
     fill-requires
-    kind-of-requires
-    write-front-requires
+    slice-aggregate-copy
+    copy-requires
     same-length
     returns-4)
