@@ -1,4 +1,4 @@
--- Laws of the bits of a byte that go n shifts on one by one. Assumes nothing.
+-- Laws of a byte whose bits go n shifts on one by one. Assumes nothing.
 use Prim.Native.Nat.{ℕ, _+_, _-_, _*_, _/_, _%_, _^_, _≤_, _<_}
 use mathlib.Core.Path.{_≡_, refl, sym, ap, ap₂, _∙_, subst}
 use native.Mathlib.Omega.{arith}
@@ -10,14 +10,14 @@ use Rattle.crc.specs.Crc.{shifts}
 use Rattle.crc.specs.Words.{Ahead}
 use Rattle.crc.proofs.Reduced.{more-ahead, one-ahead, zero-ahead}
 
--- r is what the first i bits of v, a byte, become, and d has the others at its top
+-- of the byte that is lowest in v the first i bits have gone on, to r; d has the others at its top
 pub record Entered (n v i r d : ℕ) : Type 0 where
-  pub some : i ≤ 8
+  pub within : i ≤ 8
   pub gone : Ahead n i (v / 2 ^ (8 - i)) r
   pub others : d ≡ v * 2 ^ (56 + i) % 2 ^ 64
 
 pub none-entered : {n : ℕ} (v : ℕ) → Entered n v 0 0 (v * 2 ^ 56 % 2 ^ 64)
-none-entered v = record { some = omega arith; gone = zero-ahead (mod-one (v / 2 ^ 8)); others = refl }
+none-entered v = record { within = omega arith; gone = zero-ahead (mod-one (v / 2 ^ 8)); others = refl }
 
 pub all-entered : {n v i r d : ℕ} → i ≡ 8 → Entered n v i r d → Ahead n 8 v r
 all-entered {n} {v} {i} {r} done h =
@@ -40,7 +40,7 @@ module _ {n v i r d : ℕ} (h : Entered n v i r d) (l : i < 8) where
   -- it enters
   enters : {e y : ℕ} → y ≡ bitXor (r * 2 % 2 ^ 64) e → Ahead n 1 (v / 2 ^ (7 - i)) e → Entered n v (i + 1) y (d * 2 % 2 ^ 64)
   enters {e} {y} same a = record {
-    some = omega arith;
+    within = omega arith;
     gone =
         subst (λ (j : ℕ). Ahead n (i + 1) (v / 2 ^ j) y) next (subst (Ahead n (i + 1) (v / 2 ^ (7 - i))) (sym same)
         (more-ahead 1 (7 - i) v (omega arith) (subst (λ (j : ℕ). Ahead n i (v / 2 ^ j) r) before (h .gone)) a));

@@ -68,8 +68,8 @@ fn long(bytes: &[u8], i: usize) -> u64
     r
 }
 
-// The eight bits of `x` from place `k` on, 64 shifts on. A register of 64 bits, out of which nothing falls: the compiler makes one look into a table of
-// it. It does so only where the constant stands beside the loop, so that each number of shifts has such a function of its own.
+// The byte of `x` at place `k`, 64 shifts on. A register of 64 bits, out of which nothing falls: the compiler makes one look into a table
+// of it, if the constant stands beside the loop. So each number of shifts has such a function of its own.
 fn byte_64_on(x: u64, k: u32) -> u64
     requires { ⌜ k < 64 ⌝ }
     ensures { λ r. ⌜ Ahead 64 8 (x / 2 ^ k) r ⌝ }
@@ -89,7 +89,7 @@ fn byte_64_on(x: u64, k: u32) -> u64
     r
 }
 
-// The eight bits of `x` from place `k` on, 96 shifts on.
+// The byte of `x` at place `k`, 96 shifts on.
 fn byte_96_on(x: u64, k: u32) -> u64
     requires { ⌜ k < 64 ⌝ }
     ensures { λ r. ⌜ Ahead 96 8 (x / 2 ^ k) r ⌝ }
@@ -109,7 +109,7 @@ fn byte_96_on(x: u64, k: u32) -> u64
     r
 }
 
-// The eight bits of `x` from place `k` on, 128 shifts on.
+// The byte of `x` at place `k`, 128 shifts on.
 fn byte_128_on(x: u64, k: u32) -> u64
     requires { ⌜ k < 64 ⌝ }
     ensures { λ r. ⌜ Ahead 128 8 (x / 2 ^ k) r ⌝ }
@@ -129,7 +129,7 @@ fn byte_128_on(x: u64, k: u32) -> u64
     r
 }
 
-// The eight bits of `x` from place `k` on, 160 shifts on.
+// The byte of `x` at place `k`, 160 shifts on.
 fn byte_160_on(x: u64, k: u32) -> u64
     requires { ⌜ k < 64 ⌝ }
     ensures { λ r. ⌜ Ahead 160 8 (x / 2 ^ k) r ⌝ }
@@ -149,7 +149,7 @@ fn byte_160_on(x: u64, k: u32) -> u64
     r
 }
 
-// Four bytes' numbers as one, the first of them the highest.
+// Four numbers as one, each eight places above the next.
 fn joined(a: u64, b: u64, c: u64, d: u64) -> u64
     ensures { λ r. ⌜ r ≡ fourBytes a b c d ⌝ }
 {

@@ -1,5 +1,5 @@
 -- `crc::left_by` meets its contract: each four bytes are as far on as they stand from the end, and the high half is shifted last. Assumes nothing.
-use Prim.Native.Nat.{ℕ, _*_, _/_, _%_, _^_, _<_}
+use Prim.Native.Nat.{ℕ, _*_, _%_, _^_, _<_}
 use mathlib.Core.Path.{ap, _∙_}
 use native.Mathlib.Omega.{arith}
 use native.Mathlib.Nat.{mod-lt}
