@@ -2,15 +2,14 @@
 use Prim.Native.Nat.{ℕ, zero, suc, _+_, _*_, _/_, _%_, _^_, _≤_, _<_}
 use mathlib.Core.Path.{_≡_, refl, sym, ap, ap₂, _∙_, subst}
 use native.Mathlib.Omega.{arith}
-use native.Mathlib.Nat.{add-assoc, add-comm, div-eq-of-lt, le-refl, lt-of-lt-of-le, mod-eq-of-lt, mod-lt, mul-assoc, mul-mod-left, mul-one, pow-le-pow-right, pow-succ'}
-use lib.Arith.{digits-lt}
+use native.Mathlib.Nat.{add-assoc, add-comm, div-eq-of-lt, div-one, lt-of-lt-of-le, mod-eq-of-lt, mod-lt, mul-assoc, mul-mod-left, mul-one, pow-le-pow-right, pow-succ'}
 use lib.Bits.{bitXor, xor-comm, xor-lt, xor-mod, xor-shifted, xor-shr, xor-zero-l, xor-zero-r}
 use lib.Dec.{lit<, lit≤}
-use lib.Pow.{pow-add, pow-pos, shl-exact, shl-lt, shl-shr, shr-lt, shr-mod, shr-shr, split}
+use lib.Pow.{mod-pow-add, pow-pos, shl-exact, shl-lt, shl-shr, shr-lt, shr-mod, shr-shr, split}
 use Rattle.bits.specs.Fields.{bitsOf}
 use Rattle.bits.proofs.Laws.{bitsOf-split}
 use Rattle.crc.specs.Crc.{poly, registerFrom, shift, shifts}
-use Rattle.crc.specs.Words.{Ahead, held, reduced}
+use Rattle.crc.specs.Words.{Ahead, fourBytes, held, reduced}
 use Rattle.crc.proofs.Laws.{field-in, registerFrom-append, shift-linear, shift-low, shifts-add, shifts-linear, shifts-low, shifts-zero}
 use Rattle.crc.proofs.Xor.{bit-cases, xor-assoc, xor-shl, xor-swap}
 
@@ -80,43 +79,58 @@ reduced-up j (suc n) x e h =
     ∙ reduced-up (j + 1) n (x * 2) (omega arith) (shl-lt j 1 h)
     ∙ ap (shifts n) (reduced-twice x (lt-of-lt-of-le h (pow-le-pow-right (lit< tt) {i = j} {j = 63} (omega arith))))
 
--- ---- 128 shifts on
+-- ---- n shifts on
 
-pub one-ahead : {v e : ℕ} → v ≡ 1 → e < 2 ^ 32 → e ≡ shifts 128 1 → Ahead 1 v e
-one-ahead {v} {e} z h same = record {
-  narrow = subst (λ (n : ℕ). n < 2) (sym z) (lit< tt);
-  bits = lt-of-lt-of-le h (lit≤ tt);
-  same = reduced-low e h ∙ same ∙ ap (shifts 128) (sym z);
-}
+pub one-ahead : {n v e : ℕ} → v % 2 ≡ 1 → e < 2 ^ 32 → e ≡ shifts n 1 → Ahead n 1 v e
+one-ahead {n} {v} {e} z h same = record { bits = lt-of-lt-of-le h (lit≤ tt); same = reduced-low e h ∙ same ∙ ap (shifts n) (sym z) }
 
-pub zero-ahead : {v : ℕ} (k : ℕ) → v ≡ 0 → Ahead k v 0
-zero-ahead {v} k z = record {
-  narrow = subst (λ (n : ℕ). n < 2 ^ k) (sym z) (pow-pos k);
-  bits = pow-pos (32 + k);
-  same = reduced-low 0 (lit< tt) ∙ sym (ap (shifts 128) z ∙ shifts-zero 128);
-}
+pub zero-ahead : {n k v : ℕ} → v % 2 ^ k ≡ 0 → Ahead n k v 0
+zero-ahead {n} {k} {v} z = record { bits = pow-pos (32 + k); same = reduced-low 0 (lit< tt) ∙ sym (ap (shifts n) z ∙ shifts-zero n) }
 
--- w bits more enter
-more-ahead : {k q r : ℕ} (w : ℕ) {v e : ℕ} → k + w ≤ 32 → Ahead k q r → Ahead w v e → Ahead (k + w) (q * 2 ^ w + v) (bitXor (r * 2 ^ w) e)
-more-ahead {k} {q} {r} w {v} {e} l a b = record {
-  narrow = subst (λ (n : ℕ). q * 2 ^ w + v < n) (sym (pow-add 2 k w)) (digits-lt (a .narrow) (b .narrow));
+-- 32 bits moved up as far
+up-ahead : (v : ℕ) → Ahead 32 32 v (v * 2 ^ 32 % 2 ^ 64)
+up-ahead v = record { bits = mod-lt (v * 2 ^ 32) (lit< tt); same = ap reduced out ∙ reduced-high (v % 2 ^ 32) }
+  where
+    out : v * 2 ^ 32 % 2 ^ 64 ≡ v % 2 ^ 32 * 2 ^ 32
+    out = omega arith
+
+-- w bits more, those of x from place j on
+pub more-ahead : {n k r e : ℕ} (w j x : ℕ) → k + w ≤ 32 → Ahead n k (x / 2 ^ (j + w)) r → Ahead n w (x / 2 ^ j) e
+    → Ahead n (k + w) (x / 2 ^ j) (bitXor (r * 2 ^ w % 2 ^ 64) e)
+more-ahead {n} {k} {r} {e} w j x l a b = record {
   bits =
-      xor-lt (32 + (k + w)) (r * 2 ^ w) e
-      (subst (λ (n : ℕ). r * 2 ^ w < 2 ^ n) (add-assoc 32 k w) (shl-lt (32 + k) w (a .bits)))
+      xor-lt (32 + (k + w)) (r * 2 ^ w % 2 ^ 64) e
+      (subst (λ (y : ℕ). y < 2 ^ (32 + (k + w))) (sym exact) (subst (λ (m : ℕ). r * 2 ^ w < 2 ^ m) (add-assoc 32 k w) (shl-lt (32 + k) w (a .bits))))
       (lt-of-lt-of-le (b .bits) (pow-le-pow-right (lit< tt) {i = 32 + w} {j = 32 + (k + w)} (omega arith)));
   same =
-      reduced-linear (r * 2 ^ w) e
-      ∙ ap₂ bitXor (reduced-up (32 + k) w r (omega arith) (a .bits) ∙ ap (shifts w) (a .same) ∙ shifts-swap w 128 q ∙ ap (shifts 128) (shifts-low k w q l (a .narrow))) (b .same)
-      ∙ sym (shifts-linear 128 (q * 2 ^ w) v) ∙ ap (shifts 128) (xor-shifted q w v (b .narrow));
+      reduced-linear (r * 2 ^ w % 2 ^ 64) e
+      ∙ ap₂ bitXor (ap reduced exact ∙ reduced-up (32 + k) w r (omega arith) (a .bits) ∙ ap (shifts w) (a .same ∙ ap (λ (y : ℕ). shifts n (y % 2 ^ k)) (sym (shr-shr x j w)))
+      ∙ shifts-swap w n q ∙ ap (shifts n) (shifts-low k w q l (mod-lt (v / 2 ^ w) (pow-pos k)))) (b .same)
+      ∙ sym (shifts-linear n (q * 2 ^ w) (v % 2 ^ w)) ∙ ap (shifts n) (xor-shifted q w (v % 2 ^ w) (mod-lt v (pow-pos w)) ∙ sym (mod-pow-add v k w));
 }
+  where
+    v : ℕ
+    v = x / 2 ^ j
 
--- a turn of a loop: the bits of x above place j, w more than before
-pub turn-ahead : {k r e : ℕ} (w j x : ℕ) → k + w ≤ 32 → Ahead k (x / 2 ^ (j + w)) r → Ahead w (x / 2 ^ j % 2 ^ w) e
-    → Ahead (k + w) (x / 2 ^ j) (bitXor (r * 2 ^ w % 2 ^ 64) e)
-turn-ahead {k} {r} {e} w j x l a b =
-    subst (λ (y : ℕ). Ahead (k + w) (x / 2 ^ j) (bitXor y e)) (sym (shl-exact (32 + k) w 64 (a .bits) (omega arith)))
-    (subst (λ (q : ℕ). Ahead (k + w) q (bitXor (r * 2 ^ w) e)) (ap (λ (q : ℕ). q * 2 ^ w + x / 2 ^ j % 2 ^ w) (sym (shr-shr x j w)) ∙ split (x / 2 ^ j) w)
-    (more-ahead w l a b))
+    q : ℕ
+    q = v / 2 ^ w % 2 ^ k
+
+    exact : r * 2 ^ w % 2 ^ 64 ≡ r * 2 ^ w
+    exact = shl-exact (32 + k) w 64 (a .bits) (omega arith)
+
+-- the four lowest bytes of x
+pub four-ahead : {n a b c d e : ℕ} (x : ℕ) → Ahead n 8 (x / 2 ^ 24) a → Ahead n 8 (x / 2 ^ 16) b → Ahead n 8 (x / 2 ^ 8) c → Ahead n 8 (x / 2 ^ 0) d
+    → e ≡ fourBytes a b c d → Ahead n 32 x e
+four-ahead {n} {a} {b} {c} {d} {e} x ha hb hc hd same =
+    subst (λ (v : ℕ). Ahead n 32 v e) (div-one x) (subst (Ahead n 32 (x / 2 ^ 0)) (sym same)
+    (more-ahead 8 0 x (lit≤ tt) (more-ahead 8 8 x (lit≤ tt) (more-ahead 8 16 x (lit≤ tt) ha hb) hc) hd))
+
+-- the halves of 64 bits go on as one
+halves-ahead : (n r : ℕ) {a b : ℕ} → r < 2 ^ 64 → Ahead (32 + n) 32 (r / 2 ^ 32) a → Ahead n 32 r b → reduced (bitXor a b) ≡ shifts n (reduced r)
+unfolding reduced
+halves-ahead n r {a} {b} h ha hb =
+    reduced-linear a b ∙ ap₂ bitXor (ha .same ∙ ap (shifts (32 + n)) (shr-mod 32 32 h) ∙ shifts-add 32 n (r / 2 ^ 32)) (hb .same)
+    ∙ sym (shifts-linear n (shifts 32 (r / 2 ^ 32)) (r % 2 ^ 32))
 
 -- ---- eight bytes at once
 
@@ -143,65 +157,34 @@ held-first s v w hv hw =
     ∙ ap (λ (x : ℕ). shifts 32 (bitXor x (reduced w))) (ap (shifts 32) (long-in s v hv) ∙ sym (shifts-add 32 32 (bitXor (shifts 32 s) (reduced v)))
     ∙ ap (shifts 64) (ap (λ (x : ℕ). bitXor x (reduced v)) (sym (reduced-high s)) ∙ xor-comm (reduced (s * 2 ^ 32)) (reduced v) ∙ sym (reduced-linear v (s * 2 ^ 32)))))
 
--- the high half of what is 128 shifts on meets the low half of s
-high-meets : (s : ℕ) {v a : ℕ} → Ahead 32 v a → reduced (bitXor s (a / 2 ^ 32)) ≡ bitXor (reduced s) (a / 2 ^ 32)
-high-meets s {v} {a} h = reduced-linear s (a / 2 ^ 32) ∙ ap (bitXor (reduced s)) (reduced-low (a / 2 ^ 32) (shr-lt 32 32 (h .bits)))
-
--- eight bytes more: the first eight of the sixteen before go 128 shifts on, to where the sixteen behind them stand
-pub held-turn : (r s w a b : ℕ) → Ahead 32 (r / 2 ^ 32) a → Ahead 32 (r % 2 ^ 32) b → w < 2 ^ 64
-    → held (bitXor s (a / 2 ^ 32)) (bitXor (bitXor (a % 2 ^ 32 * 2 ^ 32 % 2 ^ 64) b) w) ≡ registerFrom (held r s) (bitsOf 64 w)
-unfolding held reduced
-held-turn r s w a b ha hb hw =
-    ap (shifts 32) (ap₂ bitXor first second ∙ sym (xor-assoc (bitXor S H) (bitXor L B) (reduced w))
-    ∙ ap (λ (x : ℕ). bitXor x (reduced w)) (xor-assoc S H (bitXor L B) ∙ ap (bitXor S) (sym (xor-assoc H L B) ∙ folded) ∙ xor-comm S (shifts 128 (reduced r)) ∙ kept))
+-- eight bytes more: the first eight of the sixteen before go 128 shifts on, over the other eight to where the new ones stand
+pub held-turn : (r s w : ℕ) {a b : ℕ} → r < 2 ^ 64 → w < 2 ^ 64 → Ahead 160 32 (r / 2 ^ 32) a → Ahead 128 32 r b
+    → held s (bitXor (bitXor a b) w) ≡ registerFrom (held r s) (bitsOf 64 w)
+unfolding held
+held-turn r s w {a} {b} hr hw ha hb =
+    ap (shifts 32) (ap (bitXor S) (reduced-linear (bitXor a b) w ∙ ap (λ (x : ℕ). bitXor x (reduced w)) (halves-ahead 128 r hr ha hb))
+    ∙ sym (xor-assoc S R (reduced w)) ∙ ap (λ (x : ℕ). bitXor x (reduced w)) (xor-comm S R ∙ kept))
     ∙ sym (long-in (held r s) w hw)
   where
+    R : ℕ
+    R = shifts 128 (reduced r)
+
     S : ℕ
     S = shifts 64 (reduced s)
 
-    -- the halves of a
-    H : ℕ
-    H = shifts 64 (a / 2 ^ 32)
-
-    L : ℕ
-    L = shifts 32 (a % 2 ^ 32)
-
-    B : ℕ
-    B = shifts 128 (r % 2 ^ 32)
-
-    first : shifts 64 (reduced (bitXor s (a / 2 ^ 32))) ≡ bitXor S H
-    first = ap (shifts 64) (high-meets s ha) ∙ shifts-linear 64 (reduced s) (a / 2 ^ 32)
-
-    second : reduced (bitXor (bitXor (a % 2 ^ 32 * 2 ^ 32 % 2 ^ 64) b) w) ≡ bitXor (bitXor L B) (reduced w)
-    second =
-        reduced-linear (bitXor (a % 2 ^ 32 * 2 ^ 32 % 2 ^ 64) b) w
-        ∙ ap (λ (x : ℕ). bitXor x (reduced w)) (reduced-linear (a % 2 ^ 32 * 2 ^ 32 % 2 ^ 64) b
-        ∙ ap₂ bitXor (ap reduced (shl-exact 32 32 64 (mod-lt a (lit< tt)) (le-refl 64)) ∙ reduced-high (a % 2 ^ 32)) (hb .same))
-
-    folded : bitXor (bitXor H L) B ≡ shifts 128 (reduced r)
-    folded =
-        ap (λ (x : ℕ). bitXor (bitXor x L) B) (shifts-add 32 32 (a / 2 ^ 32))
-        ∙ ap (λ (x : ℕ). bitXor x B) (sym (shifts-linear 32 (shifts 32 (a / 2 ^ 32)) (a % 2 ^ 32)) ∙ ap (shifts 32) (ha .same) ∙ shifts-swap 32 128 (r / 2 ^ 32))
-        ∙ sym (shifts-linear 128 (shifts 32 (r / 2 ^ 32)) (r % 2 ^ 32))
-
-    kept : bitXor (shifts 128 (reduced r)) S ≡ shifts 32 (held r s)
+    kept : bitXor R S ≡ shifts 32 (held r s)
     kept =
         ap (λ (x : ℕ). bitXor x S) (shifts-add 64 64 (reduced r)) ∙ sym (shifts-linear 64 (shifts 64 (reduced r)) (reduced s))
         ∙ shifts-add 32 32 (bitXor (shifts 64 (reduced r)) (reduced s))
 
--- the register of the sixteen bytes: the first four go 128 shifts on, and the others enter four at a time
-pub held-left : (r s a t : ℕ) → Ahead 32 (r / 2 ^ 32) a → t ≡ bitXor s (a / 2 ^ 32)
-    → bitXor (shifts 32 (bitXor (shifts 32 (bitXor (shifts 32 (r % 2 ^ 32)) (t / 2 ^ 32))) (t % 2 ^ 32))) (a % 2 ^ 32) ≡ held r s
-unfolding held reduced
-held-left r s a t ha e =
-    ap (λ (x : ℕ). bitXor (shifts 32 x) (a % 2 ^ 32)) (halves-meet (shifts 32 (r % 2 ^ 32)) t ∙ ap₂ bitXor (sym (shifts-add 32 32 (r % 2 ^ 32))) (ap reduced e ∙ high-meets s ha) ∙ sym (xor-assoc B (reduced s) (a / 2 ^ 32)))
-    ∙ halves-meet (bitXor B (reduced s)) a
-    ∙ ap (bitXor (shifts 32 (bitXor B (reduced s)))) (ha .same ∙ shifts-add 96 32 (r / 2 ^ 32) ∙ ap (shifts 32) (shifts-add 32 64 (r / 2 ^ 32)))
-    ∙ sym (shifts-linear 32 (bitXor B (reduced s)) A)
-    ∙ ap (shifts 32) (xor-comm (bitXor B (reduced s)) A ∙ sym (xor-assoc A B (reduced s)) ∙ ap (λ (x : ℕ). bitXor x (reduced s)) (sym (shifts-linear 64 (shifts 32 (r / 2 ^ 32)) (r % 2 ^ 32))))
+-- the register of the sixteen bytes: each four go as far on as they stand from the end
+pub held-left : (r s : ℕ) {a b e : ℕ} → r < 2 ^ 64 → s < 2 ^ 64 → Ahead 128 32 (r / 2 ^ 32) a → Ahead 96 32 r b → Ahead 64 32 (s / 2 ^ 32) e
+    → reduced (bitXor (bitXor (bitXor a b) e) (s * 2 ^ 32 % 2 ^ 64)) ≡ held r s
+unfolding held
+held-left r s {a} {b} {e} hr hs ha hb he =
+    ap reduced (xor-assoc (bitXor a b) e low) ∙ reduced-linear (bitXor a b) (bitXor e low)
+    ∙ ap₂ bitXor (halves-ahead 96 r hr ha hb ∙ shifts-add 64 32 (reduced r)) (halves-ahead 32 s hs he (up-ahead s))
+    ∙ sym (shifts-linear 32 (shifts 64 (reduced r)) (reduced s))
   where
-    A : ℕ
-    A = shifts 64 (shifts 32 (r / 2 ^ 32))
-
-    B : ℕ
-    B = shifts 64 (r % 2 ^ 32)
+    low : ℕ
+    low = s * 2 ^ 32 % 2 ^ 64

@@ -1,5 +1,5 @@
 -- What the functions promise each other by which eight bytes at once enter a register.
-use Prim.Native.Nat.{ℕ, _+_, _/_, _%_, _^_, _<_}
+use Prim.Native.Nat.{ℕ, _+_, _*_, _/_, _%_, _^_, _<_}
 use mathlib.Core.List.{List, _++_}
 use mathlib.Core.Path.{_≡_}
 use lib.Bits.{bitXor}
@@ -15,11 +15,14 @@ LongAt bytes i w = run 8 (drop i bytes) ≡ bitsOf 64 w ++ run 8 (drop (i + 8) b
 unfoldable pub reduced : ℕ → ℕ
 reduced x = bitXor (shifts 32 (x / 2 ^ 32)) (x % 2 ^ 32)
 
--- e is v, a number of k bits, 128 shifts on, with nothing reduced
-pub record Ahead (k v e : ℕ) : Type 0 where
-  pub narrow : v < 2 ^ k
+-- e is the lowest k bits of v, n shifts on, with nothing reduced
+pub record Ahead (n k v e : ℕ) : Type 0 where
   pub bits : e < 2 ^ (32 + k)
-  pub same : reduced e ≡ shifts 128 v
+  pub same : reduced e ≡ shifts n (v % 2 ^ k)
+
+-- four numbers of 64 bits as one, each eight places above the next
+abbrev pub fourBytes : ℕ → ℕ → ℕ → ℕ → ℕ
+fourBytes a b c d = bitXor (bitXor (bitXor (a * 2 ^ 8 % 2 ^ 64) b * 2 ^ 8 % 2 ^ 64) c * 2 ^ 8 % 2 ^ 64) d
 
 -- the register that the bits of r and then of s leave, 64 each, from zero on
 unfoldable pub held : ℕ → ℕ → ℕ

@@ -1,15 +1,21 @@
 // The CRC of H.222.0 over bytes.
-ghost use Prim.Native.Nat.{_+_, _%_, _≤_};
+ghost use Prim.Native.Nat.{_+_, _/_, _%_, _^_, _≤_, _<_};
 ghost use mathlib.Core.Path.{_≡_};
 ghost use lib.ListN.{length};
 ghost use Rattle.bits.specs.Fields.{bitsOf, run};
 ghost use Rattle.crc.specs.Crc.{registerFrom, registerOf, shifts};
-ghost use Rattle.crc.specs.Words.{Ahead, LongAt, held};
+ghost use Rattle.crc.specs.Words.{Ahead, LongAt, fourBytes, held};
 
 const POLY: u32 = 0x04C1_1DB7;
 
-// What the register 1 becomes by 128 shifts.
-const ONE_AHEAD: u64 = 0xE8A4_5605;
+// What the register 1 becomes by so many shifts.
+const ONE_64: u64 = 0x490D_678D;
+
+const ONE_96: u64 = 0xF200_AA66;
+
+const ONE_128: u64 = 0xE8A4_5605;
+
+const ONE_160: u64 = 0x17D3_315D;
 
 // The register `x` after `n` shifts. Where `n` is known the compiler makes a table of its own of the loop, eight shifts a look.
 fn shifted(x: u32, n: u32) -> u32
@@ -62,16 +68,18 @@ fn long(bytes: &[u8], i: usize) -> u64
     r
 }
 
-// The byte `v`, 128 shifts on. A register of 64 bits, out of which nothing falls: the compiler makes one look into a table of it.
-fn byte_ahead(v: u8) -> u64
-    ensures { λ r. ⌜ Ahead 8 v r ⌝ }
+// The byte of `x` at place `k`, 64 shifts on. A register of 64 bits, out of which nothing falls: the compiler makes one look into a table
+// of it, if the constant stands beside the loop. So each number of shifts has such a function of its own.
+fn byte_64_on(x: u64, k: u32) -> u64
+    requires { ⌜ k < 64 ⌝ }
+    ensures { λ r. ⌜ Ahead 64 8 (x / 2 ^ k) r ⌝ }
 {
     let mut r: u64 = 0;
-    let mut d = (v as u64) << 56;
+    let mut d = (x >> k) << 56;
     let mut i: u32 = 0;
     while i < 8 {
         if (r ^ d) >> 63 == 1 {
-            r = (r << 1) ^ ONE_AHEAD;
+            r = (r << 1) ^ ONE_64;
         } else {
             r = r << 1;
         }
@@ -81,31 +89,131 @@ fn byte_ahead(v: u8) -> u64
     r
 }
 
-// The register `x`, 128 shifts on.
-fn ahead(x: u32) -> u64
-    ensures { λ r. ⌜ Ahead 32 x r ⌝ }
+// The byte of `x` at place `k`, 96 shifts on.
+fn byte_96_on(x: u64, k: u32) -> u64
+    requires { ⌜ k < 64 ⌝ }
+    ensures { λ r. ⌜ Ahead 96 8 (x / 2 ^ k) r ⌝ }
 {
     let mut r: u64 = 0;
-    let mut k: u32 = 32;
-    while k > 0 {
-        k -= 8;
-        r = (r << 8) ^ byte_ahead(((x >> k) % 256) as u8);
+    let mut d = (x >> k) << 56;
+    let mut i: u32 = 0;
+    while i < 8 {
+        if (r ^ d) >> 63 == 1 {
+            r = (r << 1) ^ ONE_96;
+        } else {
+            r = r << 1;
+        }
+        d = d << 1;
+        i += 1;
     }
     r
 }
 
-// The register that the sixteen bytes of `r` and `s` leave, from zero on.
+// The byte of `x` at place `k`, 128 shifts on.
+fn byte_128_on(x: u64, k: u32) -> u64
+    requires { ⌜ k < 64 ⌝ }
+    ensures { λ r. ⌜ Ahead 128 8 (x / 2 ^ k) r ⌝ }
+{
+    let mut r: u64 = 0;
+    let mut d = (x >> k) << 56;
+    let mut i: u32 = 0;
+    while i < 8 {
+        if (r ^ d) >> 63 == 1 {
+            r = (r << 1) ^ ONE_128;
+        } else {
+            r = r << 1;
+        }
+        d = d << 1;
+        i += 1;
+    }
+    r
+}
+
+// The byte of `x` at place `k`, 160 shifts on.
+fn byte_160_on(x: u64, k: u32) -> u64
+    requires { ⌜ k < 64 ⌝ }
+    ensures { λ r. ⌜ Ahead 160 8 (x / 2 ^ k) r ⌝ }
+{
+    let mut r: u64 = 0;
+    let mut d = (x >> k) << 56;
+    let mut i: u32 = 0;
+    while i < 8 {
+        if (r ^ d) >> 63 == 1 {
+            r = (r << 1) ^ ONE_160;
+        } else {
+            r = r << 1;
+        }
+        d = d << 1;
+        i += 1;
+    }
+    r
+}
+
+// Four numbers as one, each eight places above the next.
+fn joined(a: u64, b: u64, c: u64, d: u64) -> u64
+    ensures { λ r. ⌜ r ≡ fourBytes a b c d ⌝ }
+{
+    (((((a << 8) ^ b) << 8) ^ c) << 8) ^ d
+}
+
+// The lowest 32 bits of `x`, 64 shifts on.
+fn low_64_on(x: u64) -> u64
+    ensures { λ r. ⌜ Ahead 64 32 x r ⌝ }
+{
+    joined(
+        byte_64_on(x, 24),
+        byte_64_on(x, 16),
+        byte_64_on(x, 8),
+        byte_64_on(x, 0),
+    )
+}
+
+// The lowest 32 bits of `x`, 96 shifts on.
+fn low_96_on(x: u64) -> u64
+    ensures { λ r. ⌜ Ahead 96 32 x r ⌝ }
+{
+    joined(
+        byte_96_on(x, 24),
+        byte_96_on(x, 16),
+        byte_96_on(x, 8),
+        byte_96_on(x, 0),
+    )
+}
+
+// The lowest 32 bits of `x`, 128 shifts on.
+fn low_128_on(x: u64) -> u64
+    ensures { λ r. ⌜ Ahead 128 32 x r ⌝ }
+{
+    joined(
+        byte_128_on(x, 24),
+        byte_128_on(x, 16),
+        byte_128_on(x, 8),
+        byte_128_on(x, 0),
+    )
+}
+
+// The lowest 32 bits of `x`, 160 shifts on.
+fn low_160_on(x: u64) -> u64
+    ensures { λ r. ⌜ Ahead 160 32 x r ⌝ }
+{
+    joined(
+        byte_160_on(x, 24),
+        byte_160_on(x, 16),
+        byte_160_on(x, 8),
+        byte_160_on(x, 0),
+    )
+}
+
+// The register that the sixteen bytes of `r` and `s` leave, from zero on: each four of them go as far on as they stand from the end.
 fn left_by(r: u64, s: u64) -> u32
     ensures { λ q. ⌜ q ≡ held r s ⌝ }
 {
-    let a = ahead((r >> 32) as u32);
-    let t = s ^ (a >> 32);
-    let q = shifted((r % 0x1_0000_0000) as u32, 32) ^ (t >> 32) as u32;
-    let q = shifted(q, 32) ^ (t % 0x1_0000_0000) as u32;
-    shifted(q, 32) ^ (a % 0x1_0000_0000) as u32
+    let u = low_128_on(r >> 32) ^ low_96_on(r) ^ low_64_on(s >> 32) ^ (s << 32);
+    shifted((u >> 32) as u32, 32) ^ (u % 0x1_0000_0000) as u32
 }
 
-// The register that `bytes` leave, eight a turn: `r` and `s` leave, from zero on, what the bytes so far do.
+// The register that `bytes` leave, eight a turn: `r` and `s` leave, from zero on, what the bytes so far do. Eight bytes go on over the next
+// eight, so that no turn waits for the one before it.
 fn longs_in(bytes: &[u8]) -> u32
     requires { ⌜ (16 ≤ length (now bytes)) × (length (now bytes) % 8 ≡ 0) ⌝ }
     ensures { λ q. ⌜ q ≡ registerOf (now (bytes .entry)) ⌝ }
@@ -114,10 +222,9 @@ fn longs_in(bytes: &[u8]) -> u32
     let mut s = long(bytes, 8);
     let mut i = 16;
     while i < bytes.len() {
-        let a = ahead((r >> 32) as u32);
-        let b = ahead((r % 0x1_0000_0000) as u32);
-        r = s ^ (a >> 32);
-        s = ((a % 0x1_0000_0000) << 32) ^ b ^ long(bytes, i);
+        let t = low_160_on(r >> 32) ^ low_128_on(r) ^ long(bytes, i);
+        r = s;
+        s = t;
         i += 8;
     }
     left_by(r, s)

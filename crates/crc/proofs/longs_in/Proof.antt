@@ -1,10 +1,9 @@
 -- `crc::longs_in` meets its contract. The loop's invariant: the bytes that are left, a multiple of eight, bring the register that is held to
 -- the one that is asked. The measure is how many are left. Assumes nothing.
-use Prim.Native.Nat.{ℕ, _+_, _-_, _*_, _/_, _%_, _^_, _≤_, _<_}
+use Prim.Native.Nat.{ℕ, _+_, _-_, _%_, _^_, _≤_, _<_}
 use mathlib.Core.Path.{_≡_, refl, sym, _∙_}
 use mathlib.Core.List.{List}
 use native.Mathlib.Omega.{arith}
-use native.Mathlib.Nat.{mod-lt}
 use lib.Bits.{bitXor, xor-lt}
 use lib.Dec.{lit<}
 use lib.ListN.{length, drop}
@@ -52,17 +51,11 @@ loop-holds c = (
     ones : ℕ
     ones = 2 ^ 32 - 1
 
-cast-ahead : tie.Need-cast-ahead Inv-loop μ-loop
-cast-ahead c = omega arith
+low-160-on-requires : tie.Need-low-160-on-requires Inv-loop μ-loop
+low-160-on-requires c κs = tt
 
-ahead-requires : tie.Need-ahead-requires Inv-loop μ-loop
-ahead-requires c κs = tt
-
-cast-ahead-2 : tie.Need-cast-ahead-2 Inv-loop μ-loop
-cast-ahead-2 c = omega arith
-
-ahead-requires-2 : tie.Need-ahead-requires-2 Inv-loop μ-loop
-ahead-requires-2 c κs = tt
+low-128-on-requires : tie.Need-low-128-on-requires Inv-loop μ-loop
+low-128-on-requires c κs = tt
 
 long-requires-3 : tie.Need-long-requires-3 Inv-loop μ-loop
 long-requires-3 c κs = omega arith
@@ -77,10 +70,10 @@ loop-again : tie.Need-loop-again Inv-loop μ-loop
 loop-again c = (
   omega arith,
   omega arith,
-  xor-lt 64 s (a / 2 ^ 32) (c .before .before .before .before .loop .inv .3) (omega arith),
-  xor-lt 64 (bitXor (a % 2 ^ 32 * 2 ^ 32 % 2 ^ 64) b) w (xor-lt 64 (a % 2 ^ 32 * 2 ^ 32 % 2 ^ 64) b (mod-lt (a % 2 ^ 32 * 2 ^ 32) (lit< tt)) (omega arith)) (omega arith),
+  c .before .before .before .before .loop .inv .3,
+  xor-lt 64 (bitXor a b) w (xor-lt 64 a b (omega arith) (omega arith)) (omega arith),
   turn (held r s) (bitsOf 64 w) (run 8 (drop (i + 8) m)) (c .long3 .ensures)
-      (held-turn r s w a b (c .before .before .ahead .ensures) (c .before .ahead2 .ensures) (omega arith))
+      (held-turn r s w (c .before .before .before .before .loop .inv .2) (omega arith) (c .before .before .low-160-on .ensures) (c .before .low-128-on .ensures))
       ∙ c .before .before .before .before .loop .inv .4,
 )
   where
@@ -97,10 +90,10 @@ loop-again c = (
     i = c .before .before .before .before .loop .i
 
     a : ℕ
-    a = c .before .before .ahead .result
+    a = c .before .before .low-160-on .result
 
     b : ℕ
-    b = c .before .ahead2 .result
+    b = c .before .low-128-on .result
 
     w : ℕ
     w = c .long3 .result
@@ -123,10 +116,8 @@ longs-in-spec =
     long-requires
     long-requires-2
     loop-holds
-    cast-ahead
-    ahead-requires
-    cast-ahead-2
-    ahead-requires-2
+    low-160-on-requires
+    low-128-on-requires
     long-requires-3
     add-i
     loop-less
