@@ -30,7 +30,7 @@ extern "C" {
 #define NIRANBOK_STORE_BYTES 9776   /* a receiver's store: slot i at 188 * (i - 1) */
 #define NIRANBOK_SETTING_BYTES 252  /* a setting's layout, below */
 #define NIRANBOK_COMPOSER_BYTES 390 /* a composer's state */
-#define NIRANBOK_RECEIVER_BYTES 110 /* a receiver's state */
+#define NIRANBOK_RECEIVER_BYTES 58  /* a receiver's state */
 
 /* Kinds of headers. */
 #define NIRANBOK_PLAIN 0
@@ -133,8 +133,10 @@ extern "C" {
  *
  * A receiver's state: header PID (2 bytes), kind, stage (0 waiting, 1 a frame is open, 2 the frame
  * before the open one is ready), the open frame's counter (0 while waiting), how many packets of it
- * are stored (0 in stages 0 and 2), the 52 slots' numbers by its header, and by the header before
- * it. A kind above 1, a stage above 2, or anything but 0 where 0 is said is a 17. */
+ * are stored (0 in stages 0 and 2), the 52 slots' numbers by its header (26 bytes, as the header has
+ * them: slot 1 in the high half of the first byte, slot 2 in its low half), and by the header before
+ * it (26 bytes). A kind above 1, a stage above 2, a counter above 15, more than 52 packets, or
+ * anything but 0 where 0 is said is a 17. */
 
 /* What receiving a packet did. */
 #define NIRANBOK_NOTHING 0 /* no frame is open, or the call was refused */
@@ -216,7 +218,7 @@ size_t niranbok_composer_rest(const uint8_t *stream, size_t stream_length, size_
 uint8_t niranbok_composer_close(uint8_t *state, size_t state_length, uint8_t *frame,
                                 size_t frame_length);
 
-/* Starts a receiver: writes its state into the lent 110 bytes. Refuses 1, 2, 17 (the kind). */
+/* Starts a receiver: writes its state into the lent 58 bytes. Refuses 1, 2, 17 (the kind). */
 uint8_t niranbok_receiver_start(uint8_t *state, size_t state_length, uint16_t pid, uint8_t kind);
 
 /* Takes one packet: writes the new state, what the packet did, and, where it was stored, its slot of

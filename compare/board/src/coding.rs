@@ -8,7 +8,7 @@ use std::ops::Range;
 
 pub const SETTING_BYTES: usize = 252;
 pub const COMPOSER_BYTES: usize = 390;
-pub const RECEIVER_BYTES: usize = 110;
+pub const RECEIVER_BYTES: usize = 58;
 
 /// Where the parts of a setting start, the first four being bytes 0 to 3.
 const AVAILABILITY: usize = 4;
@@ -30,9 +30,9 @@ const FILLED: Range<usize> = 338..390;
 /// Announced bytes, as they stand in a setting.
 const ANNOUNCED_IN_SETTING: Range<usize> = 2..82;
 
-/// Where the slot numbers of a receiver's state start.
-const NUMBERS: Range<usize> = 6..58;
-const NUMBERS_BEFORE: Range<usize> = 58..110;
+/// Where the slot numbers of a receiver's state stand, two a byte.
+const NUMBERS: Range<usize> = 6..32;
+const NUMBERS_BEFORE: Range<usize> = 32..58;
 
 pub fn kind_of(byte: u8) -> Option<Kind> {
     match byte {
@@ -200,9 +200,26 @@ pub fn receiver_of(bytes: &[u8; RECEIVER_BYTES]) -> Option<Receiver> {
         pid: state_pid(bytes),
         kind: kind_of(kind)?,
         standing,
-        relative_ts_number: array(&bytes[NUMBERS]),
-        relative_ts_number_before: array(&bytes[NUMBERS_BEFORE]),
+        relative_ts_number: halves(&bytes[NUMBERS]),
+        relative_ts_number_before: halves(&bytes[NUMBERS_BEFORE]),
     })
+}
+
+/// The first slot's number is the high half of the first byte.
+fn halves(bytes: &[u8]) -> [u8; SLOTS] {
+    std::array::from_fn(|slot| match slot % 2 {
+        0 => bytes[slot / 2] >> 4,
+        _ => bytes[slot / 2] & 15,
+    })
+}
+
+/// A number above 15 has no half to stand in.
+fn put_halves(bytes: &mut [u8], numbers: &[u8; SLOTS]) {
+    assert!(numbers.iter().all(|&number| number <= 15));
+    let (twos, _) = numbers.as_chunks::<2>();
+    for (byte, [high, low]) in bytes.iter_mut().zip(twos) {
+        *byte = high << 4 | low;
+    }
 }
 
 pub fn receiver_bytes(receiver: &Receiver) -> [u8; RECEIVER_BYTES] {
@@ -217,7 +234,10 @@ pub fn receiver_bytes(receiver: &Receiver) -> [u8; RECEIVER_BYTES] {
         } => [1, continuity_counter, stored as u8],
         Standing::Ready { continuity_counter } => [2, continuity_counter, 0],
     });
-    bytes[NUMBERS].copy_from_slice(&receiver.relative_ts_number);
-    bytes[NUMBERS_BEFORE].copy_from_slice(&receiver.relative_ts_number_before);
+    put_halves(&mut bytes[NUMBERS], &receiver.relative_ts_number);
+    put_halves(
+        &mut bytes[NUMBERS_BEFORE],
+        &receiver.relative_ts_number_before,
+    );
     bytes
 }
