@@ -18,7 +18,8 @@ use Rattle.rules.specs.Rules.{pidAllowed, ruleChecks, bondingChecks}
 use Rattle.refusal_table.proofs.Refusals.{answers, first-none, onward, at-once, none-append, none-before, none-behind, none-first}
 use Rattle.header_reader.specs.declared.Reading.{Reading}
 use Rattle.layout.specs.Header.{headerLength, packetChecks, reading}
-use Rattle.header_reader.specs.Reader.{readRefusal, readOf}
+use Rattle.header_checks.specs.Checking.{readRefusal}
+use Rattle.header_reader.specs.Reader.{readOf}
 use Rattle.layout.proofs.Calls.{right-call}
 use Rattle.packet.specs.Packets.{packetLength, frameLength, slot}
 use Rattle.group.specs.declared.Bond.{Bond}

@@ -8,7 +8,8 @@ use lib.Dec.{eqb}
 use Rattle.setting.specs.declared.Kind.{Kind}
 use Rattle.header_reader.specs.declared.Reading.{Reading}
 use Rattle.layout.specs.Header.{reading}
-use Rattle.header_reader.specs.Reader.{readRefusal, readOf}
+use Rattle.header_checks.specs.Checking.{readRefusal}
+use Rattle.header_reader.specs.Reader.{readOf}
 use Rattle.packet.specs.Packets.{unfit}
 use Rattle.receiver_table.specs.Table.{good, broken, other}
 use Rattle.receiver_table.specs.declared.Stage.{Stage}

@@ -4,7 +4,7 @@ use native.Mathlib.Omega.{arith}
 use borrow.Author.Needs.{needs}
 use lib.ListN.{length}
 use Rattle.counters.specs.Counters.{lastSlot}
-use Rattle.header_reader.specs.Reader.{readRefusal}
+use Rattle.header_checks.specs.Checking.{readRefusal}
 use Rattle.receiver_in_place.specs.Store.{storeLength}
 use Rattle.receiver_in_place.specs.InPlace.{receiverWith}
 use Rattle.receiver_receive.proofs.Sorts.{broken-sort, good-sort, read-refusal, read-setting}
