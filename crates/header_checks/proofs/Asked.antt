@@ -1,7 +1,7 @@
 -- What a packet says in the parts that a check asks for, as byte-wise code reads them, and what is answered of them by the refusal.
 -- Assumes nothing.
 use Prim.Native.Nat.{ℕ, _/_, _%_}
-use mathlib.Core.Path.{_≡_, ap, _∙_}
+use mathlib.Core.Path.{_≡_, sym, ap, _∙_}
 use mathlib.Core.List.{List}
 use borrow.Author.Tests.{ne-eqb}
 use native.Mathlib.Omega.{arith}
@@ -15,7 +15,7 @@ use Rattle.layout.proofs.Cut.{wordAt}
 use Rattle.layout.proofs.LaidOut.{laid-out}
 use Rattle.layout.proofs.Said.{fields-are, numbers-are, identifiers}
 use Rattle.header_checks.specs.declared.Checked.{Checked}
-use Rattle.header_checks.specs.Checking.{partsOf, partsBeside}
+use Rattle.header_checks.specs.Checking.{readRefusal, partsOf, partsBeside, checkedOf}
 
 -- both kinds have these parts in the same place
 module _ (kind : Kind) (p : List ℕ) (f : Fit 8 p) (h : length p ≡ headerLength) where
@@ -55,6 +55,16 @@ pub record Answers (kind : Kind) (p : List ℕ) (r : Checked) : Type 0 where
   pub sequence : r .«carrier_sequence» ≡ reading kind p .«carrier_sequence»
   pub frames : r .«number_of_frames» ≡ reading kind p .«number_of_frames»
   pub position : r .«frame_position» .0 ≡ reading kind p .«frame_position» .0
+
+-- what is answered tells the refusal, and beside 0 what the packet says
+module _ (kind : Kind) (pid : ℕ) (p : List ℕ) (r : Checked) (e : r ≡ checkedOf kind pid p) where
+  pub refusal-is : readRefusal kind pid p ≡ r .refusal
+  unfolding checkedOf partsBeside partsOf
+  refusal-is = sym (ap (λ (x : Checked). x .refusal) e)
+
+  pub parts-are : r .refusal ≡ 0 → r ≡ partsOf 0 (reading kind p)
+  unfolding checkedOf partsBeside
+  parts-are z = e ∙ rw (refusal-is ∙ z)
 
 -- n is the refusal, and m what the code found it to be
 module _ (kind : Kind) (p : List ℕ) {m n : ℕ} (e : n ≡ m) (r : Checked) where

@@ -2,9 +2,9 @@
 use mathlib.Core.Path.{_≡_, refl, _∙_}
 use native.Mathlib.Omega.{arith}
 use Rattle.header_checks.specs.Checking.{readRefusal}
+use Rattle.header_checks.proofs.Asked.{refusal-is, parts-are}
 use Rattle.header_checks.proofs.Accepted.{shown}
 use Rattle.header_reader.proofs.Calls.{refused, accepted}
-use Rattle.header_reader.proofs.Heard.{refusal-is, parts-are}
 use Rattle.header_reader.proofs.read.Statement.{statement}
 use Rattle.header_reader.proofs.read.Tie as tie
 
@@ -18,7 +18,7 @@ returns : tie.Need-returns
 returns c =
     let check = c .before .before .before in
     let s = check .before .before .args in
-    refused (s .kind) (s .pid) (s .packet .now) (refusal-is (s .kind) (s .packet .now) (check .check .result) (s .pid) (check .check .ensures)) (c .before .if1 .taken) _ refl
+    refused (s .kind) (s .pid) (s .packet .now) (refusal-is (s .kind) (s .pid) (s .packet .now) (check .check .result) (check .check .ensures)) (c .before .if1 .taken) _ refl
     (c .blank .ensures)
 
 -- the packet was accepted
@@ -27,14 +27,14 @@ passed : (c : tie.Else1)
 passed c =
     let check = c .before .before in
     let s = check .before .before .args in
-    refusal-is (s .kind) (s .packet .now) (check .check .result) (s .pid) (check .check .ensures) ∙ c .if1 .left
+    refusal-is (s .kind) (s .pid) (s .packet .now) (check .check .result) (check .check .ensures) ∙ c .if1 .left
 
 setting-of-requires : tie.Need-setting-of-requires
 setting-of-requires c κs =
     let check = c .before .before in
     let s = check .before .before .args in (
       shown (s .kind) (s .pid) (s .packet .now) (passed c) .whole,
-      parts-are (s .kind) (s .packet .now) (check .check .result) (s .pid) (check .check .ensures) (c .if1 .left),
+      parts-are (s .kind) (s .pid) (s .packet .now) (check .check .result) (check .check .ensures) (c .if1 .left),
     )
 
 returns-2 : tie.Need-returns-2
