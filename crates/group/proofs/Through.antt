@@ -16,9 +16,10 @@ use Rattle.setting.specs.Setting.{blank}
 use Rattle.refusal_table.specs.Refusal.{Check, NoneHolds, firstOf}
 use Rattle.rules.specs.Rules.{pidAllowed, ruleChecks, bondingChecks}
 use Rattle.refusal_table.proofs.Refusals.{answers, first-none, onward, at-once, none-append, none-before, none-behind, none-first}
-use Rattle.header_reader.specs.declared.Reading.{Reading}
+use Rattle.header_checks.specs.declared.Checked.{Checked}
 use Rattle.layout.specs.Header.{headerLength, packetChecks, reading}
-use Rattle.header_reader.specs.Reader.{readRefusal, readOf}
+use Rattle.header_checks.specs.Checking.{readRefusal, partsOf, checkedOf}
+use Rattle.header_checks.proofs.Asked.{refusal-is, parts-are}
 use Rattle.layout.proofs.Calls.{right-call}
 use Rattle.packet.specs.Packets.{packetLength, frameLength, slot}
 use Rattle.group.specs.declared.Bond.{Bond}
@@ -142,11 +143,9 @@ module _ (b : Bond) (group : List ℕ) where
     read-none e = none-first (readChecks j) refl e
 
     -- what an accepted header says
-    pub said-is : (r : Reading) → r ≡ readOf Kind.Extended (b .pid) (part j) → r .refusal ≡ 0 → r .setting ≡ said group j
-    unfolding readOf said
-    said-is r e z =
-        let f : readRefusal Kind.Extended (b .pid) (part j) ≡ 0 = sym (ap (λ (x : Reading). x .refusal) e) ∙ z in
-        ap (λ (x : Reading). x .setting) e ∙ rw f (ap (reading Kind.Extended) (part-is j))
+    pub said-is : (r : Checked) → r ≡ checkedOf Kind.Extended (b .pid) (part j) → r .refusal ≡ 0 → r ≡ partsOf 0 (said group j)
+    unfolding said
+    said-is r e z = parts-are Kind.Extended (b .pid) (part j) r e z ∙ ap (λ (p : List ℕ). partsOf 0 (reading Kind.Extended p)) (part-is j)
 
     module _ (plan : Plan) (behind : Shown) (group-id : ℕ) (t : Through plan behind group-id j) where
       -- the answer where this header is refused
@@ -161,16 +160,14 @@ module _ (b : Bond) (group : List ℕ) where
           ∙ refused-at 0 j k ((14, not (isEnd (b .carriers) (before group (framesIn group)))) ∷ []) (t .passed) (λ z. d (sym e′ ∙ z)) ∙ e′
 
       -- refused with 3 to 11
-      pub read-refused : (r : Reading) → r ≡ readOf Kind.Extended (b .pid) (part j) → (r .refusal ≡ 0 → ⊥) → firstOf (groupChecks b group) ≡ r .refusal
-      unfolding readOf
+      pub read-refused : (r : Checked) → r ≡ checkedOf Kind.Extended (b .pid) (part j) → (r .refusal ≡ 0 → ⊥) → firstOf (groupChecks b group) ≡ r .refusal
       read-refused r e d =
-          let f : r .refusal ≡ firstOf (readChecks j) = ap (λ (x : Reading). x .refusal) e ∙ read-refusal in
+          let f : r .refusal ≡ firstOf (readChecks j) = sym (refusal-is Kind.Extended (b .pid) (part j) r e) ∙ read-refusal in
           answer (r .refusal) (ap firstOf split ∙ at-once (readChecks j) standing (λ z. d (f ∙ z)) ∙ sym f) d
 
-      module _ (r : Reading) (e : r ≡ readOf Kind.Extended (b .pid) (part j)) (z : r .refusal ≡ 0) where
+      module _ (r : Checked) (e : r ≡ checkedOf Kind.Extended (b .pid) (part j)) (z : r .refusal ≡ 0) where
         accepted : NoneHolds (readChecks j)
-        unfolding readOf
-        accepted = read-none (sym read-refusal ∙ sym (ap (λ (x : Reading). x .refusal) e) ∙ z)
+        accepted = read-none (sym read-refusal ∙ refusal-is Kind.Extended (b .pid) (part j) r e ∙ z)
 
         -- refused with 14
         pub standing-refused : (x : ℕ) → x ≡ firstOf standing → (x ≡ 0 → ⊥) → firstOf (groupChecks b group) ≡ x

@@ -2,19 +2,22 @@
 use crate::Bond;
 use counters::FramePosition;
 use counters::RelativeNumber;
+use header_checks::Checked;
 use packet::FRAME_BYTES;
 use packet::PACKET_BYTES;
 use setting::Kind;
 use setting::SLOTS;
 use setting::STREAMS;
-use setting::Setting;
 ghost use mathlib.Core.Path.{_≡_};
 ghost use mathlib.Core.Bool.{true};
 ghost use Prim.Native.Nat.{_≤_, _<_, _*_, _%_};
 ghost use lib.ListN.{length};
 ghost use Rattle.counters.specs.Counters.{lastSlot, lastPosition};
+ghost use Rattle.setting.specs.declared.Setting.{Setting};
+ghost use Rattle.setting.specs.Setting.{blank};
 ghost use Rattle.refusal_table.specs.Refusal.{firstOf};
 ghost use Rattle.rules.specs.Rules.{pidAllowed};
+ghost use Rattle.header_checks.specs.Checking.{partsOf};
 ghost use Rattle.packet.specs.Packets.{frameLength};
 ghost use Rattle.places.specs.Order.{framePackets};
 ghost use Rattle.places.specs.Walk.{lastCarrier, mostFrames};
@@ -52,19 +55,19 @@ pub struct Planned {
     pub plan: Plan,
 }
 
-// The number by which a header knows the stream among the available ones, or 0.
-fn number_of(s: Setting, b: Bond) -> u8
-    ensures { λ r. ⌜ r ≡ numberOf b s ⌝ }
+// The number by which a header knows the stream among the available ones, or 0. It is that of each setting of which these are the parts.
+fn number_of(heard: Checked, b: Bond) -> u8
+    ensures { λ r. ⌜ ((s : Setting) → heard ≡ partsOf 0 s → r ≡ numberOf b s) ⌝ }
 {
-    let ts_id = s.ts_id;
-    let original_network_id = s.original_network_id;
+    let ts_id = heard.ts_id;
+    let original_network_id = heard.original_network_id;
     let mut number = 0u8;
     let mut k = 0;
     while k < STREAMS {
         if ts_id[k] == b.ts_id {
             if original_network_id[k] == b.original_network_id {
                 let r = k as u8 + 1;
-                if RelativeNumber(r).is_available(s.availability) {
+                if RelativeNumber(r).is_available(heard.availability) {
                     number = r;
                 }
             }
@@ -93,15 +96,28 @@ fn marks_of(numbers: &[u8], r: u8) -> u64
     marks
 }
 
-fn shown_by(s: Setting) -> Shown
-    ensures { λ r. ⌜ r ≡ shownBy s ⌝ }
+// What stands before the first header.
+fn nothing_shown() -> Shown
+    ensures { λ r. ⌜ r ≡ shownBy blank ⌝ }
 {
-    let frame_position = s.frame_position;
     Shown {
-        group_id: s.group_id,
-        number_of_carriers: s.number_of_carriers,
-        carrier_sequence: s.carrier_sequence,
-        number_of_frames: s.number_of_frames,
+        group_id: 0,
+        number_of_carriers: 0,
+        carrier_sequence: 0,
+        number_of_frames: 0,
+        frame_position: FramePosition(0),
+    }
+}
+
+fn shown_by(heard: Checked) -> Shown
+    ensures { λ r. ⌜ ((s : Setting) → heard ≡ partsOf 0 s → r ≡ shownBy s) ⌝ }
+{
+    let frame_position = heard.frame_position;
+    Shown {
+        group_id: heard.group_id,
+        number_of_carriers: heard.number_of_carriers,
+        carrier_sequence: heard.carrier_sequence,
+        number_of_frames: heard.number_of_frames,
         frame_position,
     }
 }
@@ -190,16 +206,16 @@ fn nothing_seen() -> Plan
 }
 
 // The header of frame j taken in.
-fn seen(plan: Plan, j: usize, s: Setting, b: Bond) -> Plan
-    requires { ⌜ (1 ≤ s .«carrier_sequence») × (s .«carrier_sequence» ≤ lastCarrier) × (j < mostFrames) ⌝ }
+fn seen(plan: Plan, j: usize, heard: Checked, b: Bond) -> Plan
+    requires { ⌜ (1 ≤ heard .«carrier_sequence») × (heard .«carrier_sequence» ≤ lastCarrier) × (j < mostFrames) ⌝ }
     requires { ⌜ plan .packets ≤ framePackets * j ⌝ }
-    ensures { λ r. ⌜ r ≡ seen b plan j s ⌝ }
+    ensures { λ r. ⌜ ((s : Setting) → heard ≡ partsOf 0 s → r ≡ seen b plan j s) ⌝ }
 {
-    let number = number_of(s, b);
-    let numbers = s.relative_ts_number;
+    let number = number_of(heard, b);
+    let numbers = heard.relative_ts_number;
     let marks = marks_of(&numbers, number);
     let mut frames = plan.frames;
-    frames[s.carrier_sequence as usize - 1] = s.number_of_frames;
+    frames[heard.carrier_sequence as usize - 1] = heard.number_of_frames;
     let mut slots = plan.slots;
     slots[j] = marks;
     let mut is_carried = plan.is_carried;
@@ -230,16 +246,16 @@ pub(crate) fn plan_of(group: &[u8], b: Bond) -> Planned
 {
     let count = group.len() / FRAME_BYTES;
     let mut plan = nothing_seen();
-    let mut behind = shown_by(Setting::blank());
+    let mut behind = nothing_shown();
     let mut group_id = 0u8;
     let mut j = 0;
     while j < count {
         let at = FRAME_BYTES * j;
-        let reading = header_reader::read(&group[at..at + PACKET_BYTES], b.pid, Kind::Extended);
-        if reading.refusal != 0 {
-            return refused(reading.refusal);
+        let heard = header_checks::check(&group[at..at + PACKET_BYTES], b.pid, Kind::Extended);
+        if heard.refusal != 0 {
+            return refused(heard.refusal);
         }
-        let shown = shown_by(reading.setting);
+        let shown = shown_by(heard);
         if j == 0 {
             group_id = shown.group_id;
         }
@@ -247,7 +263,7 @@ pub(crate) fn plan_of(group: &[u8], b: Bond) -> Planned
         if standing != 0 {
             return refused(standing);
         }
-        plan = seen(plan, j, reading.setting, b);
+        plan = seen(plan, j, heard, b);
         behind = shown;
         j += 1;
     }

@@ -20,7 +20,7 @@ use Rattle.layout.proofs.LaidOut.{laid-out, bodyBits, size-layout, length-conte
 use Rattle.header_writer.proofs.Calls.{not-refused}
 use Rattle.layout.proofs.Content.{fills-replicate}
 use Rattle.layout.proofs.Whole.{crcOf, crc-lt, header-only, register-behind, row-header}
-use Rattle.header_reader.proofs.Accepted.{Shown, shown, long, row-filled, meets}
+use Rattle.header_checks.proofs.Accepted.{Shown, shown, long, row-filled, meets}
 
 -- ---- row by row
 

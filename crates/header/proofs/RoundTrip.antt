@@ -24,7 +24,8 @@ use Rattle.layout.specs.Rows.{place, rowAt}
 use Rattle.layout.specs.Layout.{layout}
 use Rattle.layout.specs.Header.{paired, firsts, seconds, content, headerLength, header, row, value, reading, packetChecks}
 use Rattle.header_writer.specs.Writing.{written}
-use Rattle.header_reader.specs.Reader.{readRefusal, readOf}
+use Rattle.header_checks.specs.Checking.{readRefusal}
+use Rattle.header_reader.specs.Reader.{readOf}
 use Rattle.layout.specs.Meets.{MeetsRules}
 use Rattle.header.specs.Demands.{WrittenAndReadBack}
 use Rattle.layout.proofs.LaidOut.{laid-out}

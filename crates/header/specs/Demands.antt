@@ -13,7 +13,8 @@ use Rattle.layout.specs.Layout.{layout, reservedRows}
 use Rattle.layout.specs.Header.{headerLength, header, row, reading}
 use Rattle.layout.specs.Meets.{MeetsRules}
 use Rattle.header_writer.specs.Writing.{writeRefusal, written}
-use Rattle.header_reader.specs.Reader.{readRefusal, readOf}
+use Rattle.header_checks.specs.Checking.{readRefusal}
+use Rattle.header_reader.specs.Reader.{readOf}
 
 -- 'Every setting that meets the rules is written, and read back equal.'
 abbrev pub WrittenAndReadBack : Type 0

@@ -9,7 +9,8 @@ use Rattle.setting.specs.declared.Kind.{Kind}
 use Rattle.setting.specs.Setting.{blank}
 use Rattle.layout.specs.Header.{reading}
 use Rattle.header_reader.specs.declared.Reading.{Reading}
-use Rattle.header_reader.specs.Reader.{readRefusal, readOf}
+use Rattle.header_checks.specs.Checking.{readRefusal}
+use Rattle.header_reader.specs.Reader.{readOf}
 
 module _ (kind : Kind) (pid : ℕ) (p : List ℕ) where
   -- a refusal answers zeros beside its number

@@ -17,21 +17,15 @@ pub struct Reading {
 pub fn read(packet: &[u8], pid: u16, kind: Kind) -> Reading
     ensures { λ r. ⌜ r ≡ readOf kind pid (now (packet .entry)) ⌝ }
 {
-    if packet.len() != layout::HEADER_LENGTH {
-        return reader::refused(1);
+    let heard = header_checks::check(packet, pid, kind);
+    if heard.refusal != 0 {
+        let setting = Setting::blank();
+        return Reading {
+            refusal: heard.refusal,
+            setting,
+        };
     }
-    if !rules::pid_allowed(pid) {
-        return reader::refused(2);
-    }
-    let shown = reader::packet_refusal(packet, pid);
-    if shown != 0 {
-        return reader::refused(shown);
-    }
-    let setting = reader::setting_of(packet, kind);
-    let rule = setting_rules::rule_refusal(kind, setting);
-    if rule != 0 {
-        return reader::refused(rule);
-    }
+    let setting = reader::setting_of(packet, kind, heard);
     Reading {
         refusal: 0,
         setting,

@@ -26,16 +26,3 @@ pub(crate) fn read_run(values: &mut [u8], part: &[u8], width: u32)
         i += 1;
     }
 }
-
-// Cuts values of 4 bits, two from a byte: what `read_run` does for this width, many bytes at a time.
-pub(crate) fn read_halves(values: &mut [u8], part: &[u8])
-    requires { ⌜ length (now values) ≡ 2 * length (now part) ⌝ }
-    ensures { λ _. ⌜ now (values .exit) ≡ cut 4 (length (now (values .entry))) (run 8 (now (part .entry))) ⌝ }
-{
-    let mut k = 0;
-    while k < part.len() {
-        values[2 * k] = part[k] / 16;
-        values[2 * k + 1] = part[k] % 16;
-        k += 1;
-    }
-}

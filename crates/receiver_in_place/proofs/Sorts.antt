@@ -10,8 +10,8 @@ use Rattle.setting.specs.declared.Kind.{Kind}
 use Rattle.layout.specs.Rows.{place, rowAt}
 use Rattle.layout.specs.Layout.{syncByte, startRows, identifierRows, controlRows, numberRows, privateRows, layout}
 use Rattle.layout.specs.Header.{startValue}
-use Rattle.header_reader.specs.Reader.{readRefusal}
-use Rattle.header_reader.proofs.Accepted.{shown}
+use Rattle.header_checks.specs.Checking.{readRefusal}
+use Rattle.header_checks.proofs.Accepted.{shown}
 use Rattle.packet.specs.Packets.{unfit}
 
 -- a header bears the header PID

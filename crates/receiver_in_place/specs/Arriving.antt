@@ -6,7 +6,7 @@ use lib.Dec.{ltb, eqb}
 use Rattle.slices.specs.Slices.{over}
 use Rattle.setting.specs.declared.Kind.{Kind}
 use Rattle.counters.specs.Counters.{lastSlot}
-use Rattle.header_reader.specs.Reader.{readRefusal}
+use Rattle.header_checks.specs.Checking.{readRefusal}
 use Rattle.packet.specs.Packets.{packetLength, unfit}
 use Rattle.receiver_table.specs.declared.Stage.{Stage}
 use Rattle.receiver_table.specs.Table.{Sort, good, broken, other, storedOf}

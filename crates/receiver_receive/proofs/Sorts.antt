@@ -6,9 +6,9 @@ use mathlib.Core.List.{List}
 use borrow.Author.Tests.{eq-eqb, ne-eqb}
 use lib.Dec.{eqb}
 use Rattle.setting.specs.declared.Kind.{Kind}
-use Rattle.header_reader.specs.declared.Reading.{Reading}
+use Rattle.header_checks.specs.declared.Checked.{Checked}
 use Rattle.layout.specs.Header.{reading}
-use Rattle.header_reader.specs.Reader.{readRefusal, readOf}
+use Rattle.header_checks.specs.Checking.{readRefusal, partsOf, partsBeside, checkedOf}
 use Rattle.packet.specs.Packets.{unfit}
 use Rattle.receiver_table.specs.Table.{good, broken, other}
 use Rattle.receiver_table.specs.declared.Stage.{Stage}
@@ -33,15 +33,15 @@ module _ (kind : Kind) (pid : ℕ) (p : List ℕ) where
   unfolding sortOf
   good-sort r = rw (eq-eqb (readRefusal kind pid p) 0 r)
 
-  -- what the reader says
-  module _ {r : Reading} (e : r ≡ readOf kind pid p) where
-    pub read-refusal : r .refusal ≡ readRefusal kind pid p
-    unfolding readOf
-    read-refusal = ap (λ (t : Reading). t .refusal) e
+  -- what the check says
+  module _ {r : Checked} (e : r ≡ checkedOf kind pid p) where
+    pub checked-refusal : r .refusal ≡ readRefusal kind pid p
+    unfolding checkedOf partsBeside partsOf
+    checked-refusal = ap (λ (t : Checked). t .refusal) e
 
-    pub read-setting : readRefusal kind pid p ≡ 0 → r .setting ≡ reading kind p
-    unfolding readOf
-    read-setting z = ap (λ (t : Reading). t .setting) e ∙ rw (eq-eqb (readRefusal kind pid p) 0 z) refl
+    pub checked-counter : readRefusal kind pid p ≡ 0 → r .«continuity_counter» ≡ reading kind p .«continuity_counter»
+    unfolding checkedOf partsBeside partsOf
+    checked-counter z = ap (λ (t : Checked). t .«continuity_counter») e ∙ rw (eq-eqb (readRefusal kind pid p) 0 z) refl
 
   -- a packet that may stand in no slot is not stored
   pub not-stored : unfit pid p ≡ true → (stage : Stage) (store : List ℕ) → storeAfter stage (sortOf kind pid p) p store ≡ store

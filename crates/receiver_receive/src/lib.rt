@@ -93,12 +93,11 @@ fn take_header(pid: u16, kind: Kind, stage: Stage, numbers: &mut [u8], packet: &
     ensures { λ r. ⌜ r ≡ stepOf (receiveOf (receiverWith pid kind stage (now (numbers .entry))) (now (packet .entry)) storeLength) ⌝ }
     ensures { λ _. ⌜ now (numbers .exit) ≡ numbersOf (receiveOf (receiverWith pid kind stage (now (numbers .entry))) (now (packet .entry)) storeLength .state) ⌝ }
 {
-    let reading = header_reader::read(packet, pid, kind);
-    if reading.refusal != 0 {
+    let said = header_checks::check(packet, pid, kind);
+    if said.refusal != 0 {
         return accepted(receiver_table::broken_row(stage));
     }
     renew(numbers, packet);
-    let said = reading.setting;
     accepted(receiver_table::header_row(stage, said.continuity_counter))
 }
 

@@ -17,7 +17,7 @@ use Rattle.rules.specs.Rules.{pidAllowed}
 use Rattle.refusal_table.proofs.Refusals.{first-none, none-append}
 use Rattle.rules.proofs.Fields.{some-fit}
 use Rattle.layout.specs.Header.{reading}
-use Rattle.header_reader.specs.Reader.{readRefusal}
+use Rattle.header_checks.specs.Checking.{readRefusal}
 use Rattle.packet.specs.Packets.{packetLength, unfit}
 use Rattle.receiver_table.specs.declared.Stage.{Stage}
 use Rattle.receiver_table.specs.declared.Event.{Event}

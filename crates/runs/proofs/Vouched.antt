@@ -17,7 +17,8 @@ use Rattle.refusal_table.specs.Refusal.{none, more, leaves}
 use Rattle.refusal_table.proofs.Refusals.{first-none, none-append}
 use Rattle.header_reader.specs.declared.Reading.{Reading}
 use Rattle.layout.specs.Header.{reading}
-use Rattle.header_reader.specs.Reader.{readRefusal, readOf}
+use Rattle.header_checks.specs.Checking.{readRefusal}
+use Rattle.header_reader.specs.Reader.{readOf}
 use Rattle.packet.specs.Packets.{packetLength, frameLength, slot, unfit}
 use Rattle.receiver_table.specs.declared.Stage.{Stage}
 use Rattle.receiver_table.specs.declared.Event.{Event}

@@ -6,7 +6,8 @@ use mathlib.Core.List.{List, [], _∷_, _++_}
 use lib.ListN.{length, take, drop}
 use Rattle.setting.specs.declared.Kind.{Kind}
 use Rattle.counters.specs.Counters.{lastSlot}
-use Rattle.header_reader.specs.Reader.{readRefusal, readOf}
+use Rattle.header_checks.specs.Checking.{readRefusal}
+use Rattle.header_reader.specs.Reader.{readOf}
 use Rattle.packet.specs.Packets.{packetLength, slot}
 use Rattle.receiver_in_place.specs.declared.Receiver.{Receiver}
 use Rattle.receiver_in_place.specs.Store.{numbered}

@@ -1,26 +1,26 @@
 -- `take_header` meets its contract: the packet is broken, or a header. Assumes nothing.
 use mathlib.Core.Path.{_≡_, refl, sym, ap, _∙_}
 use borrow.Author.Needs.{needs}
-use Rattle.setting.specs.declared.Setting.{Setting}
-use Rattle.slot_numbers.specs.Packed.{packed}
-use Rattle.header_reader.specs.Reader.{readRefusal}
+use Rattle.layout.specs.Header.{reading}
+use Rattle.receiver_table.specs.Table.{good, rowOf}
+use Rattle.header_checks.specs.Checking.{readRefusal}
 use Rattle.receiver_in_place.specs.Store.{storeLength}
 use Rattle.receiver_in_place.specs.InPlace.{receiverWith}
-use Rattle.receiver_receive.proofs.Sorts.{broken-sort, good-sort, read-refusal, read-setting}
+use Rattle.receiver_receive.proofs.Sorts.{broken-sort, good-sort, checked-refusal, checked-counter}
 use Rattle.receiver_receive.proofs.Joined.{opened-is}
 use Rattle.receiver_receive.proofs.Receipts.{whole-packet, broken-receipt, good-receipt}
 use Rattle.receiver_receive.proofs.Steps.{kept-step, header-step}
 use Rattle.receiver_receive.proofs.take_header.Statement.{statement}
 use Rattle.receiver_receive.proofs.take_header.Tie as tie
 
-abbrev start : tie.After-read → tie.Start
+abbrev start : tie.After-check → tie.Start
 start c = c .before .before .before
 
-said-refusal : (c : tie.After-read) → c .read .result .refusal ≡ readRefusal (start c .args .kind) (start c .args .pid) (start c .args .packet .now)
-said-refusal c = read-refusal _ _ _ (c .read .ensures)
+said-refusal : (c : tie.After-check) → c .check .result .refusal ≡ readRefusal (start c .args .kind) (start c .args .pid) (start c .args .packet .now)
+said-refusal c = checked-refusal _ _ _ (c .check .ensures)
 
-read-requires : tie.Need-read-requires
-read-requires c κs = search needs
+check-requires : tie.Need-check-requires
+check-requires c κs = search needs
 
 broken-row-requires : tie.Need-broken-row-requires
 broken-row-requires c κs = search needs
@@ -32,11 +32,11 @@ returns : tie.Need-returns
 unfolding receiverWith
 returns c =
     let row = c .before in
-    let read = row .before .before .before in
-    let s = start read in
+    let check = row .before .before .before in
+    let s = start check in
     let a = s .args in
     let w = receiverWith (a .pid) (a .kind) (a .stage) (a .numbers .now) in
-    let sort = broken-sort (a .kind) (a .pid) (a .packet .now) (s .pre .0 .1) (λ e. row .before .if1 .taken (said-refusal read ∙ e)) in
+    let sort = broken-sort (a .kind) (a .pid) (a .packet .now) (s .pre .0 .1) (λ e. row .before .if1 .taken (said-refusal check ∙ e)) in
     kept-step (a .pid) (a .kind) (a .stage) (a .numbers .now) (a .packet .now) (s .pre .1 .0) storeLength (s .pre .0 .0) (c .accepted .ensures)
     (broken-receipt w (a .packet .now) storeLength (s .pre .1 .1) sort (row .broken-row .ensures))
 
@@ -59,25 +59,24 @@ returns-2 : tie.Need-returns-2
 unfolding receiverWith
 returns-2 c =
     let row = c .before in
-    let renew = row .before .before .before .before in
-    let read = renew .before .before .before .before in
-    let s = start read in
+    let renew = row .before .before .before in
+    let check = renew .before .before .before .before in
+    let s = start check in
     let a = s .args in
     let w = receiverWith (a .pid) (a .kind) (a .stage) (a .numbers .now) in
-    let accepts = sym (said-refusal read) ∙ renew .before .before .if1 .left in
-    let said = read .read .result .setting in
-    let is = read-setting (a .kind) (a .pid) (a .packet .now) (read .read .ensures) accepts in
-    header-step (a .pid) (a .kind) (a .stage) (a .numbers .now) (a .packet .now) (s .pre .1 .0) storeLength (s .pre .0 .0) (c .accepted2 .ensures) said
-    (good-receipt w (a .packet .now) storeLength (s .pre .1 .1) (good-sort (a .kind) (a .pid) (a .packet .now) accepts) said is (row .header-row .ensures))
-    (ap (λ (t : Setting). packed (t .«relative_ts_number»)) is
-    ∙ opened-is (a .kind) (a .packet .now) (whole-packet w _ _ (s .pre .1 .1)) (renew .renew .ensures .1))
+    let p = a .packet .now in
+    let accepts = sym (said-refusal check) ∙ renew .before .before .if1 .left in
+    header-step (a .pid) (a .kind) (a .stage) (a .numbers .now) p (s .pre .1 .0) storeLength (s .pre .0 .0) (c .accepted2 .ensures) (reading (a .kind) p)
+    (good-receipt w p storeLength (s .pre .1 .1) (good-sort (a .kind) (a .pid) p accepts) (reading (a .kind) p) refl
+    (row .header-row .ensures ∙ ap (rowOf (a .stage) good) (checked-counter (a .kind) (a .pid) p (check .check .ensures) accepts)))
+    (opened-is (a .kind) p (whole-packet w _ _ (s .pre .1 .1)) (renew .renew .ensures .1))
     refl (renew .renew .ensures .0)
 
 pub take-header-spec : {M : Type 1} → statement M
 take-header-spec =
     tie.close
     (tie.spec
-    read-requires
+    check-requires
     broken-row-requires
     accepted-requires
     returns

@@ -10,6 +10,8 @@ use borrow.Author.Tests.{eq-eqb, ne-eqb}
 use lib.Dec.{eqb}
 use lib.ListN.{getD}
 use Rattle.setting.specs.declared.Setting.{Setting}
+use Rattle.header_checks.specs.declared.Checked.{Checked}
+use Rattle.header_checks.specs.Checking.{partsOf}
 use Rattle.counters.specs.Counters.{lastStream, available}
 use Rattle.group.specs.declared.Bond.{Bond}
 use Rattle.group.specs.Group.{names, numberUpTo, numberOf}
@@ -22,24 +24,28 @@ module _ (b : Bond) (s : Setting) (k : ℕ) where
   unfolding numberUpTo
   up = rw add-one
 
-  turn : {x y z : Bool} → eqb (getD (s .«ts_id») k 0) (b .«ts_id») ≡ x
-      → eqb (getD (s .«original_network_id») k 0) (b .«original_network_id») ≡ y → available (s .availability) (k + 1) ≡ z
+  -- asked of the parts of the setting
+  turn : (h : Checked) → h ≡ partsOf 0 s → {x y z : Bool} → eqb (getD (h .«ts_id») k 0) (b .«ts_id») ≡ x
+      → eqb (getD (h .«original_network_id») k 0) (b .«original_network_id») ≡ y → available (h .availability) (k + 1) ≡ z
       → numberUpTo b s (k + 1) ≡ cond (x && (y && z)) (k + 1) (numberUpTo b s k)
-  unfolding names
-  turn {x} {y} {z} e f g =
+  unfolding names partsOf
+  turn h same {x} {y} {z} e f g =
       let back : k + 1 - 1 ≡ k = omega arith in
-      let named : names b s (k + 1) ≡ x && (y && z) = rw (back, e, f, g) (and-comm z (x && y) ∙ and-assoc x y z) in
+      let ts : s .«ts_id» ≡ h .«ts_id» = sym (ap (λ (t : Checked). t .«ts_id») same) in
+      let os : s .«original_network_id» ≡ h .«original_network_id» = sym (ap (λ (t : Checked). t .«original_network_id») same) in
+      let streams : s .availability ≡ h .availability = sym (ap (λ (t : Checked). t .availability) same) in
+      let named : names b s (k + 1) ≡ x && (y && z) = rw (back, ts, os, streams, e, f, g) (and-comm z (x && y) ∙ and-assoc x y z) in
       up ∙ ap (λ (t : Bool). cond t (k + 1) (numberUpTo b s k)) named
 
 abbrev Inv-loop : tie.InvT-loop
-Inv-loop s b ts-id original-network-id number₀ k₀ number k = (k ≤ lastStream) × (number ≡ numberUpTo b s k)
+Inv-loop heard b ts-id original-network-id number₀ k₀ number k = (k ≤ lastStream) × ((s : Setting) → heard ≡ partsOf 0 s → number ≡ numberUpTo b s k)
 
 abbrev μ-loop : tie.MeasureT-loop
-μ-loop s b ts-id original-network-id number₀ k₀ number k = lastStream - k
+μ-loop heard b ts-id original-network-id number₀ k₀ number k = lastStream - k
 
 loop-holds : tie.Need-loop-holds Inv-loop μ-loop
 unfolding numberUpTo
-loop-holds c = (omega arith, refl)
+loop-holds c = (omega arith, λ s e. refl)
 
 mul-if1 : tie.Need-mul-if1 Inv-loop μ-loop
 mul-if1 c = search needs
@@ -71,14 +77,15 @@ loop-less c = search needs
 loop-again : tie.Need-loop-again Inv-loop μ-loop
 loop-again c =
     let loop = c .before .before .before in
-    let s = loop .before .before .before .args in
+    let a = loop .before .before .before .args in
     let k = loop .loop .k in
     let held = loop .loop .inv .1 in (
       omega arith,
-      ⊎-elim (λ w. w .5 ∙ sym (turn (s .b) (s .s) k (eq-eqb _ _ (w .0 .taken)) (eq-eqb _ _ (w .2 .taken)) (sym (w .3 .ensures) ∙ w .4 .taken)))
-          (⊎-elim (λ w. w .5 ∙ held ∙ sym (turn (s .b) (s .s) k (eq-eqb _ _ (w .0 .taken)) (eq-eqb _ _ (w .2 .taken)) (sym (w .3 .ensures) ∙ w .4 .left)))
-          (⊎-elim (λ w. w .3 ∙ held ∙ sym (turn (s .b) (s .s) k (eq-eqb _ _ (w .0 .taken)) (ne-eqb _ _ (w .2 .left)) refl))
-          (λ w. w .1 ∙ held ∙ sym (turn (s .b) (s .s) k (ne-eqb _ _ (w .0 .left)) refl refl))))
+      λ s e.
+          ⊎-elim (λ w. w .5 ∙ sym (turn (a .b) s k (a .heard) e (eq-eqb _ _ (w .0 .taken)) (eq-eqb _ _ (w .2 .taken)) (sym (w .3 .ensures) ∙ w .4 .taken)))
+          (⊎-elim (λ w. w .5 ∙ held s e ∙ sym (turn (a .b) s k (a .heard) e (eq-eqb _ _ (w .0 .taken)) (eq-eqb _ _ (w .2 .taken)) (sym (w .3 .ensures) ∙ w .4 .left)))
+          (⊎-elim (λ w. w .3 ∙ held s e ∙ sym (turn (a .b) s k (a .heard) e (eq-eqb _ _ (w .0 .taken)) (ne-eqb _ _ (w .2 .left)) refl))
+          (λ w. w .1 ∙ held s e ∙ sym (turn (a .b) s k (a .heard) e (ne-eqb _ _ (w .0 .left)) refl refl))))
           (c .if1 .came),
     )
 
@@ -87,7 +94,7 @@ unfolding numberOf
 returns c =
     let k = c .before in
     let all : k .loop .k ≡ lastStream = omega arith in
-    rw all at (k .loop .inv .1)
+    λ s e. k .loop .inv .1 s e ∙ ap (numberUpTo (k .before .before .before .args .b) s) all
 
 pub number-of-spec : {M : Type 1} → statement M
 number-of-spec =

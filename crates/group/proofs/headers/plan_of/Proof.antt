@@ -3,9 +3,10 @@ use Prim.Native.Nat.{ℕ, _+_, _-_}
 use mathlib.Core.Path.{_≡_, refl, sym, ap, _∙_}
 use mathlib.Core.Logic.{⊎-elim}
 use Rattle.refusal_table.specs.Refusal.{firstOf}
+use Rattle.header_checks.specs.declared.Checked.{Checked}
+use Rattle.header_checks.specs.Checking.{partsOf}
 use Rattle.group.specs.declared.headers.Shown.{Shown}
 use Rattle.group.specs.Standing.{shownBy, before, standingChecks}
-use Rattle.group.specs.Plan.{seen}
 use borrow.Author.Needs.{needs}
 use borrow.Author.Tests.{not-true, not-false}
 use native.Mathlib.Omega.{arith}
@@ -15,16 +16,6 @@ use Rattle.group.proofs.Planned.{packets-few}
 use Rattle.group.proofs.Through.{Through, through-none, said-is, read-refused, standing-refused, stand-each, through-more, behind-few, missing, none-missing, all-planned, planned-refused, planned-all}
 use Rattle.group.proofs.headers.plan_of.Statement.{statement}
 use Rattle.group.proofs.headers.plan_of.Tie as tie
-use Rattle.group.proofs.headers.plan_of.Reads as reads
-use Rattle.group.proofs.headers.plan_of.Lts as lts
-use Rattle.group.proofs.headers.is_end.Reads as is-end-reads
-use Rattle.group.proofs.headers.nothing_seen.Reads as nothing-seen-reads
-use Rattle.group.proofs.headers.refused.Reads as refused-reads
-use Rattle.group.proofs.headers.seen.Reads as seen-reads
-use Rattle.group.proofs.headers.shown_by.Reads as shown-by-reads
-use Rattle.group.proofs.headers.standing_refusal.Reads as standing-refusal-reads
-use Rattle.header_reader.proofs.read.Reads as read-reads
-use Rattle.setting.proofs.Setting.blank.Reads as blank-reads
 
 abbrev Inv-loop : tie.InvT-loop
 Inv-loop group b count plan₀ behind₀ group-id₀ j₀ plan behind group-id j = Through b group plan behind group-id j
@@ -32,89 +23,76 @@ Inv-loop group b count plan₀ behind₀ group-id₀ j₀ plan behind group-id j
 abbrev μ-loop : tie.MeasureT-loop
 μ-loop group b count plan₀ behind₀ group-id₀ j₀ plan behind group-id j = framesIn group - j
 
--- src/headers.rt:230:9
 nothing-seen-requires : tie.Need-nothing-seen-requires Inv-loop μ-loop
 nothing-seen-requires c κs = search needs
 
--- src/headers.rt:231:31
-blank-requires : tie.Need-blank-requires Inv-loop μ-loop
-blank-requires c κs = search needs
+nothing-shown-requires : tie.Need-nothing-shown-requires Inv-loop μ-loop
+nothing-shown-requires c κs = search needs
 
--- src/headers.rt:231:9
-shown-by-requires : tie.Need-shown-by-requires Inv-loop μ-loop
-shown-by-requires c κs = search needs
-
--- src/headers.rt:234:5
 loop-holds : tie.Need-loop-holds Inv-loop μ-loop
-loop-holds c = through-none _ _ (c .before .before .nothing-seen .result) (c .shown-by .result) 0 (c .before .before .nothing-seen .ensures) (c .shown-by .ensures ∙ ap shownBy (c .before .blank .ensures))
+loop-holds c = through-none _ _ (c .before .nothing-seen .result) (c .nothing-shown .result) 0 (c .before .nothing-seen .ensures) (c .nothing-shown .ensures)
 
--- src/headers.rt:235:18
 mul-at : tie.Need-mul-at Inv-loop μ-loop
 mul-at c = search needs
 
--- src/headers.rt:236:47
-add-read : tie.Need-add-read Inv-loop μ-loop
-add-read c = search needs
+add-check : tie.Need-add-check Inv-loop μ-loop
+add-check c = search needs
 
--- src/headers.rt:236:36
-sub-read : tie.Need-sub-read Inv-loop μ-loop
-sub-read c = search needs
+sub-check : tie.Need-sub-check Inv-loop μ-loop
+sub-check c = search needs
 
--- src/headers.rt:236:36
-part-read-start : tie.Need-part-read-start Inv-loop μ-loop
-part-read-start c = search needs
+part-check-start : tie.Need-part-check-start Inv-loop μ-loop
+part-check-start c = search needs
 
--- src/headers.rt:236:36
-part-read-end : tie.Need-part-read-end Inv-loop μ-loop
-part-read-end c = search needs
+part-check-end : tie.Need-part-check-end Inv-loop μ-loop
+part-check-end c = search needs
 
--- src/headers.rt:236:13
-read-requires : tie.Need-read-requires Inv-loop μ-loop
-read-requires c κs = search needs
+check-requires : tie.Need-check-requires Inv-loop μ-loop
+check-requires c κs = search needs
 
--- src/headers.rt:238:13
 refused-requires : tie.Need-refused-requires Inv-loop μ-loop
 refused-requires c κs = search needs
 
--- src/headers.rt:238:13
 returns : tie.Need-returns Inv-loop μ-loop
 returns c =
     let r = c .before .before .before in
     let k = r .before .before .before in
-    let s = k .before .before .before .before .before in
-    planned-refused (s .args .b) (s .args .group .now) (c .refused .result) (r .read .result .refusal)
-    (read-refused (s .args .b) (s .args .group .now) (s .pre .0 .1) (k .loop .j) (omega arith) (k .loop .plan) (k .loop .behind) (k .loop .group-id) (k .loop .inv) (r .read .result) (r .read .ensures) (c .before .if1 .taken))
+    let s = k .before .before .before .before in
+    planned-refused (s .args .b) (s .args .group .now) (c .refused .result) (r .check .result .refusal)
+    (read-refused (s .args .b) (s .args .group .now) (s .pre .0 .1) (k .loop .j) (omega arith) (k .loop .plan) (k .loop .behind) (k .loop .group-id) (k .loop .inv) (r .check .result) (r .check .ensures) (c .before .if1 .taken))
     (c .before .if1 .taken) (c .refused .ensures .0) (c .refused .ensures .1)
 
--- src/headers.rt:240:13
-shown-by-requires-2 : tie.Need-shown-by-requires-2 Inv-loop μ-loop
-shown-by-requires-2 c κs = search needs
+shown-by-requires : tie.Need-shown-by-requires Inv-loop μ-loop
+shown-by-requires c κs = search needs
 
--- src/headers.rt:244:13
 standing-refusal-requires : tie.Need-standing-refusal-requires Inv-loop μ-loop
 standing-refusal-requires c κs =
     let k = c .before .before .before .before .before .before .before in
-    let s = k .before .before .before .before .before in
+    let s = k .before .before .before .before in
     behind-few (s .args .b) (s .args .group .now) (k .loop .plan) (k .loop .behind) (k .loop .group-id) (k .loop .j) (k .loop .inv)
 
 -- what the header said
-said-so : (c : tie.Else1 Inv-loop μ-loop) → c .before .before .read .result .setting ≡ said (c .before .before .before .before .before .before .before .before .before .before .args .group .now) (c .before .before .before .before .before .loop .j)
+said-so : (c : tie.Else1 Inv-loop μ-loop) → c .before .before .check .result ≡ partsOf 0 (said (c .before .before .before .before .before .before .before .before .before .args .group .now) (c .before .before .before .before .before .loop .j))
 said-so c =
     let r = c .before .before in
     let k = r .before .before .before in
-    let s = k .before .before .before .before .before in
-    said-is (s .args .b) (s .args .group .now) (s .pre .0 .1) (k .loop .j) (omega arith) (r .read .result) (r .read .ensures) (c .if1 .left)
+    let s = k .before .before .before .before in
+    said-is (s .args .b) (s .args .group .now) (s .pre .0 .1) (k .loop .j) (omega arith) (r .check .result) (r .check .ensures) (c .if1 .left)
+
+sequence-so : (c : tie.Else1 Inv-loop μ-loop) → c .before .before .check .result .«carrier_sequence» ≡ said (c .before .before .before .before .before .before .before .before .before .args .group .now) (c .before .before .before .before .before .loop .j) .«carrier_sequence»
+unfolding partsOf
+sequence-so c = ap (λ (h : Checked). h .«carrier_sequence») (said-so c)
 
 -- what it shows
-shown-so : (c : tie.After-shown-by2 Inv-loop μ-loop) → c .shown-by2 .result ≡ shownBy (said (c .before .before .before .before .before .before .before .before .before .before .before .args .group .now) (c .before .before .before .before .before .before .loop .j))
-shown-so c = c .shown-by2 .ensures ∙ ap shownBy (said-so (c .before))
+shown-so : (c : tie.After-shown-by Inv-loop μ-loop) → c .shown-by .result ≡ shownBy (said (c .before .before .before .before .before .before .before .before .before .before .args .group .now) (c .before .before .before .before .before .before .loop .j))
+shown-so c = c .shown-by .ensures _ (said-so (c .before))
 
 -- the group id that it is held against is the first header's
-group-so : (c : tie.Joined2 Inv-loop μ-loop) → c .if2 .group-id ≡ said (c .before .before .before .before .before .before .before .before .before .before .before .before .args .group .now) 0 .«group_id»
+group-so : (c : tie.Joined2 Inv-loop μ-loop) → c .if2 .group-id ≡ said (c .before .before .before .before .before .before .before .before .before .before .before .args .group .now) 0 .«group_id»
 unfolding shownBy
 group-so c =
     let k = c .before .before .before .before .before .before .before in
-    let s = k .before .before .before .before .before in
+    let s = k .before .before .before .before in
     ⊎-elim
     (λ w. w .1 ∙ ap (λ (h : Shown). h .«group_id») (shown-so (c .before)) ∙ ap (λ (i : ℕ). said (s .args .group .now) i .«group_id») (w .0 .taken))
     (λ w. let d = w .0 .left in w .1 ∙ k .loop .inv .group-is (omega arith))
@@ -125,96 +103,86 @@ standing-is : (c : tie.After-standing-refusal Inv-loop μ-loop)
     → c .standing-refusal .result
     ≡ firstOf
     (standingChecks
-    (c .before .before .before .before .before .before .before .before .before .before .before .before .before .args .b .carriers)
-    (said (c .before .before .before .before .before .before .before .before .before .before .before .before .before .args .group .now) 0 .«group_id»)
-    (before (c .before .before .before .before .before .before .before .before .before .before .before .before .before .args .group .now) (c .before .before .before .before .before .before .before .before .loop .j))
-    (shownBy (said (c .before .before .before .before .before .before .before .before .before .before .before .before .before .args .group .now) (c .before .before .before .before .before .before .before .before .loop .j))))
+    (c .before .before .before .before .before .before .before .before .before .before .before .before .args .b .carriers)
+    (said (c .before .before .before .before .before .before .before .before .before .before .before .before .args .group .now) 0 .«group_id»)
+    (before (c .before .before .before .before .before .before .before .before .before .before .before .before .args .group .now) (c .before .before .before .before .before .before .before .before .loop .j))
+    (shownBy (said (c .before .before .before .before .before .before .before .before .before .before .before .before .args .group .now) (c .before .before .before .before .before .before .before .before .loop .j))))
 standing-is c =
     let k = c .before .before .before .before .before .before .before .before in
-    let s = k .before .before .before .before .before in
+    let s = k .before .before .before .before in
     c .standing-refusal .ensures
     ∙ (λ i. firstOf (standingChecks (s .args .b .carriers) (group-so (c .before) i) (k .loop .inv .behind-is i) (shown-so (c .before .before) i)))
 
--- src/headers.rt:246:13
 refused-requires-2 : tie.Need-refused-requires-2 Inv-loop μ-loop
 refused-requires-2 c κs = search needs
 
--- src/headers.rt:246:13
 returns-2 : tie.Need-returns-2 Inv-loop μ-loop
 returns-2 c =
     let t = c .before .before in
     let r = t .before .before .before .before .before in
     let k = r .before .before .before in
-    let s = k .before .before .before .before .before in
+    let s = k .before .before .before .before in
     planned-refused (s .args .b) (s .args .group .now) (c .refused2 .result) (t .standing-refusal .result)
     (standing-refused (s .args .b) (s .args .group .now) (s .pre .0 .1) (k .loop .j) (omega arith) (k .loop .plan) (k .loop .behind) (k .loop .group-id) (k .loop .inv)
-    (r .read .result) (r .read .ensures) (t .before .before .before .if1 .left) (t .standing-refusal .result) (standing-is t) (c .before .if3 .taken))
+    (r .check .result) (r .check .ensures) (t .before .before .before .if1 .left) (t .standing-refusal .result) (standing-is t) (c .before .if3 .taken))
     (c .before .if3 .taken) (c .refused2 .ensures .0) (c .refused2 .ensures .1)
 
--- src/headers.rt:248:9
 seen-requires : tie.Need-seen-requires Inv-loop μ-loop
 seen-requires c κs =
     let t = c .before in
     let r = t .before .before .before .before .before in
     let k = r .before .before .before in
-    let s = k .before .before .before .before .before in
+    let s = k .before .before .before .before in
     let z = sym (standing-is t) ∙ c .if3 .left in
     let each = stand-each (s .args .b) (s .args .group .now) (s .pre .0 .1) (k .loop .j) (omega arith) (k .loop .plan) (k .loop .behind) (k .loop .group-id) (k .loop .inv)
-    (r .read .result) (r .read .ensures) (t .before .before .before .if1 .left) z in
-    let said-here = said-so (t .before .before .before) in
+    (r .check .result) (r .check .ensures) (t .before .before .before .if1 .left) z in
+    let here = sequence-so (t .before .before .before) in
     let few = sequence-few (s .args .b) (s .args .group .now) (s .pre .1 .1) (k .loop .j) (each (k .loop .j) (omega arith)) in
     let from = each (k .loop .j) (omega arith) .bond .from in (
-      (rw said-here from, rw said-here few, frames-fit (s .args .b) (s .args .group .now) (s .pre .1 .1) (k .loop .j) each),
+      (rw here from, rw here few, frames-fit (s .args .b) (s .args .group .now) (s .pre .1 .1) (k .loop .j) each),
       rw (k .loop .inv .plan-is) (packets-few (s .args .b) (s .args .group .now) (k .loop .j)),
     )
 
--- src/headers.rt:250:9
 add-j : tie.Need-add-j Inv-loop μ-loop
 add-j c =
     let k = c .before .before .before .before .before .before .before .before .before .before in
     search (needs, k .loop .inv .within)
 
--- src/headers.rt:234:5
 loop-less : tie.Need-loop-less Inv-loop μ-loop
 loop-less c = search needs
 
--- src/headers.rt:234:5
 loop-again : tie.Need-loop-again Inv-loop μ-loop
 loop-again c =
     let t = c .before .before in
     let r = t .before .before .before .before .before in
     let k = r .before .before .before in
-    let s = k .before .before .before .before .before in
+    let s = k .before .before .before .before in
     through-more (s .args .b) (s .args .group .now) (s .pre .0 .1) (k .loop .j) (omega arith) (k .loop .plan) (k .loop .behind) (k .loop .group-id) (k .loop .inv)
-    (r .read .result) (r .read .ensures) (t .before .before .before .if1 .left) (sym (standing-is t) ∙ c .before .if3 .left)
-    (c .seen .result) (t .before .before .shown-by2 .result) (t .before .if2 .group-id) (k .loop .j + 1)
-    (c .seen .ensures ∙ ap (seen (s .args .b) (k .loop .plan) (k .loop .j)) (said-so (t .before .before .before)))
+    (r .check .result) (r .check .ensures) (t .before .before .before .if1 .left) (sym (standing-is t) ∙ c .before .if3 .left)
+    (c .seen .result) (t .before .before .shown-by .result) (t .before .if2 .group-id) (k .loop .j + 1)
+    (c .seen .ensures _ (said-so (t .before .before .before)))
     (shown-so (t .before .before)) (group-so (t .before)) refl
 
--- src/headers.rt:252:9
 is-end-requires : tie.Need-is-end-requires Inv-loop μ-loop
 is-end-requires c κs = search needs
 
--- src/headers.rt:253:9
 refused-requires-3 : tie.Need-refused-requires-3 Inv-loop μ-loop
 refused-requires-3 c κs = search needs
 
--- src/headers.rt:253:9
 returns-3 : tie.Need-returns-3 Inv-loop μ-loop
 returns-3 c =
     let e = c .before .before in
     let k = e .before .before in
-    let s = k .before .before .before .before .before in
+    let s = k .before .before .before .before in
     planned-refused (s .args .b) (s .args .group .now) (c .refused3 .result) 14
     (missing (s .args .b) (s .args .group .now) (k .loop .plan) (k .loop .behind) (k .loop .group-id) (k .loop .j) (k .loop .inv) (omega arith) (sym (e .is-end .ensures) ∙ not-true _ (c .before .if4 .taken)))
     (λ z. omega arith) (c .refused3 .ensures .0) (c .refused3 .ensures .1)
 
--- src/headers.rt:224:1
 returns-4 : tie.Need-returns-4 Inv-loop μ-loop
 returns-4 c =
     let e = c .before in
     let k = e .before .before in
-    let s = k .before .before .before .before .before in
+    let s = k .before .before .before .before in
     planned-all (s .args .b) (s .args .group .now) (record { refusal = 0; plan = k .loop .plan })
     (none-missing (s .args .b) (s .args .group .now) (k .loop .plan) (k .loop .behind) (k .loop .group-id) (k .loop .j) (k .loop .inv) (omega arith) (sym (e .is-end .ensures) ∙ not-false _ (c .if4 .left)))
     refl
@@ -227,18 +195,17 @@ plan-of-spec =
     Inv-loop
     μ-loop
     nothing-seen-requires
-    blank-requires
-    shown-by-requires
+    nothing-shown-requires
     loop-holds
     mul-at
-    add-read
-    sub-read
-    part-read-start
-    part-read-end
-    read-requires
+    add-check
+    sub-check
+    part-check-start
+    part-check-end
+    check-requires
     refused-requires
     returns
-    shown-by-requires-2
+    shown-by-requires
     standing-refusal-requires
     refused-requires-2
     returns-2

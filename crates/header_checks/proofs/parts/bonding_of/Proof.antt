@@ -2,8 +2,8 @@
 use Rattle.bits.proofs.Laws.{fit-of}
 use Rattle.layout.proofs.Said.{no-bonding, bonding-are}
 use native.Mathlib.Omega.{arith}
-use Rattle.header_reader.proofs.reader.bonding_of.Statement.{statement}
-use Rattle.header_reader.proofs.reader.bonding_of.Tie as tie
+use Rattle.header_checks.proofs.parts.bonding_of.Statement.{statement}
+use Rattle.header_checks.proofs.parts.bonding_of.Tie as tie
 
 enum-told : tie.Need-enum-told
 enum-told c = omega arith

@@ -5,8 +5,8 @@ use native.Mathlib.Omega.{arith}
 use lib.ListN.{length, length-set}
 use Rattle.bits.specs.Fields.{run, cut}
 use Rattle.layout.proofs.Halves.{Halved, halved-none, halved-next, halved-all}
-use Rattle.header_reader.proofs.packed.read_halves.Statement.{statement}
-use Rattle.header_reader.proofs.packed.read_halves.Tie as tie
+use Rattle.header_checks.proofs.parts.read_halves.Statement.{statement}
+use Rattle.header_checks.proofs.parts.read_halves.Tie as tie
 
 abbrev Inv-loop : tie.InvT-loop
 Inv-loop values₀ part k₀ values k =

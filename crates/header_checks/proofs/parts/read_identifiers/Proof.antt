@@ -8,8 +8,8 @@ use Rattle.bits.specs.Fields.{run, cut}
 use Rattle.bits.proofs.Laws.{fit-of}
 use Rattle.layout.specs.Header.{firsts, seconds}
 use Rattle.layout.proofs.Identifiers.{Apart, apart-none, apart-next}
-use Rattle.header_reader.proofs.reader.read_identifiers.Statement.{statement}
-use Rattle.header_reader.proofs.reader.read_identifiers.Tie as tie
+use Rattle.header_checks.proofs.parts.read_identifiers.Statement.{statement}
+use Rattle.header_checks.proofs.parts.read_identifiers.Tie as tie
 
 abbrev Inv-loop : tie.InvT-loop
 Inv-loop ts₀ os₀ part k₀ at₀ ts os k at =

@@ -21,7 +21,7 @@ use Rattle.refusal_table.proofs.Refusals.{numbered, none-first, none-at, none-a
 use Rattle.layout.specs.Rows.{place, rowAt}
 use Rattle.layout.specs.Layout.{syncByte, tsmfSync, layout}
 use Rattle.layout.specs.Header.{headerLength, row, value, reading, callChecks, packetChecks}
-use Rattle.header_reader.specs.Reader.{readRefusal}
+use Rattle.header_checks.specs.Checking.{readRefusal}
 use Rattle.layout.specs.Meets.{MeetsRules}
 use Rattle.layout.proofs.Rows.{size, rowOf, Fills, row-fills}
 use Rattle.layout.proofs.LaidOut.{laid-out, size-layout}

@@ -14,8 +14,8 @@ use Rattle.refusal_table.proofs.Refusals.{Past, answers, passed}
 use Rattle.layout.specs.Layout.{syncByte, tsmfSync}
 use Rattle.layout.specs.Header.{startValue, packetChecks}
 use Rattle.layout.proofs.Packet.{differs, agrees, first-differs, second-differs, both-agree, sync-byte, zeros, header-pid, one, tsmf-sync}
-use Rattle.header_reader.proofs.reader.packet_refusal.Statement.{statement}
-use Rattle.header_reader.proofs.reader.packet_refusal.Tie as tie
+use Rattle.header_checks.proofs.parts.packet_refusal.Statement.{statement}
+use Rattle.header_checks.proofs.parts.packet_refusal.Tie as tie
 
 -- the packet, its bytes and its length, and the checks on it
 abbrev packet : tie.After-shared-slice-known → List ℕ
