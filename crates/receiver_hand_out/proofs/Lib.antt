@@ -1,2 +1,3 @@
 mod Frames
 mod Handing
+mod Joined

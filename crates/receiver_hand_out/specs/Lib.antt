@@ -1,2 +1,3 @@
 -- What handing out a ready frame goes by.
 pub mod Ready
+pub mod Halves
