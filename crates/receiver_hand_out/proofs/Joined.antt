@@ -34,7 +34,7 @@ joined-lt none = rw zero-mul (lit< tt)
 joined-lt {w} (more {vs = vs} h t) = rw (wider w (length vs)) (digits-lt h (joined-lt t))
 
 -- its bits are theirs
-pub bits-joined : {w : ℕ} {vs : List ℕ} → Fit w vs → bitsOf (length vs * w) (joined w vs) ≡ run w vs
+bits-joined : {w : ℕ} {vs : List ℕ} → Fit w vs → bitsOf (length vs * w) (joined w vs) ≡ run w vs
 unfolding joined bitsOf run
 bits-joined none = rw zero-mul refl
 bits-joined {w} (more {v = v} {vs = vs} l t) =
@@ -161,3 +161,38 @@ marks-are {r} hr (more {v = h} {vs = hs} hh t) =
     (xor-lt (k * 4) (joined 4 hs) (rep r k) (joined-lt t) (rep-lt hr k)) (twice-sevens k) (rep-lt (lit< tt) k)
     ∙ ap₂ (λ (x y : ℕ). x * 2 ^ (k * 4) + y) (one-half h r hh hr) (marks-are hr t)
     ∙ ap (λ (n : ℕ). cond (eqb h r) 8 0 * 2 ^ (n * 4) + joined 4 (marked r hs)) (sym (length-marked r hs))
+
+pub marked-fit : (r : ℕ) (ns : List ℕ) → Fit 4 (marked r ns)
+unfolding marked
+marked-fit r [] = none
+marked-fit r (n ∷ ns) = more (small (eqb n r)) (marked-fit r ns)
+  where
+    small : (t : Bool) → cond t 8 0 < 16
+    small true = lit< tt
+    small false = lit< tt
+
+pub marks-of : (w r : ℕ) → w < 2 ^ 64 → r < 16 → halvesOf (where-zero (bitXor w (r * rep 1 16)) (rep 7 16) (rep 8 16)) ≡ marked r (halvesOf w)
+unfolding rep
+marks-of w r hw hr =
+    let hs = halvesOf w in
+    let all : r * rep 1 16 ≡ rep r 16 = omega arith in
+    ap halvesOf
+    (ap₂ (λ (x y : ℕ). where-zero (bitXor x y) (rep 7 16) (rep 8 16)) (sym (joined-halves w hw)) all
+    ∙ ap (λ (k : ℕ). where-zero (bitXor (joined 4 hs) (rep r k)) (rep 7 k) (rep 8 k)) (sym (length-halves w))
+    ∙ marks-are hr (halves-fit w))
+    ∙ halves-joined (marked-fit r hs) (length-marked r hs ∙ length-halves w)
+
+-- ---- eight bytes
+
+module _ (bs : List ℕ) (l : length bs ≡ 8) where
+  pub bytes-joined : joined 8 bs
+      ≡ getD bs 0 0 * 2 ^ 56 + (getD bs 1 0 * 2 ^ 48 + (getD bs 2 0 * 2 ^ 40 + (getD bs 3 0 * 2 ^ 32
+      + (getD bs 4 0 * 2 ^ 24 + (getD bs 5 0 * 2 ^ 16 + (getD bs 6 0 * 2 ^ 8 + getD bs 7 0))))))
+  bytes-joined =
+      let at = joined-from 8 bs l in
+      let end = joined-none 8 bs 8 (omega arith) in
+      omega (arith, at 0 (omega arith), at 1 (omega arith), at 2 (omega arith), at 3 (omega arith), at 4 (omega arith), at 5 (omega arith), at 6 (omega arith), at 7 (omega arith), end)
+
+  pub bytes-halves : Fit 8 bs → {w : ℕ} → w ≡ joined 8 bs → halvesOf w ≡ cut 4 16 (run 8 bs)
+  unfolding halvesOf
+  bytes-halves f e = ap (cut 4 16) (ap (bitsOf 64) e ∙ ap (λ (n : ℕ). bitsOf (n * 8) (joined 8 bs)) (sym l) ∙ bits-joined f)

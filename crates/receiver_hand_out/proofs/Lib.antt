@@ -1,3 +1,4 @@
 mod Frames
 mod Handing
 mod Joined
+mod Marks

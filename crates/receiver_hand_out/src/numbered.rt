@@ -1,76 +1,75 @@
-// The slots with one number: marked, counted, and their packets one behind the other.
+// The slots with one number: marked sixteen at a time, counted, and their packets one behind the other.
 use packet::PACKET_BYTES;
 use receiver_in_place::HandedOut;
-use setting::SLOTS;
 ghost use mathlib.Core.Path.{_≡_};
 ghost use mathlib.Core.Bool.{cond};
-ghost use Prim.Native.Nat.{_*_, _≤_, _<_};
+ghost use Prim.Native.Nat.{_+_, _*_, _≤_};
 ghost use lib.Dec.{ltb};
-ghost use lib.ListN.{length, getD};
-ghost use Rattle.counters.specs.Counters.{lastSlot};
+ghost use lib.ListN.{length, take, drop};
+ghost use Rattle.bits.specs.Fields.{run, cut};
 ghost use Rattle.packet.specs.Packets.{packetLength};
 ghost use Rattle.slices.specs.Slices.{over};
 ghost use Rattle.slot_numbers.specs.Packed.{packedLength, unpacked};
 ghost use Rattle.receiver_in_place.specs.Store.{storeLength, numbered, slotsFor};
-ghost use Rattle.receiver_hand_out.specs.Ready.{marked};
+ghost use Rattle.receiver_hand_out.specs.Halves.{halvesOf, marked};
 
-// The number of slot i + 1, a half of a byte.
-fn number_at(numbers: &[u8], i: usize) -> u8
-    requires { ⌜ (length (now numbers) ≡ packedLength) × (i < lastSlot) ⌝ }
-    ensures { λ t. ⌜ t ≡ getD (unpacked (now (numbers .entry))) i 0 ⌝ }
+// A byte as a wider number, of which it is known that it was a byte.
+fn wide(byte: u8) -> u64
+    ensures { λ t. ⌜ (t ≡ byte) × (t ≤ 255) ⌝ }
 {
-    let both = numbers[i / 2];
-    if i % 2 == 0 {
-        return both / 16;
-    }
-    both % 16
+    byte as u64
 }
 
-// The slots with number r, slot i in bit i - 1. Each is asked alike and none stops it, so that many are compared at a time.
-fn marks_of(numbers: &[u8], r: u8) -> u64
-    requires { ⌜ length (now numbers) ≡ packedLength ⌝ }
-    ensures { λ t. ⌜ t ≡ marked r (unpacked (now (numbers .entry))) ⌝ }
+// Eight bytes as one number, the first of them the highest. They are written out, since the compiler makes one load of that and not of a loop.
+fn word(bytes: &[u8]) -> u64
+    requires { ⌜ length (now bytes) ≡ 8 ⌝ }
+    ensures { λ t. ⌜ halvesOf t ≡ cut 4 16 (run 8 (now (bytes .entry))) ⌝ }
 {
-    let mut shares = [0u8; SLOTS];
-    let mut i = 0;
-    while i < SLOTS {
-        shares[i] = slot_bits::share(number_at(numbers, i) == r, i);
-        i += 1;
-    }
-    slot_bits::summed_of(&shares)
+    (wide(bytes[0]) << 56)
+        + (wide(bytes[1]) << 48)
+        + (wide(bytes[2]) << 40)
+        + (wide(bytes[3]) << 32)
+        + (wide(bytes[4]) << 24)
+        + (wide(bytes[5]) << 16)
+        + (wide(bytes[6]) << 8)
+        + wide(bytes[7])
 }
 
-// 15: room for fewer packets than have number r; else copies those, in slot order, to the front of `out`.
-pub(crate) fn hand_out(out: &mut [u8], store: &[u8], numbers: &[u8], r: u8) -> HandedOut
-    requires { ⌜ (length (now numbers) ≡ packedLength) × (length (now store) ≡ storeLength) × (1 ≤ r) × (r ≤ 15) ⌝ }
-    ensures { λ t. ⌜ t ≡ cond (ltb (length (now (out .entry))) (packetLength * slotsFor r (unpacked (now (numbers .entry))))) (record { refusal = 15; packets = 0 }) (record { refusal = 0; packets = slotsFor r (unpacked (now (numbers .entry))) }) ⌝ }
-    ensures { λ _. ⌜ now (out .exit) ≡ cond (ltb (length (now (out .entry))) (packetLength * slotsFor r (unpacked (now (numbers .entry))))) (now (out .entry)) (over 0 (numbered r (unpacked (now (numbers .entry))) (now (store .entry))) (now (out .entry))) ⌝ }
+// The halves of `word` that are r, each as the highest bit of its half: that of y is set where the half of x is not 0, and no carry leaves a half.
+fn marks(word: u64, r: u8) -> u64
+    requires { ⌜ r ≤ 15 ⌝ }
+    ensures { λ t. ⌜ halvesOf t ≡ marked r (halvesOf word) ⌝ }
 {
-    let marks = marks_of(numbers, r);
-    let packets = u64::count_ones(marks) as usize;
-    if out.len() / PACKET_BYTES < packets {
-        return HandedOut {
-            refusal: 15,
-            packets: 0,
-        };
-    }
+    let x = word ^ (wide(r) * 0x1111_1111_1111_1111);
+    let y = ((x & 0x7777_7777_7777_7777) + 0x7777_7777_7777_7777) | x;
+    (y & 0x8888_8888_8888_8888) ^ 0x8888_8888_8888_8888
+}
+
+// The slots with number r among the sixteen whose numbers stand from byte `at` on.
+fn marks_at(numbers: &[u8], at: usize, r: u8) -> u64
+    requires { ⌜ (length (now numbers) ≡ packedLength) × (at + 8 ≤ packedLength) × (r ≤ 15) ⌝ }
+    ensures { λ t. ⌜ halvesOf t ≡ marked r (take 16 (drop (2 * at) (unpacked (now (numbers .entry))))) ⌝ }
+{
+    marks(word(&numbers[at..at + 8]), r)
+}
+
+// Copies the packets of the slots that are marked, in slot order, to the front of `out`; says how many bytes they are.
+fn copy_marked(out: &mut [u8], store: &[u8], marks: u64) -> usize
+    requires { ⌜ (marked 8 (halvesOf marks) ≡ halvesOf marks) × (packetLength * 16 ≤ length (now store)) × (packetLength * slotsFor 8 (halvesOf marks) ≤ length (now out)) ⌝ }
+    ensures { λ t. ⌜ t ≡ packetLength * slotsFor 8 (halvesOf marks) ⌝ }
+    ensures { λ _. ⌜ now (out .exit) ≡ over 0 (numbered 8 (halvesOf marks) (now (store .entry))) (now (out .entry)) ⌝ }
+{
     let mut rest = marks;
-    let mut i = 0;
     let mut at = 0;
     while rest != 0 {
-        let passed = u64::trailing_zeros(rest);
-        i += passed as usize;
-        let slot = PACKET_BYTES * i;
+        let zeros = u64::leading_zeros(rest);
+        let slot = PACKET_BYTES * (zeros / 4) as usize;
         slices::copy(
             &mut out[at..at + PACKET_BYTES],
             &store[slot..slot + PACKET_BYTES],
         );
         at += PACKET_BYTES;
-        rest = (rest >> passed) / 2;
-        i += 1;
+        rest -= 0x8000_0000_0000_0000 >> zeros;
     }
-    HandedOut {
-        refusal: 0,
-        packets,
-    }
+    at
 }
