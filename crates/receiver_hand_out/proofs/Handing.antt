@@ -3,13 +3,14 @@ use Prim.Native.Nat.{ℕ, _+_, _*_, _≤_, _<_}
 use mathlib.Core.Path.{_≡_, refl, sym, ap, ap₂, subst, _∙_}
 use mathlib.Core.Bool.{Bool, true, false, cond}
 use mathlib.Core.List.{List, [], _∷_, _++_, append-assoc}
+use native.Mathlib.Nat.{zero-add}
 use native.Mathlib.Numerals.{add-one}
 use native.Mathlib.Omega.{arith}
 use lib.Dec.{eqb}
 use lib.ListN.{length, getD, take, drop, length-drop}
 use lib.Seq.{drop-cons, drop-drop, length-take-le}
 use Rattle.slices.proofs.Front.{put}
-use Rattle.slices.proofs.Toward.{Toward, toward-none, toward-part, toward-all}
+use Rattle.slices.proofs.Toward.{Toward, toward-none, toward-kept, toward-part, toward-all}
 use Rattle.packet.specs.Packets.{packetLength}
 use Rattle.slices.specs.Slices.{over}
 use Rattle.receiver_in_place.specs.Store.{numbered, slotsFor}
@@ -47,32 +48,26 @@ module _ (r : ℕ) (ns : List ℕ) (i : ℕ) where
         ∙ ap₂ (λ (b : Bool) (l : List ℕ). cond b (take packetLength bytes ++ numbered r (drop (i + 1) ns) l) (numbered r (drop (i + 1) ns) l))
         e (drop-drop packetLength (packetLength * i) store ∙ ap (λ (k : ℕ). drop k store) next)
 
--- over the front
-over-front : (p bytes : List ℕ) (n : ℕ) → length p ≡ n → over 0 p bytes ≡ p ++ drop n bytes
-unfolding over
-over-front p bytes n e =
-    let whole : 0 + length p ≡ n = omega arith in
-    ap (λ (k : ℕ). p ++ drop k bytes) whole
-
--- i slots were gone through, and `at` bytes stand over the front of the buffer
-module _ (r : ℕ) (ns store out₀ : List ℕ) where
+-- i slots were gone through, and the bytes from at₀ to `at` stand over the buffer
+module _ (r : ℕ) (ns store out₀ : List ℕ) (at₀ : ℕ) where
   pub record HandingOut (out : List ℕ) (i at : ℕ) : Type 0 where
     pub front : Toward
-        (over 0 (numbered r ns store) out₀)
+        (over at₀ (numbered r ns store) out₀)
         out₀
         out
-        (numbered r (drop i ns) (drop (packetLength * i) store) ++ drop (packetLength * slotsFor r ns) out₀)
+        (numbered r (drop i ns) (drop (packetLength * i) store) ++ drop (at₀ + packetLength * slotsFor r ns) out₀)
         at
-    pub left : at + packetLength * slotsFor r (drop i ns) ≡ packetLength * slotsFor r ns
+    pub left : at + packetLength * slotsFor r (drop i ns) ≡ at₀ + packetLength * slotsFor r ns
 
-  pub handing-none : packetLength * length ns ≤ length store → HandingOut out₀ 0 0
-  handing-none h =
+  pub handing-none : packetLength * length ns ≤ length store → at₀ ≤ length out₀ → HandingOut out₀ 0 at₀
+  unfolding over
+  handing-none h g =
       record {
         front =
-            subst (λ l. Toward (over 0 (numbered r ns store) out₀) out₀ out₀ l 0)
-            (over-front (numbered r ns store) out₀ (packetLength * slotsFor r ns) (length-numbered r ns store h))
-            (toward-none out₀ (over 0 (numbered r ns store) out₀));
-        left = omega arith;
+            toward-kept (toward-none out₀ (over at₀ (numbered r ns store) out₀)) at₀
+            (ap (λ (k : ℕ). take at₀ out₀ ++ (numbered r ns store ++ drop (at₀ + k) out₀)) (length-numbered r ns store h))
+            (zero-add at₀) g;
+        left = refl;
       }
 
   module _ {out : List ℕ} {i at : ℕ} (w : HandingOut out i at) where
@@ -89,9 +84,9 @@ module _ (r : ℕ) (ns store out₀ : List ℕ) where
           record {
             front =
                 toward-part (w .front) ys k
-                (ap (λ (p : List ℕ). p ++ drop (packetLength * slotsFor r ns) out₀) (numbered-from r ns i h e store)
-                ∙ append-assoc (take packetLength (drop (packetLength * i) store)) rest (drop (packetLength * slotsFor r ns) out₀)
-                ∙ ap (λ (p : List ℕ). p ++ (rest ++ drop (packetLength * slotsFor r ns) out₀)) (sym y))
+                (ap (λ (p : List ℕ). p ++ drop (at₀ + packetLength * slotsFor r ns) out₀) (numbered-from r ns i h e store)
+                ∙ append-assoc (take packetLength (drop (packetLength * i) store)) rest (drop (at₀ + packetLength * slotsFor r ns) out₀)
+                ∙ ap (λ (p : List ℕ). p ++ (rest ++ drop (at₀ + packetLength * slotsFor r ns) out₀)) (sym y))
                 (ap length y ∙ length-take-le packetLength (drop (packetLength * i) store) (rw length-drop (omega arith)) ∙ sym l)
                 (omega arith);
             left = omega arith;
@@ -104,14 +99,14 @@ module _ (r : ℕ) (ns store out₀ : List ℕ) where
           let before = w .left in
           record {
             front =
-                subst (λ (p : List ℕ). Toward (over 0 (numbered r ns store) out₀) out₀ out (p ++ drop (packetLength * slotsFor r ns) out₀) at)
+                subst (λ (p : List ℕ). Toward (over at₀ (numbered r ns store) out₀) out₀ out (p ++ drop (at₀ + packetLength * slotsFor r ns) out₀) at)
                 (numbered-from r ns i h e store)
                 (w .front);
             left = omega arith;
           }
 
       -- there is room for one more
-      pub room-for : eqb (getD ns i 0) r ≡ true → packetLength * slotsFor r ns ≤ length out₀ → at + packetLength ≤ length out₀
+      pub room-for : eqb (getD ns i 0) r ≡ true → at₀ + packetLength * slotsFor r ns ≤ length out₀ → at + packetLength ≤ length out₀
       room-for e g =
           let more = count-from r ns i h e in
           let before = w .left in
@@ -119,13 +114,13 @@ module _ (r : ℕ) (ns store out₀ : List ℕ) where
 
     -- where no slot is left with the number
     module _ (none : slotsFor r (drop i ns) ≡ 0) where
-      pub handed : at ≡ packetLength * slotsFor r ns
+      pub handed : at ≡ at₀ + packetLength * slotsFor r ns
       handed =
           let before = w .left in
           omega arith
 
-      pub handing-all : out ≡ over 0 (numbered r ns store) out₀
+      pub handing-all : out ≡ over at₀ (numbered r ns store) out₀
       handing-all =
           toward-all (w .front)
           (ap (λ (k : ℕ). drop k out₀) handed
-          ∙ ap (λ (l : List ℕ). l ++ drop (packetLength * slotsFor r ns) out₀) (sym (none-numbered r (drop i ns) (drop (packetLength * i) store) none)))
+          ∙ ap (λ (l : List ℕ). l ++ drop (at₀ + packetLength * slotsFor r ns) out₀) (sym (none-numbered r (drop i ns) (drop (packetLength * i) store) none)))

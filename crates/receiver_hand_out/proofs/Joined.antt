@@ -25,7 +25,7 @@ joined w [] = 0
 joined w (v ∷ vs) = v * 2 ^ (length vs * w) + joined w vs
 
 -- one value more
-wider : (w k : ℕ) → 2 ^ (suc k * w) ≡ 2 ^ w * 2 ^ (k * w)
+pub wider : (w k : ℕ) → 2 ^ (suc k * w) ≡ 2 ^ w * 2 ^ (k * w)
 wider w k = ap (λ (n : ℕ). 2 ^ n) (suc-mul k w) ∙ pow-add 2 (k * w) w ∙ mul-comm (2 ^ (k * w)) (2 ^ w)
 
 pub joined-lt : {w : ℕ} {vs : List ℕ} → Fit w vs → joined w vs < 2 ^ (length vs * w)

@@ -4,9 +4,8 @@ use Prim.Native.Nat.{ℕ, zero, suc, _+_, _-_, _*_, _/_, _^_, _≤_, _<_}
 use mathlib.Core.Path.{_≡_, refl, sym, ap, ap₂, subst, _∙_}
 use mathlib.Core.Bool.{Bool, true, false, cond}
 use mathlib.Core.List.{List, [], _∷_, _++_}
-use native.Mathlib.Nat.{lt-of-not-le, mul-comm}
+use native.Mathlib.Nat.{lt-of-not-le}
 use native.Mathlib.Omega.{arith}
-use borrow.Author.Tests.{eqb-true}
 use lib.Count.{ones, ones-cat, leadingZeros, leading-unique}
 use lib.Dec.{eqb}
 use lib.ListN.{length, getD, take, drop, length-drop}
@@ -59,7 +58,7 @@ marked-at r [] i h = absurd (omega arith)
 marked-at r (n ∷ ns) zero h = refl
 marked-at r (n ∷ ns) (suc i) h = marked-at r ns i (omega arith)
 
-marked-drop : (r n : ℕ) (ns : List ℕ) → marked r (drop n ns) ≡ drop n (marked r ns)
+pub marked-drop : (r n : ℕ) (ns : List ℕ) → marked r (drop n ns) ≡ drop n (marked r ns)
 unfolding marked
 marked-drop r zero ns = refl
 marked-drop r (suc n) [] = refl
@@ -87,16 +86,16 @@ module _ (m : ℕ) (bound : m < 2 ^ 64) (are : marked 8 (halvesOf m) ≡ halvesO
   unfolding ones
   no-slot i z = sym (marked-ones 8 (drop i ms)) ∙ ap (λ (l : List ℕ). ones (joined 4 l)) (marked-drop 8 i ms ∙ ap (drop i) are) ∙ ap ones z
 
-  module _ (store out₀ out : List ℕ) (at : ℕ) where
+  module _ (store out₀ : List ℕ) (at₀ : ℕ) (out : List ℕ) (at : ℕ) where
     -- half j is the next that is marked, and `rest` are the marks from it on
     pub record Next (rest : ℕ) : Type 0 where
       pub place : ℕ
-      pub handed : HandingOut 8 ms store out₀ out place at
+      pub handed : HandingOut 8 ms store out₀ at₀ out place at
       pub inside : place < 16
       pub here : eqb (getD ms place 0) 8 ≡ true
       pub same : rest ≡ joined 4 (drop place ms)
 
-    pub next : (k : ℕ) {i rest : ℕ} → 16 ≤ i + k → HandingOut 8 ms store out₀ out i at → rest ≡ joined 4 (drop i ms) → (rest ≡ 0 → ⊥) → Next rest
+    pub next : (k : ℕ) {i rest : ℕ} → 16 ≤ i + k → HandingOut 8 ms store out₀ at₀ out i at → rest ≡ joined 4 (drop i ms) → (rest ≡ 0 → ⊥) → Next rest
     next zero {i} h w e some = 
         let l = length-halves m in
         absurd (some (e ∙ joined-none 4 ms i (omega arith)))
@@ -106,12 +105,12 @@ module _ (m : ℕ) (bound : m < 2 ^ 64) (are : marked 8 (halvesOf m) ≡ halvesO
         by-half (eqb (getD ms i 0) 8) inside refl (e ∙ from i inside refl) (λ g e′. next k (omega arith) g e′ some)
       where
         by-half : (t : Bool) → i < 16 → eqb (getD ms i 0) 8 ≡ t → rest ≡ cond t 8 0 * 2 ^ ((16 - (i + 1)) * 4) + joined 4 (drop (i + 1) ms)
-            → (HandingOut 8 ms store out₀ out (i + 1) at → rest ≡ joined 4 (drop (i + 1) ms) → Next rest)
+            → (HandingOut 8 ms store out₀ at₀ out (i + 1) at → rest ≡ joined 4 (drop (i + 1) ms) → Next rest)
             → Next rest
         by-half true inside d b later = record { place = i; handed = w; inside = inside; here = d; same = e }
         by-half false inside d b later = 
             let l = length-halves m in
-            later (handing-passed 8 ms store out₀ w (omega arith) d) (omega arith)
+            later (handing-passed 8 ms store out₀ at₀ w (omega arith) d) (omega arith)
 
     module _ {rest : ℕ} (x : Next rest) where
       abbrev behind : ℕ

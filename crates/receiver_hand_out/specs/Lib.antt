@@ -1,3 +1,3 @@
 -- What handing out a ready frame goes by.
-pub mod Ready
 pub mod Halves
+pub mod Ready

@@ -53,17 +53,26 @@ fn marks_at(numbers: &[u8], at: usize, r: u8) -> u64
     marks(word(&numbers[at..at + 8]), r)
 }
 
-// Copies the packets of the slots that are marked, in slot order, to the front of `out`; says how many bytes they are.
-fn copy_marked(out: &mut [u8], store: &[u8], marks: u64) -> usize
-    requires { ⌜ (marked 8 (halvesOf marks) ≡ halvesOf marks) × (packetLength * 16 ≤ length (now store)) × (packetLength * slotsFor 8 (halvesOf marks) ≤ length (now out)) ⌝ }
-    ensures { λ t. ⌜ t ≡ packetLength * slotsFor 8 (halvesOf marks) ⌝ }
-    ensures { λ _. ⌜ now (out .exit) ≡ over 0 (numbered 8 (halvesOf marks) (now (store .entry))) (now (out .entry)) ⌝ }
+// How many slots are marked in four words. A mark leaves three bits of its half free: each word has one of the four, and one count is enough.
+fn count(a: u64, b: u64, c: u64, d: u64) -> usize
+    requires { ⌜ (marked 8 (halvesOf a) ≡ halvesOf a) × (marked 8 (halvesOf b) ≡ halvesOf b) × (marked 8 (halvesOf c) ≡ halvesOf c) × (marked 8 (halvesOf d) ≡ halvesOf d) ⌝ }
+    ensures { λ t. ⌜ t ≡ slotsFor 8 (halvesOf a) + slotsFor 8 (halvesOf b) + slotsFor 8 (halvesOf c) + slotsFor 8 (halvesOf d) ⌝ }
+    ensures { λ t. ⌜ t ≤ 64 ⌝ }
+{
+    u64::count_ones(a + b / 2 + c / 4 + d / 8) as usize
+}
+
+// Copies the packets of the slots that are marked, of the sixteen behind the first so many, to `out` from place `from` on; says where they end.
+fn copy_marked(out: &mut [u8], from: usize, store: &[u8], first: usize, marks: u64) -> usize
+    requires { ⌜ (marked 8 (halvesOf marks) ≡ halvesOf marks) × (packetLength * (first + 16) ≤ length (now store)) × (from + packetLength * slotsFor 8 (halvesOf marks) ≤ length (now out)) ⌝ }
+    ensures { λ t. ⌜ t ≡ from + packetLength * slotsFor 8 (halvesOf marks) ⌝ }
+    ensures { λ _. ⌜ now (out .exit) ≡ over from (numbered 8 (halvesOf marks) (drop (packetLength * first) (now (store .entry)))) (now (out .entry)) ⌝ }
 {
     let mut rest = marks;
-    let mut at = 0;
+    let mut at = from;
     while rest != 0 {
         let zeros = u64::leading_zeros(rest);
-        let slot = PACKET_BYTES * (zeros / 4) as usize;
+        let slot = PACKET_BYTES * (first + (zeros / 4) as usize);
         slices::copy(
             &mut out[at..at + PACKET_BYTES],
             &store[slot..slot + PACKET_BYTES],
@@ -72,4 +81,32 @@ fn copy_marked(out: &mut [u8], store: &[u8], marks: u64) -> usize
         rest -= 0x8000_0000_0000_0000 >> zeros;
     }
     at
+}
+
+// 15: room for fewer packets than have number r; else copies those, in slot order, to the front of `out`. The last word is that of slots 37 to
+// 52, of which the marks of the last four are left.
+pub(crate) fn hand_out(out: &mut [u8], store: &[u8], numbers: &[u8], r: u8) -> HandedOut
+    requires { ⌜ (length (now numbers) ≡ packedLength) × (length (now store) ≡ storeLength) × (r ≤ 15) ⌝ }
+    ensures { λ t. ⌜ t ≡ cond (ltb (length (now (out .entry))) (packetLength * slotsFor r (unpacked (now (numbers .entry))))) (record { refusal = 15; packets = 0 }) (record { refusal = 0; packets = slotsFor r (unpacked (now (numbers .entry))) }) ⌝ }
+    ensures { λ _. ⌜ now (out .exit) ≡ cond (ltb (length (now (out .entry))) (packetLength * slotsFor r (unpacked (now (numbers .entry))))) (now (out .entry)) (over 0 (numbered r (unpacked (now (numbers .entry))) (now (store .entry))) (now (out .entry))) ⌝ }
+{
+    let a = marks_at(numbers, 0, r);
+    let b = marks_at(numbers, 8, r);
+    let c = marks_at(numbers, 16, r);
+    let d = marks_at(numbers, 18, r) % 0x1_0000;
+    let packets = count(a, b, c, d);
+    if out.len() < PACKET_BYTES * packets {
+        return HandedOut {
+            refusal: 15,
+            packets: 0,
+        };
+    }
+    let at = copy_marked(out, 0, store, 0, a);
+    let at = copy_marked(out, at, store, 16, b);
+    let at = copy_marked(out, at, store, 32, c);
+    copy_marked(out, at, store, 36, d);
+    HandedOut {
+        refusal: 0,
+        packets,
+    }
 }

@@ -1,6 +1,6 @@
 -- `marks` meets its contract. Assumes nothing.
-use Prim.Native.Nat.{_*_, _<_}
-use mathlib.Core.Path.{_≡_, ap, _∙_}
+use Prim.Native.Nat.{_*_}
+use mathlib.Core.Path.{ap, _∙_}
 use native.Mathlib.Omega.{arith}
 use borrow.Author.Needs.{needs}
 use lib.Bits.{bitXor, and-le-r}
