@@ -1,38 +1,28 @@
--- The slots with one number, gone through in turn: their bits, how many there are, and their packets one behind the other. Assumes
--- nothing.
-use Prim.Native.Nat.{ℕ, zero, suc, _+_, _*_, _/_, _%_, _^_, _≤_, _<_}
+-- The slots with one number, gone through in turn: how many there are, and their packets one behind the other. Assumes nothing.
+use Prim.Native.Nat.{ℕ, _+_, _*_, _≤_, _<_}
 use mathlib.Core.Path.{_≡_, refl, sym, ap, ap₂, subst, _∙_}
 use mathlib.Core.Bool.{Bool, true, false, cond}
 use mathlib.Core.List.{List, [], _∷_, _++_, append-assoc}
+use native.Mathlib.Nat.{zero-add}
 use native.Mathlib.Numerals.{add-one}
 use native.Mathlib.Omega.{arith}
-use lib.Count.{ones, trailingZeros}
 use lib.Dec.{eqb}
-use lib.ListN.{length, getD, take, drop, length-drop, drop-of-length-le}
+use lib.ListN.{length, getD, take, drop, length-drop}
 use lib.Seq.{drop-cons, drop-drop, length-take-le}
 use Rattle.slices.proofs.Front.{put}
-use Rattle.slices.proofs.Toward.{Toward, toward-none, toward-part, toward-all}
+use Rattle.slices.proofs.Toward.{Toward, toward-none, toward-kept, toward-part, toward-all}
 use Rattle.packet.specs.Packets.{packetLength}
 use Rattle.slices.specs.Slices.{over}
 use Rattle.receiver_in_place.specs.Store.{numbered, slotsFor}
 use Rattle.receiver_in_place.proofs.Store.{length-numbered}
-use Rattle.slot_bits.specs.Bits.{slotBits}
-use Rattle.slot_bits.proofs.NextBit.{ones-from, next}
-use Rattle.receiver_hand_out.specs.Ready.{marked}
 
--- as many bits as slots
-pub marked-ones : (r : ℕ) (ns : List ℕ) → ones (marked r ns) ≡ slotsFor r ns
-unfolding slotBits slotsFor ones
-marked-ones r [] = refl
-marked-ones r (n ∷ ns) = ones-from (eqb n r) (marked r ns) ∙ ap (λ (k : ℕ). cond (eqb n r) 1 0 + k) (marked-ones r ns)
-
--- no bit, no packet
-none-numbered : (r : ℕ) (ns bytes : List ℕ) → marked r ns ≡ 0 → numbered r ns bytes ≡ []
-unfolding slotBits numbered
+-- no slot, no packet
+none-numbered : (r : ℕ) (ns bytes : List ℕ) → slotsFor r ns ≡ 0 → numbered r ns bytes ≡ []
+unfolding slotsFor numbered
 none-numbered r [] bytes z = refl
 none-numbered r (n ∷ ns) bytes z = by-number (eqb n r) z (none-numbered r ns (drop packetLength bytes))
   where
-    by-number : (t : Bool) → cond t 1 0 + 2 * marked r ns ≡ 0 → (marked r ns ≡ 0 → numbered r ns (drop packetLength bytes) ≡ [])
+    by-number : (t : Bool) → cond t 1 0 + slotsFor r ns ≡ 0 → (slotsFor r ns ≡ 0 → numbered r ns (drop packetLength bytes) ≡ [])
         → cond t (take packetLength bytes ++ numbered r ns (drop packetLength bytes)) (numbered r ns (drop packetLength bytes)) ≡ []
     by-number true z later = absurd (omega arith)
     by-number false z later = later (omega arith)
@@ -44,11 +34,6 @@ module _ (r : ℕ) (ns : List ℕ) (i : ℕ) where
     unfolding slotsFor
     count-from =
         ap (slotsFor r) (drop-cons ns i 0 h) ∙ ap₂ (λ (b : Bool) (k : ℕ). cond b 1 0 + slotsFor r (drop k ns)) e (sym (add-one i))
-
-    pub marked-from : marked r (drop i ns) ≡ cond t 1 0 + 2 * marked r (drop (i + 1) ns)
-    unfolding slotBits
-    marked-from =
-        ap (marked r) (drop-cons ns i 0 h) ∙ ap₂ (λ (b : Bool) (k : ℕ). cond b 1 0 + 2 * marked r (drop k ns)) e (sym (add-one i))
 
     numbered-from : (store : List ℕ)
         → numbered r (drop i ns) (drop (packetLength * i) store)
@@ -63,37 +48,26 @@ module _ (r : ℕ) (ns : List ℕ) (i : ℕ) where
         ∙ ap₂ (λ (b : Bool) (l : List ℕ). cond b (take packetLength bytes ++ numbered r (drop (i + 1) ns) l) (numbered r (drop (i + 1) ns) l))
         e (drop-drop packetLength (packetLength * i) store ∙ ap (λ (k : ℕ). drop k store) next)
 
-  -- behind the last slot
-  pub marked-none : length ns ≤ i → marked r (drop i ns) ≡ 0
-  unfolding slotBits
-  marked-none h = rw (drop-of-length-le ns h) refl
-
--- over the front
-over-front : (p bytes : List ℕ) (n : ℕ) → length p ≡ n → over 0 p bytes ≡ p ++ drop n bytes
-unfolding over
-over-front p bytes n e =
-    let whole : 0 + length p ≡ n = omega arith in
-    ap (λ (k : ℕ). p ++ drop k bytes) whole
-
--- i slots were gone through, and `at` bytes stand over the front of the buffer
-module _ (r : ℕ) (ns store out₀ : List ℕ) where
+-- i slots were gone through, and the bytes from at₀ to `at` stand over the buffer
+module _ (r : ℕ) (ns store out₀ : List ℕ) (at₀ : ℕ) where
   pub record HandingOut (out : List ℕ) (i at : ℕ) : Type 0 where
     pub front : Toward
-        (over 0 (numbered r ns store) out₀)
+        (over at₀ (numbered r ns store) out₀)
         out₀
         out
-        (numbered r (drop i ns) (drop (packetLength * i) store) ++ drop (packetLength * slotsFor r ns) out₀)
+        (numbered r (drop i ns) (drop (packetLength * i) store) ++ drop (at₀ + packetLength * slotsFor r ns) out₀)
         at
-    pub left : at + packetLength * slotsFor r (drop i ns) ≡ packetLength * slotsFor r ns
+    pub left : at + packetLength * slotsFor r (drop i ns) ≡ at₀ + packetLength * slotsFor r ns
 
-  pub handing-none : packetLength * length ns ≤ length store → HandingOut out₀ 0 0
-  handing-none h =
+  pub handing-none : packetLength * length ns ≤ length store → at₀ ≤ length out₀ → HandingOut out₀ 0 at₀
+  unfolding over
+  handing-none h g =
       record {
         front =
-            subst (λ l. Toward (over 0 (numbered r ns store) out₀) out₀ out₀ l 0)
-            (over-front (numbered r ns store) out₀ (packetLength * slotsFor r ns) (length-numbered r ns store h))
-            (toward-none out₀ (over 0 (numbered r ns store) out₀));
-        left = omega arith;
+            toward-kept (toward-none out₀ (over at₀ (numbered r ns store) out₀)) at₀
+            (ap (λ (k : ℕ). take at₀ out₀ ++ (numbered r ns store ++ drop (at₀ + k) out₀)) (length-numbered r ns store h))
+            (zero-add at₀) g;
+        left = refl;
       }
 
   module _ {out : List ℕ} {i at : ℕ} (w : HandingOut out i at) where
@@ -110,57 +84,43 @@ module _ (r : ℕ) (ns store out₀ : List ℕ) where
           record {
             front =
                 toward-part (w .front) ys k
-                (ap (λ (p : List ℕ). p ++ drop (packetLength * slotsFor r ns) out₀) (numbered-from r ns i h e store)
-                ∙ append-assoc (take packetLength (drop (packetLength * i) store)) rest (drop (packetLength * slotsFor r ns) out₀)
-                ∙ ap (λ (p : List ℕ). p ++ (rest ++ drop (packetLength * slotsFor r ns) out₀)) (sym y))
+                (ap (λ (p : List ℕ). p ++ drop (at₀ + packetLength * slotsFor r ns) out₀) (numbered-from r ns i h e store)
+                ∙ append-assoc (take packetLength (drop (packetLength * i) store)) rest (drop (at₀ + packetLength * slotsFor r ns) out₀)
+                ∙ ap (λ (p : List ℕ). p ++ (rest ++ drop (at₀ + packetLength * slotsFor r ns) out₀)) (sym y))
                 (ap length y ∙ length-take-le packetLength (drop (packetLength * i) store) (rw length-drop (omega arith)) ∙ sym l)
                 (omega arith);
             left = omega arith;
           }
 
       -- a slot with another
-      handing-passed : eqb (getD ns i 0) r ≡ false → HandingOut out (i + 1) at
+      pub handing-passed : eqb (getD ns i 0) r ≡ false → HandingOut out (i + 1) at
       handing-passed e =
           let more = count-from r ns i h e in
           let before = w .left in
           record {
             front =
-                subst (λ (p : List ℕ). Toward (over 0 (numbered r ns store) out₀) out₀ out (p ++ drop (packetLength * slotsFor r ns) out₀) at)
+                subst (λ (p : List ℕ). Toward (over at₀ (numbered r ns store) out₀) out₀ out (p ++ drop (at₀ + packetLength * slotsFor r ns) out₀) at)
                 (numbered-from r ns i h e store)
                 (w .front);
             left = omega arith;
           }
 
       -- there is room for one more
-      pub room-for : eqb (getD ns i 0) r ≡ true → packetLength * slotsFor r ns ≤ length out₀ → at + packetLength ≤ length out₀
+      pub room-for : eqb (getD ns i 0) r ≡ true → at₀ + packetLength * slotsFor r ns ≤ length out₀ → at + packetLength ≤ length out₀
       room-for e g =
           let more = count-from r ns i h e in
           let before = w .left in
           omega arith
 
     -- where no slot is left with the number
-    pub handing-all : marked r (drop i ns) ≡ 0 → out ≡ over 0 (numbered r ns store) out₀
-    unfolding ones
-    handing-all z =
-        let none : slotsFor r (drop i ns) ≡ 0 = sym (marked-ones r (drop i ns)) ∙ ap ones z in
-        let before = w .left in
-        let done : at ≡ packetLength * slotsFor r ns = omega arith in
-        toward-all (w .front)
-        (ap (λ (k : ℕ). drop k out₀) done
-        ∙ ap (λ (l : List ℕ). l ++ drop (packetLength * slotsFor r ns) out₀) (sym (none-numbered r (drop i ns) (drop (packetLength * i) store) z)))
+    module _ (none : slotsFor r (drop i ns) ≡ 0) where
+      pub handed : at ≡ at₀ + packetLength * slotsFor r ns
+      handed =
+          let before = w .left in
+          omega arith
 
-  -- slot j is the next with the number, and n are the marks from it on
-  pub record Next (out : List ℕ) (at j n : ℕ) : Type 0 where
-    pub handed : HandingOut out j at
-    pub inside : j < length ns
-    pub here : eqb (getD ns j 0) r ≡ true
-    pub rest : n ≡ marked r (drop j ns)
-
-  -- which stands behind as many slots as the marks have zeros below
-  pub handing-next : (k : ℕ) {out : List ℕ} {i at m : ℕ} → length ns ≤ i + k → HandingOut out i at → m ≡ marked r (drop i ns) → (m ≡ 0 → ⊥)
-      → {j : ℕ} → i + trailingZeros k m ≡ j → Next out at j (m / 2 ^ trailingZeros k m)
-  handing-next k {out} {i} {at} h w e some p =
-      let x =
-      next (length ns) (λ l. eqb (getD ns l 0) r) (λ l. marked r (drop l ns)) (λ l g. marked-from r ns l g refl) (λ l g. marked-none r ns l g)
-      (λ l. HandingOut out l at) (λ l g d v. handing-passed v g d) k h w e some p in
-      record { handed = x .here; inside = x .inside; here = x .is-told; rest = x .rest }
+      pub handing-all : out ≡ over at₀ (numbered r ns store) out₀
+      handing-all =
+          toward-all (w .front)
+          (ap (λ (k : ℕ). drop k out₀) handed
+          ∙ ap (λ (l : List ℕ). l ++ drop (at₀ + packetLength * slotsFor r ns) out₀) (sym (none-numbered r (drop i ns) (drop (packetLength * i) store) none)))

@@ -1,2 +1,6 @@
+mod Counting
 mod Frames
 mod Handing
+mod Joined
+mod Marks
+mod Parts

@@ -1,2 +1,3 @@
 -- What handing out a ready frame goes by.
+pub mod Halves
 pub mod Ready

@@ -1,11 +1,10 @@
--- The checks before a frame is handed out, up to the room for its packets; and the slots with one number as bits.
+-- The checks before a frame is handed out, up to the room for its packets.
 use Prim.Native.Nat.{ℕ}
 use mathlib.Core.Bool.{not}
-use mathlib.Core.List.{List, [], _∷_, _++_, map}
+use mathlib.Core.List.{List, [], _∷_, _++_}
 use lib.Dec.{eqb}
 use Rattle.counters.specs.Counters.{firstStream, lastStream, within}
 use Rattle.refusal_table.specs.Refusal.{Check}
-use Rattle.slot_bits.specs.Bits.{slotBits}
 use Rattle.receiver_table.specs.Table.{isReady}
 use Rattle.receiver_in_place.specs.declared.Receiver.{Receiver}
 use Rattle.receiver_in_place.specs.Store.{storeLength}
@@ -16,7 +15,3 @@ unfoldable pub readyChecks : Receiver → ℕ → ℕ → List Check
 readyChecks c r store =
     (1, not (eqb store storeLength))
     ∷ (receiverChecks c ++ ((17, not (within firstStream lastStream r)) ∷ (16, not (isReady (c .stage))) ∷ []))
-
--- the slots with number r, as bits
-abbrev pub marked : ℕ → List ℕ → ℕ
-marked r numbers = slotBits (map (λ (n : ℕ). eqb n r) numbers)

@@ -1,74 +1,110 @@
-// The slots with one number: marked, counted, and their packets one behind the other.
+// The slots with one number: marked sixteen at a time, counted, and their packets one behind the other.
 use packet::PACKET_BYTES;
 use receiver_in_place::HandedOut;
-use setting::SLOTS;
 ghost use mathlib.Core.Path.{_≡_};
 ghost use mathlib.Core.Bool.{cond};
-ghost use Prim.Native.Nat.{_*_, _≤_, _<_};
+ghost use Prim.Native.Nat.{_+_, _*_, _≤_};
 ghost use lib.Dec.{ltb};
-ghost use lib.ListN.{length, getD};
-ghost use Rattle.counters.specs.Counters.{lastSlot};
+ghost use lib.ListN.{length, take, drop};
+ghost use Rattle.bits.specs.Fields.{run, cut};
 ghost use Rattle.packet.specs.Packets.{packetLength};
 ghost use Rattle.slices.specs.Slices.{over};
 ghost use Rattle.slot_numbers.specs.Packed.{packedLength, unpacked};
 ghost use Rattle.receiver_in_place.specs.Store.{storeLength, numbered, slotsFor};
-ghost use Rattle.receiver_hand_out.specs.Ready.{marked};
+ghost use Rattle.receiver_hand_out.specs.Halves.{halvesOf, marked};
 
-// The number of slot i + 1, a half of a byte.
-fn number_at(numbers: &[u8], i: usize) -> u8
-    requires { ⌜ (length (now numbers) ≡ packedLength) × (i < lastSlot) ⌝ }
-    ensures { λ t. ⌜ t ≡ getD (unpacked (now (numbers .entry))) i 0 ⌝ }
+// A byte as a wider number, of which it is known that it was a byte.
+fn wide(byte: u8) -> u64
+    ensures { λ t. ⌜ (t ≡ byte) × (t ≤ 255) ⌝ }
 {
-    let both = numbers[i / 2];
-    if i % 2 == 0 {
-        return both / 16;
-    }
-    both % 16
+    byte as u64
 }
 
-// The slots with number r, slot i in bit i - 1. Each is asked alike and none stops it, so that many are compared at a time.
-fn marks_of(numbers: &[u8], r: u8) -> u64
-    requires { ⌜ length (now numbers) ≡ packedLength ⌝ }
-    ensures { λ t. ⌜ t ≡ marked r (unpacked (now (numbers .entry))) ⌝ }
+// Eight bytes as one number, the first of them the highest. They are written out, since the compiler makes one load of that and not of a loop.
+fn word(bytes: &[u8]) -> u64
+    requires { ⌜ length (now bytes) ≡ 8 ⌝ }
+    ensures { λ t. ⌜ halvesOf t ≡ cut 4 16 (run 8 (now (bytes .entry))) ⌝ }
 {
-    let mut shares = [0u8; SLOTS];
-    let mut i = 0;
-    while i < SLOTS {
-        shares[i] = slot_bits::share(number_at(numbers, i) == r, i);
-        i += 1;
-    }
-    slot_bits::summed_of(&shares)
+    (wide(bytes[0]) << 56)
+        + (wide(bytes[1]) << 48)
+        + (wide(bytes[2]) << 40)
+        + (wide(bytes[3]) << 32)
+        + (wide(bytes[4]) << 24)
+        + (wide(bytes[5]) << 16)
+        + (wide(bytes[6]) << 8)
+        + wide(bytes[7])
 }
 
-// 15: room for fewer packets than have number r; else copies those, in slot order, to the front of `out`.
-pub(crate) fn hand_out(out: &mut [u8], store: &[u8], numbers: &[u8], r: u8) -> HandedOut
-    requires { ⌜ (length (now numbers) ≡ packedLength) × (length (now store) ≡ storeLength) × (1 ≤ r) × (r ≤ 15) ⌝ }
-    ensures { λ t. ⌜ t ≡ cond (ltb (length (now (out .entry))) (packetLength * slotsFor r (unpacked (now (numbers .entry))))) (record { refusal = 15; packets = 0 }) (record { refusal = 0; packets = slotsFor r (unpacked (now (numbers .entry))) }) ⌝ }
-    ensures { λ _. ⌜ now (out .exit) ≡ cond (ltb (length (now (out .entry))) (packetLength * slotsFor r (unpacked (now (numbers .entry))))) (now (out .entry)) (over 0 (numbered r (unpacked (now (numbers .entry))) (now (store .entry))) (now (out .entry))) ⌝ }
+// The halves of `word` that are r, each as the highest bit of its half: that of y is set where the half of x is not 0, and no carry leaves a half.
+fn marks(word: u64, r: u8) -> u64
+    requires { ⌜ r ≤ 15 ⌝ }
+    ensures { λ t. ⌜ halvesOf t ≡ marked r (halvesOf word) ⌝ }
 {
-    let marks = marks_of(numbers, r);
-    let packets = u64::count_ones(marks) as usize;
-    if out.len() / PACKET_BYTES < packets {
-        return HandedOut {
-            refusal: 15,
-            packets: 0,
-        };
-    }
+    let x = word ^ (wide(r) * 0x1111_1111_1111_1111);
+    let y = ((x & 0x7777_7777_7777_7777) + 0x7777_7777_7777_7777) | x;
+    (y & 0x8888_8888_8888_8888) ^ 0x8888_8888_8888_8888
+}
+
+// The slots with number r among the sixteen whose numbers stand from byte `at` on.
+fn marks_at(numbers: &[u8], at: usize, r: u8) -> u64
+    requires { ⌜ (length (now numbers) ≡ packedLength) × (at + 8 ≤ packedLength) × (r ≤ 15) ⌝ }
+    ensures { λ t. ⌜ halvesOf t ≡ marked r (take 16 (drop (2 * at) (unpacked (now (numbers .entry))))) ⌝ }
+{
+    marks(word(&numbers[at..at + 8]), r)
+}
+
+// How many slots are marked in four words. A mark leaves three bits of its half free: each word has one of the four, and one count is enough.
+fn count(a: u64, b: u64, c: u64, d: u64) -> usize
+    requires { ⌜ (marked 8 (halvesOf a) ≡ halvesOf a) × (marked 8 (halvesOf b) ≡ halvesOf b) × (marked 8 (halvesOf c) ≡ halvesOf c) × (marked 8 (halvesOf d) ≡ halvesOf d) ⌝ }
+    ensures { λ t. ⌜ t ≡ slotsFor 8 (halvesOf a) + slotsFor 8 (halvesOf b) + slotsFor 8 (halvesOf c) + slotsFor 8 (halvesOf d) ⌝ }
+    ensures { λ t. ⌜ t ≤ 64 ⌝ }
+{
+    u64::count_ones(a + b / 2 + c / 4 + d / 8) as usize
+}
+
+// Copies the packets of the slots that are marked, of the sixteen behind the first so many, to `out` from place `from` on; says where they end.
+fn copy_marked(out: &mut [u8], from: usize, store: &[u8], first: usize, marks: u64) -> usize
+    requires { ⌜ (marked 8 (halvesOf marks) ≡ halvesOf marks) × (packetLength * (first + 16) ≤ length (now store)) × (from + packetLength * slotsFor 8 (halvesOf marks) ≤ length (now out)) ⌝ }
+    ensures { λ t. ⌜ t ≡ from + packetLength * slotsFor 8 (halvesOf marks) ⌝ }
+    ensures { λ _. ⌜ now (out .exit) ≡ over from (numbered 8 (halvesOf marks) (drop (packetLength * first) (now (store .entry)))) (now (out .entry)) ⌝ }
+{
     let mut rest = marks;
-    let mut i = 0;
-    let mut at = 0;
+    let mut at = from;
     while rest != 0 {
-        let passed = u64::trailing_zeros(rest);
-        i += passed as usize;
-        let slot = PACKET_BYTES * i;
+        let zeros = u64::leading_zeros(rest);
+        let slot = PACKET_BYTES * (first + (zeros / 4) as usize);
         slices::copy(
             &mut out[at..at + PACKET_BYTES],
             &store[slot..slot + PACKET_BYTES],
         );
         at += PACKET_BYTES;
-        rest = (rest >> passed) / 2;
-        i += 1;
+        rest -= 0x8000_0000_0000_0000 >> zeros;
     }
+    at
+}
+
+// 15: room for fewer packets than have number r; else copies those, in slot order, to the front of `out`. The last word is that of slots 37 to
+// 52, of which the marks of the last four are left.
+pub(crate) fn hand_out(out: &mut [u8], store: &[u8], numbers: &[u8], r: u8) -> HandedOut
+    requires { ⌜ (length (now numbers) ≡ packedLength) × (length (now store) ≡ storeLength) × (r ≤ 15) ⌝ }
+    ensures { λ t. ⌜ t ≡ cond (ltb (length (now (out .entry))) (packetLength * slotsFor r (unpacked (now (numbers .entry))))) (record { refusal = 15; packets = 0 }) (record { refusal = 0; packets = slotsFor r (unpacked (now (numbers .entry))) }) ⌝ }
+    ensures { λ _. ⌜ now (out .exit) ≡ cond (ltb (length (now (out .entry))) (packetLength * slotsFor r (unpacked (now (numbers .entry))))) (now (out .entry)) (over 0 (numbered r (unpacked (now (numbers .entry))) (now (store .entry))) (now (out .entry))) ⌝ }
+{
+    let a = marks_at(numbers, 0, r);
+    let b = marks_at(numbers, 8, r);
+    let c = marks_at(numbers, 16, r);
+    let d = marks_at(numbers, 18, r) % 0x1_0000;
+    let packets = count(a, b, c, d);
+    if out.len() < PACKET_BYTES * packets {
+        return HandedOut {
+            refusal: 15,
+            packets: 0,
+        };
+    }
+    let at = copy_marked(out, 0, store, 0, a);
+    let at = copy_marked(out, at, store, 16, b);
+    let at = copy_marked(out, at, store, 32, c);
+    copy_marked(out, at, store, 36, d);
     HandedOut {
         refusal: 0,
         packets,

@@ -1,232 +1,174 @@
--- `hand_out` meets its contract: the slots before slot i were gone through, and the marks are those of the others. Assumes nothing.
-use Prim.Native.Nat.{ℕ, _+_, _-_, _*_, _/_, _^_, _≤_, _<_}
-use mathlib.Core.Path.{_≡_, refl, sym, ap, _∙_}
+-- `hand_out` meets its contract: the packets of so many slots were copied, word by word. Assumes nothing.
+use Prim.Native.Nat.{ℕ, _*_, _%_, _≤_}
+use mathlib.Core.Path.{_≡_, refl}
+use mathlib.Core.List.{List}
 use native.Mathlib.Omega.{arith}
 use borrow.Author.Needs.{needs}
 use borrow.Author.Tests.{lt-ltb, le-ltb}
-use borrow.Rule.Slice.PartMut.{mid-len}
-use lib.Count.{ones, ones-le, trailingZeros}
 use lib.ListN.{length, take, drop}
-use Rattle.slices.proofs.Front.{copied-over}
-use Rattle.slices.proofs.Toward.{toward-length}
 use Rattle.counters.specs.Counters.{lastSlot}
+use Rattle.packet.specs.Packets.{packetLength}
 use Rattle.slot_numbers.specs.Packed.{unpacked}
 use Rattle.slot_numbers.proofs.Packing.{length-unpacked}
-use Rattle.packet.specs.Packets.{packetLength}
 use Rattle.receiver_in_place.specs.Store.{slotsFor}
-use Rattle.receiver_hand_out.specs.Ready.{marked}
-use Rattle.receiver_hand_out.proofs.Handing.{HandingOut, Next, marked-ones, marked-from, handing-none, handing-one, handing-next, handing-all, room-for}
+use Rattle.receiver_hand_out.proofs.Parts.{Says, says, says-last, slots-all, Gone, gone-none, gone-more, gone-room, gone-all}
 use Rattle.receiver_hand_out.proofs.numbered.hand_out.Statement.{statement}
 use Rattle.receiver_hand_out.proofs.numbered.hand_out.Tie as tie
 
-abbrev Inv-loop : tie.InvT-loop
-Inv-loop out₀ store numbers r marks packets rest₀ i₀ at₀ out rest i at =
-    (i ≤ lastSlot) × (at ≤ length out₀) × (length out ≡ length out₀) × HandingOut r (unpacked numbers) store out₀ out i at × (rest ≡ marked r (drop i (unpacked numbers)))
+-- what the call was given, and the numbers
+abbrev start : tie.After-marks-at4 → tie.Start
+start c = c .before .before .before .before .before .before .before
 
-abbrev μ-loop : tie.MeasureT-loop
-μ-loop out₀ store numbers r marks packets rest₀ i₀ at₀ out rest i at = lastSlot - i
+abbrev ns : tie.After-marks-at4 → List ℕ
+ns c = unpacked (start c .args .numbers .now)
 
--- what the call was given
-abbrev given : tie.After-marks-of Inv-loop μ-loop → tie.Start Inv-loop μ-loop
-given c = c .before .before .before .before
+long : (c : tie.After-marks-at4) → length (ns c) ≡ lastSlot
+long c = length-unpacked (start c .args .numbers .now)
 
-abbrev start : tie.At-loop Inv-loop μ-loop → tie.Start Inv-loop μ-loop
-start c = given (c .before .before)
+-- what the words say
+says₁ : (c : tie.After-marks-at4) → Says (start c .args .r) (c .before .before .before .marks-at .result) (take 16 (ns c)) 0
+says₁ c = says _ _ (c .before .before .before .marks-at .ensures)
+
+says₂ : (c : tie.After-marks-at4) → Says (start c .args .r) (c .before .before .marks-at2 .result) (take 16 (drop 16 (ns c))) 0
+says₂ c = says _ _ (c .before .before .marks-at2 .ensures)
+
+says₃ : (c : tie.After-marks-at4) → Says (start c .args .r) (c .before .marks-at3 .result) (take 16 (drop 32 (ns c))) 0
+says₃ c = says _ _ (c .before .marks-at3 .ensures)
+
+says₄ : (c : tie.After-marks-at4) → Says (start c .args .r) (c .marks-at4 .result % 65536) (take 4 (drop 48 (ns c))) 12
+says₄ c = says-last _ _ 36 (ns c) (c .marks-at4 .ensures)
 
 -- how many slots have the number
-counted : (c : tie.After-marks-of Inv-loop μ-loop) → ones (c .marks-of .result) ≡ slotsFor (given c .args .r) (unpacked (given c .args .numbers .now))
-counted c = ap ones (c .marks-of .ensures) ∙ marked-ones (given c .args .r) (unpacked (given c .args .numbers .now))
+counted : (c : tie.After-count) → c .count .result ≡ slotsFor (start (c .before) .args .r) (ns (c .before))
+counted c =
+    let k = c .before in
+    let all = slots-all (start k .args .r) (ns k) (start k .args .store .now) (start k .args .out .now) (long k) (start k .pre .1) in
+    omega (arith, all, c .count .ensures .0, says₁ k .count, says₂ k .count, says₃ k .count, says₄ k .count)
 
--- the slots that are passed over, and the next one with the number
-abbrev zeros : tie.In-loop Inv-loop μ-loop → ℕ
-zeros c = trailingZeros 64 (c .before .loop .rest)
-
-abbrev slot : tie.In-loop Inv-loop μ-loop → ℕ
-slot c = c .before .loop .i + zeros c
-
-found : (c : tie.In-loop Inv-loop μ-loop)
-    → Next (start (c .before) .args .r) (unpacked (start (c .before) .args .numbers .now)) (start (c .before) .args .store .now) (start (c .before) .args .out .now)
-    (c .before .loop .out) (c .before .loop .at) (slot c) (c .before .loop .rest / 2 ^ zeros c)
-found c =
-    let many = length-unpacked (start (c .before) .args .numbers .now) in
-    handing-next _ _ _ _ 64 (omega arith) (c .before .loop .inv .3) (c .before .loop .inv .4) (c .loop-test .taken) refl
-
-inside : (c : tie.In-loop Inv-loop μ-loop) → slot c < lastSlot
-inside c =
-    let next = found c .inside in
-    let many = length-unpacked (start (c .before) .args .numbers .now) in
-    omega arith
-
--- for whose packet there is room
-room : (c : tie.In-loop Inv-loop μ-loop) → c .before .loop .at + packetLength ≤ length (start (c .before) .args .out .now)
-room c =
-    let n = counted (c .before .before .before) in
-    let enough = c .before .before .if1 .left in
-    room-for _ _ _ _ (found c .handed) (found c .inside) (found c .here) (omega arith)
-
--- which is copied
-copied : (c : tie.After-copy Inv-loop μ-loop)
-    → c .copy .last .0 ≡ take packetLength (drop (packetLength * slot (c .before .before .before)) (start (c .before .before .before .before) .args .store .now))
-copied c =
-    let t = c .before .before .before in
-    let k = t .before in
-    let from = packetLength * slot t in
-    let store = start k .args .store .now in
-    let left = room t in
-    let next = inside t in
-    let there : k .loop .at + packetLength - k .loop .at ≡ packetLength = omega arith in
-    let here : from + packetLength - from ≡ packetLength = omega arith in
-    c .copy .ensures
-    ∙ copied-over _ _
-    (mid-len (k .loop .at) (k .loop .at + packetLength) (k .loop .out) (omega arith) ∙ there
-    ∙ sym (mid-len from (from + packetLength) store (omega arith) ∙ here))
-    ∙ ap (λ (n : ℕ). take n (drop from store)) here
-
-marks-of-requires : tie.Need-marks-of-requires Inv-loop μ-loop
-marks-of-requires c κs = search needs
-
-cast-packets : tie.Need-cast-packets Inv-loop μ-loop
-cast-packets c =
-    let few = ones-le 64 _ (c .marks-of .ok) in
-    search needs
-
-returns : tie.Need-returns Inv-loop μ-loop
-returns c =
-    let s = given (c .before) in
+enough : (c : tie.Else1) → packetLength * slotsFor (start (c .before .before) .args .r) (ns (c .before .before)) ≤ length (start (c .before .before) .args .out .now)
+enough c =
     let n = counted (c .before) in
-    let less = lt-ltb (length (s .args .out .now)) (packetLength * slotsFor (s .args .r) (unpacked (s .args .numbers .now))) (omega arith) in
+    omega (arith, c .if1 .left)
+
+-- from the place behind a word's packets to that behind the marks
+abbrev words₁ : tie.After-copy-marked → tie.After-marks-at4
+words₁ c = c .before .before .before .before
+
+abbrev words₂ : tie.After-copy-marked2 → tie.After-marks-at4
+words₂ c = words₁ (c .before .before .before .before)
+
+abbrev words₃ : tie.After-copy-marked3 → tie.After-marks-at4
+words₃ c = words₂ (c .before .before .before .before)
+
+abbrev words₄ : tie.After-copy-marked4 → tie.After-marks-at4
+words₄ c = words₃ (c .before .before .before .before)
+
+abbrev first : tie.After-copy-marked4 → tie.After-copy-marked
+first c = c .before .before .before .before .before .before .before .before .before .before .before .before
+
+-- what is copied
+abbrev Copied : tie.After-marks-at4 → List ℕ → ℕ → ℕ → Type 0
+Copied k = Gone (start k .args .r) (ns k) (start k .args .store .now) (start k .args .out .now) (long k) (start k .pre .1)
+
+copied₀ : (k : tie.After-marks-at4) → Copied k (start k .args .out .now) 0 0
+copied₀ k = gone-none _ _ _ _ _ _
+
+copied₁ : (c : tie.After-copy-marked) → Copied (words₁ c) (c .copy-marked .last .0) 16 (c .copy-marked .result)
+copied₁ c = gone-more _ _ _ _ _ _ (copied₀ (words₁ c)) _ 16 0 0 (says₁ (words₁ c)) (omega arith) refl (c .copy-marked .ensures .1) (c .copy-marked .ensures .0)
+
+copied₂ : (c : tie.After-copy-marked2) → Copied (words₂ c) (c .copy-marked2 .last .0) 32 (c .copy-marked2 .result)
+copied₂ c =
+    gone-more _ _ _ _ _ _ (copied₁ (c .before .before .before .before)) _ 16 0 16 (says₂ (words₂ c)) (omega arith) refl (c .copy-marked2 .ensures .1) (c .copy-marked2 .ensures .0)
+
+copied₃ : (c : tie.After-copy-marked3) → Copied (words₃ c) (c .copy-marked3 .last .0) 48 (c .copy-marked3 .result)
+copied₃ c =
+    gone-more _ _ _ _ _ _ (copied₂ (c .before .before .before .before)) _ 16 0 32 (says₃ (words₃ c)) (omega arith) refl (c .copy-marked3 .ensures .1) (c .copy-marked3 .ensures .0)
+
+copied₄ : (c : tie.After-copy-marked4) → Copied (words₄ c) (c .copy-marked4 .last .0) lastSlot (c .copy-marked4 .result)
+copied₄ c =
+    gone-more _ _ _ _ _ _ (copied₃ (c .before .before .before .before)) _ 4 12 36 (says₄ (words₄ c)) (omega arith) refl (c .copy-marked4 .ensures .1) (c .copy-marked4 .ensures .0)
+
+marks-at-requires : tie.Need-marks-at-requires
+marks-at-requires c κs = search needs
+
+marks-at-requires-2 : tie.Need-marks-at-requires-2
+marks-at-requires-2 c κs = search needs
+
+marks-at-requires-3 : tie.Need-marks-at-requires-3
+marks-at-requires-3 c κs = search needs
+
+marks-at-requires-4 : tie.Need-marks-at-requires-4
+marks-at-requires-4 c κs = search needs
+
+count-requires : tie.Need-count-requires
+count-requires c κs = (says₁ c .are, says₂ c .are, says₃ c .are, says₄ c .are)
+
+mul-if1 : tie.Need-mul-if1
+mul-if1 c = search needs
+
+returns : tie.Need-returns
+returns c =
+    let k = c .before in
+    let s = start (k .before) in
+    let n = counted k in
+    let less = lt-ltb (length (s .args .out .now)) (packetLength * slotsFor (s .args .r) (ns (k .before))) (omega (arith, c .if1 .taken)) in
     (rw less refl, rw less refl)
 
-loop-holds : tie.Need-loop-holds Inv-loop μ-loop
-loop-holds c =
-    let many = length-unpacked (given (c .before) .args .numbers .now) in
-    (omega arith, omega arith, refl, handing-none _ _ _ _ (omega arith), c .before .marks-of .ensures)
+copy-marked-requires : tie.Need-copy-marked-requires
+copy-marked-requires c κs =
+    let e = c .before in
+    let k = e .before .before in
+    (says₁ k .are, omega (arith, start k .pre .1), gone-room _ _ _ _ _ _ (copied₀ k) _ 16 0 0 (says₁ k) (omega arith) (enough e))
 
-cast-i : tie.Need-cast-i Inv-loop μ-loop
-cast-i c =
-    let next = inside c in
-    search needs
+copy-marked-requires-2 : tie.Need-copy-marked-requires-2
+copy-marked-requires-2 c κs =
+    let g = c .before .before .before in
+    let k = words₁ g in
+    let room = gone-room _ _ _ _ _ _ (copied₁ g) _ 16 0 16 (says₂ k) (omega arith) (enough (g .before .before)) in
+    (says₂ k .are, omega (arith, start k .pre .1), omega (arith, room, g .copy-marked .kept .0))
 
-add-i : tie.Need-add-i Inv-loop μ-loop
-add-i c =
-    let next = inside c in
-    search needs
+copy-marked-requires-3 : tie.Need-copy-marked-requires-3
+copy-marked-requires-3 c κs =
+    let g = c .before .before .before in
+    let f = g .before .before .before .before in
+    let k = words₂ g in
+    let room = gone-room _ _ _ _ _ _ (copied₂ g) _ 16 0 32 (says₃ k) (omega arith) (enough (f .before .before)) in
+    (says₃ k .are, omega (arith, start k .pre .1), omega (arith, room, g .copy-marked2 .kept .0, f .copy-marked .kept .0))
 
-mul-slot : tie.Need-mul-slot Inv-loop μ-loop
-mul-slot c =
-    let next = inside c in
-    search needs
+copy-marked-requires-4 : tie.Need-copy-marked-requires-4
+copy-marked-requires-4 c κs =
+    let g = c .before .before .before in
+    let h = g .before .before .before .before in
+    let f = h .before .before .before .before in
+    let k = words₃ g in
+    let room = gone-room _ _ _ _ _ _ (copied₃ g) _ 4 12 36 (says₄ k) (omega arith) (enough (f .before .before)) in
+    (says₄ k .are, omega (arith, start k .pre .1), omega (arith, room, g .copy-marked3 .kept .0, h .copy-marked2 .kept .0, f .copy-marked .kept .0))
 
-add-copy : tie.Need-add-copy Inv-loop μ-loop
-add-copy c =
-    let left = room c in
-    search needs
+same-length : tie.Need-same-length
+same-length c = search needs
 
-sub-copy : tie.Need-sub-copy Inv-loop μ-loop
-sub-copy c = search needs
-
-part-copy-start : tie.Need-part-copy-start Inv-loop μ-loop
-part-copy-start c = search needs
-
-part-copy-end : tie.Need-part-copy-end Inv-loop μ-loop
-part-copy-end c =
-    let left = room c in
-    search needs
-
-add-copy-2 : tie.Need-add-copy-2 Inv-loop μ-loop
-add-copy-2 c =
-    let next = inside (c .before) in
-    search needs
-
-sub-copy-2 : tie.Need-sub-copy-2 Inv-loop μ-loop
-sub-copy-2 c = search needs
-
-part-copy-start-2 : tie.Need-part-copy-start-2 Inv-loop μ-loop
-part-copy-start-2 c = search needs
-
-part-copy-end-2 : tie.Need-part-copy-end-2 Inv-loop μ-loop
-part-copy-end-2 c =
-    let next = inside (c .before) in
-    search needs
-
-copy-requires : tie.Need-copy-requires Inv-loop μ-loop
-copy-requires c κs = search needs
-
-add-at : tie.Need-add-at Inv-loop μ-loop
-add-at c =
-    let left = room (c .before .before .before .before .before) in
-    search needs
-
-cast-rest : tie.Need-cast-rest Inv-loop μ-loop
-cast-rest c =
-    let next = inside (c .before .before .before .before .before) in
-    search needs
-
-shr-rest : tie.Need-shr-rest Inv-loop μ-loop
-shr-rest c =
-    let next = inside (c .before .before .before .before .before) in
-    omega arith
-
-add-i-2 : tie.Need-add-i-2 Inv-loop μ-loop
-add-i-2 c =
-    let next = inside (c .before .before .before .before .before) in
-    search needs
-
-loop-less : tie.Need-loop-less Inv-loop μ-loop
-loop-less c =
-    let next = inside (c .before .before .before .before .before) in
-    omega arith
-
-loop-again : tie.Need-loop-again Inv-loop μ-loop
-loop-again c =
-    let copy = c .before .before in
-    let t = copy .before .before .before in
-    let k = t .before in
-    let next = inside t in
-    let left = room t in
-    let handed = handing-one _ _ _ _ (found t .handed) (found t .inside) (found t .here) (k .loop .at + packetLength - k .loop .at) (omega arith) (copy .copy .last .0) (copied copy) (omega arith) in
-    let marks = marked-from _ _ (slot t) (found t .inside) (found t .here) in
-    (omega arith, omega arith, toward-length (handed .front) (omega arith), handed, ap (λ (n : ℕ). n / 2) (found t .rest ∙ marks) ∙ omega arith)
-
-same-length : tie.Need-same-length Inv-loop μ-loop
-same-length c = c .before .loop .inv .2
-
-returns-2 : tie.Need-returns-2 Inv-loop μ-loop
+returns-2 : tie.Need-returns-2
 returns-2 c =
-    let k = c .before in
+    let g = c .before .before in
+    let k = words₄ g in
     let s = start k in
-    let n = counted (k .before .before) in
-    let enough = k .before .if1 .left in
-    let holds = le-ltb (length (s .args .out .now)) (packetLength * slotsFor (s .args .r) (unpacked (s .args .numbers .now))) (omega arith) in
-    (rw (holds, n) refl, rw holds (handing-all _ _ _ _ (k .loop .inv .3) (sym (k .loop .inv .4) ∙ c .loop-test .left)))
+    let holds = le-ltb (length (s .args .out .now)) (packetLength * slotsFor (s .args .r) (ns k)) (enough (first g .before .before)) in
+    (rw (holds, counted (first g .before .before .before)) refl, rw holds (gone-all _ _ _ _ _ _ (copied₄ g)))
 
 pub hand-out-spec : {M : Type 1} → statement M
 hand-out-spec =
     tie.close
     (tie.spec
-    Inv-loop
-    μ-loop
-    marks-of-requires
-    cast-packets
+    marks-at-requires
+    marks-at-requires-2
+    marks-at-requires-3
+    marks-at-requires-4
+    count-requires
+    mul-if1
     returns
-    loop-holds
-    cast-i
-    add-i
-    mul-slot
-    add-copy
-    sub-copy
-    part-copy-start
-    part-copy-end
-    add-copy-2
-    sub-copy-2
-    part-copy-start-2
-    part-copy-end-2
-    copy-requires
-    add-at
-    cast-rest
-    shr-rest
-    add-i-2
-    loop-less
-    loop-again
+    copy-marked-requires
+    copy-marked-requires-2
+    copy-marked-requires-3
+    copy-marked-requires-4
     same-length
     returns-2)
