@@ -1,18 +1,20 @@
 -- Laws of the slots that pass a test as one number: how large it is, how many bits it has set, and which. Assumes nothing.
 use Prim.Native.Nat.{ℕ, zero, suc, _+_, _-_, _*_, _/_, _%_, _^_, _<_}
-use mathlib.Core.Path.{_≡_, refl, ap, _∙_}
+use mathlib.Core.Path.{_≡_, refl, sym, ap, ap₂, _∙_}
 use mathlib.Core.Bool.{Bool, true, false, cond}
-use mathlib.Core.List.{[], _∷_}
+use mathlib.Core.List.{List, [], _∷_, map}
 use native.Mathlib.Nat.{pow-suc, add-zero, add-mul-div-right}
-use native.Mathlib.Numerals.{add-one}
 use native.Mathlib.Decide.{ℕ-discrete}
 use native.Mathlib.Omega.{arith}
+use borrow.Author.Tests.{ne-eqb}
 use lib.Arith.{digits-lt}
 use lib.Count.{ones, ones-cat}
 use lib.Dec.{eqb}
-use lib.ListN.{length, length-append}
+use lib.ListN.{length, getD, length-append, List·getD-map}
 use lib.Pow.{pow-pos, pow-add, high}
+use Rattle.slot_bits.specs.Bits.{slotBits}
 use Rattle.places.specs.Order.{picked}
+use Rattle.group.specs.Group.{hasNumber}
 use Rattle.group.specs.Plan.{marksUpTo}
 
 -- one bit over m
@@ -51,10 +53,6 @@ one-length true s = refl
 one-length false s = refl
 
 module _ (test : ℕ → Bool) where
-  pub marks-more : (n : ℕ) → marksUpTo test (n + 1) ≡ marksUpTo test n + cond (test n) (2 ^ n) 0
-  unfolding marksUpTo
-  marks-more n = rw add-one
-
   pub marks-none : ((i : ℕ) → test i ≡ false) → (n : ℕ) → marksUpTo test n ≡ 0
   unfolding marksUpTo
   marks-none h zero = refl
@@ -102,3 +100,42 @@ module _ (test : ℕ → Bool) where
           → eqb ((marksUpTo test n + cond (test n) (2 ^ n) 0) / 2 ^ i % 2) 1 ≡ test i
       at-last below (yes e) = rw e (bit-there (test n) n (marksUpTo test n) (marks-small n))
       at-last below (no d) = ap (λ (x : ℕ). eqb x 1) (bits-below (test n) n (marksUpTo test n) i (omega arith)) ∙ below (omega arith)
+
+-- ---- the slots with a number
+
+-- the lowest bit, and those above it
+marks-first : (test : ℕ → Bool) (n : ℕ) → marksUpTo test (suc n) ≡ cond (test 0) 1 0 + 2 * marksUpTo (λ i. test (suc i)) n
+unfolding marksUpTo
+marks-first test zero = omega arith
+marks-first test (suc n) = by-test (test (suc n)) (marksUpTo (λ i. test (suc i)) n) (marks-first test n)
+  where
+    by-test : (t : Bool) {m : ℕ} (x : ℕ) → m ≡ cond (test 0) 1 0 + 2 * x → m + cond t (2 ^ suc n) 0 ≡ cond (test 0) 1 0 + 2 * (x + cond t (2 ^ n) 0)
+    by-test true x e = omega (arith, e, pow-suc 2 n)
+    by-test false x e = omega (arith, e)
+
+marks-same : (t t′ : ℕ → Bool) → ((i : ℕ) → t i ≡ t′ i) → (n : ℕ) → marksUpTo t n ≡ marksUpTo t′ n
+unfolding marksUpTo
+marks-same t t′ h zero = refl
+marks-same t t′ h (suc n) = ap₂ (λ (m : ℕ) (x : Bool). m + cond x (2 ^ n) 0) (marks-same t t′ h n) (h n)
+
+module _ (r : ℕ) where
+  -- as a list tells them, slot 1 first
+  told-marks : (numbers : List ℕ) → marksUpTo (λ i. eqb (getD numbers i 0) r) (length numbers) ≡ slotBits (map (λ (n : ℕ). eqb n r) numbers)
+  unfolding marksUpTo slotBits
+  told-marks [] = refl
+  told-marks (n ∷ ns) = marks-first (λ i. eqb (getD (n ∷ ns) i 0) r) (length ns) ∙ ap (λ (m : ℕ). cond (eqb n r) 1 0 + 2 * m) (told-marks ns)
+
+  module _ (some : r ≡ 0 → ⊥) (numbers : List ℕ) where
+    pub told-at : (i : ℕ) → getD (map (λ (n : ℕ). eqb n r) numbers) i false ≡ eqb (getD numbers i 0) r
+    told-at i =
+        ap (getD (map (λ (n : ℕ). eqb n r) numbers) i) (sym (ne-eqb 0 r (λ e. some (sym e)))) ∙ List·getD-map (λ (n : ℕ). eqb n r) numbers i 0
+
+    has-number : (i : ℕ) → hasNumber numbers r (suc i) ≡ eqb (getD numbers i 0) r
+    has-number i =
+        rw (ne-eqb (suc i) 0 (λ e. omega arith), ne-eqb r 0 some) (ap (λ (k : ℕ). eqb (getD numbers k 0) r) (omega arith))
+
+    -- slot i is bit i, so all stand one higher
+    pub numbered-marks : 2 * slotBits (map (λ (n : ℕ). eqb n r) numbers) ≡ marksUpTo (hasNumber numbers r) (suc (length numbers))
+    numbered-marks =
+        let same = marks-same (λ i. hasNumber numbers r (suc i)) (λ i. eqb (getD numbers i 0) r) has-number (length numbers) in
+        omega (arith, same, told-marks numbers, marks-first (hasNumber numbers r) (length numbers))

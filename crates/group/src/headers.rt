@@ -10,8 +10,9 @@ use setting::SLOTS;
 use setting::STREAMS;
 ghost use mathlib.Core.Path.{_≡_};
 ghost use mathlib.Core.Bool.{true};
-ghost use Prim.Native.Nat.{_≤_, _<_, _*_, _%_};
+ghost use Prim.Native.Nat.{_≤_, _%_};
 ghost use lib.ListN.{length};
+ghost use lib.Count.{ones};
 ghost use Rattle.counters.specs.Counters.{lastSlot, lastPosition};
 ghost use Rattle.setting.specs.declared.Setting.{Setting};
 ghost use Rattle.setting.specs.Setting.{blank};
@@ -20,10 +21,10 @@ ghost use Rattle.rules.specs.Rules.{pidAllowed};
 ghost use Rattle.header_checks.specs.Checking.{partsOf};
 ghost use Rattle.packet.specs.Packets.{frameLength};
 ghost use Rattle.places.specs.Order.{framePackets};
-ghost use Rattle.places.specs.Walk.{lastCarrier, mostFrames};
-ghost use Rattle.group.specs.Group.{hasNumber, numberOf};
+ghost use Rattle.places.specs.Walk.{lastCarrier};
+ghost use Rattle.group.specs.Group.{hasNumber, numberOf, carries};
 ghost use Rattle.group.specs.Standing.{shownBy, isLast, isEnd, nextCarrier, nextPosition, standingChecks};
-ghost use Rattle.group.specs.Plan.{marksUpTo, nothingSeen, seen, plannedBy};
+ghost use Rattle.group.specs.Plan.{marksUpTo, marks, nothingSeen, plannedBy};
 
 // The most carriers of a group, and the most frames.
 pub const CARRIERS: usize = 8;
@@ -77,7 +78,8 @@ fn number_of(heard: Checked, b: Bond) -> u8
     number
 }
 
-// The slots with number r, slot i in bit i; none where r is 0.
+// The slots with number r, slot i in bit i; none where r is 0. Each is asked alike and none stops it, so that many are compared at a
+// time.
 fn marks_of(numbers: &[u8], r: u8) -> u64
     requires { ⌜ length (now numbers) ≡ lastSlot ⌝ }
     ensures { λ t. ⌜ t ≡ marksUpTo (hasNumber (now (numbers .entry)) r) framePackets ⌝ }
@@ -85,15 +87,32 @@ fn marks_of(numbers: &[u8], r: u8) -> u64
     if r == 0 {
         return 0;
     }
-    let mut marks = 0u64;
+    let mut shares = [0u8; SLOTS];
     let mut i = 0;
     while i < SLOTS {
-        if numbers[i] == r {
-            marks += 2u64 << (i as u32);
-        }
+        shares[i] = slot_bits::share(numbers[i] == r, i);
         i += 1;
     }
-    marks
+    2 * slot_bits::summed_of(&shares)
+}
+
+// What a header says of the stream: whether it knows it, and its slots, slot i in bit i.
+struct Bonded {
+    is_carried: bool,
+    marks: u64,
+}
+
+fn bonded_by(heard: Checked, b: Bond) -> Bonded
+    ensures { λ r. ⌜ ((s : Setting) → heard ≡ partsOf 0 s → (r .«is_carried» ≡ carries b s) × (r .marks ≡ marks b s)) ⌝ }
+    ensures { λ r. ⌜ ones (r .marks) ≤ framePackets ⌝ }
+{
+    let number = number_of(heard, b);
+    let numbers = heard.relative_ts_number;
+    let marks = marks_of(&numbers, number);
+    Bonded {
+        is_carried: number != 0,
+        marks,
+    }
 }
 
 // What stands before the first header.
@@ -205,31 +224,6 @@ fn nothing_seen() -> Plan
     }
 }
 
-// The header of frame j taken in.
-fn seen(plan: Plan, j: usize, heard: Checked, b: Bond) -> Plan
-    requires { ⌜ (1 ≤ heard .«carrier_sequence») × (heard .«carrier_sequence» ≤ lastCarrier) × (j < mostFrames) ⌝ }
-    requires { ⌜ plan .packets ≤ framePackets * j ⌝ }
-    ensures { λ r. ⌜ ((s : Setting) → heard ≡ partsOf 0 s → r ≡ seen b plan j s) ⌝ }
-{
-    let number = number_of(heard, b);
-    let numbers = heard.relative_ts_number;
-    let marks = marks_of(&numbers, number);
-    let mut frames = plan.frames;
-    frames[heard.carrier_sequence as usize - 1] = heard.number_of_frames;
-    let mut slots = plan.slots;
-    slots[j] = marks;
-    let mut is_carried = plan.is_carried;
-    if number != 0 {
-        is_carried = true;
-    }
-    Plan {
-        frames,
-        slots,
-        is_carried,
-        packets: plan.packets + u64::count_ones(marks) as usize,
-    }
-}
-
 pub(crate) fn refused(refusal: u8) -> Planned
     ensures { λ r. ⌜ (r .refusal ≡ refusal) × (r .plan ≡ nothingSeen) ⌝ }
 {
@@ -245,7 +239,10 @@ pub(crate) fn plan_of(group: &[u8], b: Bond) -> Planned
     ensures { λ r. ⌜ r ≡ plannedBy b (now (group .entry)) ⌝ }
 {
     let count = group.len() / FRAME_BYTES;
-    let mut plan = nothing_seen();
+    let mut frames = [0u8; CARRIERS];
+    let mut slots = [0u64; FRAMES];
+    let mut is_carried = false;
+    let mut packets = 0;
     let mut behind = nothing_shown();
     let mut group_id = 0u8;
     let mut j = 0;
@@ -263,12 +260,22 @@ pub(crate) fn plan_of(group: &[u8], b: Bond) -> Planned
         if standing != 0 {
             return refused(standing);
         }
-        plan = seen(plan, j, heard, b);
+        let bonded = bonded_by(heard, b);
+        frames[shown.carrier_sequence as usize - 1] = shown.number_of_frames;
+        slots[j] = bonded.marks;
+        is_carried = is_carried | bonded.is_carried;
+        packets += u64::count_ones(bonded.marks) as usize;
         behind = shown;
         j += 1;
     }
     if !is_end(behind, b.carriers) {
         return refused(14);
     }
+    let plan = Plan {
+        frames,
+        slots,
+        is_carried,
+        packets,
+    };
     Planned { refusal: 0, plan }
 }

@@ -10,7 +10,7 @@ ghost use lib.ListN.{length, getD};
 ghost use Rattle.bits.specs.Fields.{run, cut};
 ghost use Rattle.setting.specs.Setting.{blank};
 ghost use Rattle.refusal_table.specs.Refusal.{firstOf};
-ghost use Rattle.rules.specs.Rules.{ruleChecks};
+ghost use Rattle.rules.specs.Rules.{bondingChecks, ruleChecks};
 ghost use Rattle.layout.specs.Header.{headerLength, firsts, seconds, packetChecks, reading};
 ghost use Rattle.header_checks.specs.Checking.{partsOf, partsBeside};
 
@@ -122,6 +122,19 @@ fn bonding_of(packet: &[u8], kind: Kind) -> Bonding
     }
 }
 
+// 11: the bonding fields of an extended header.
+fn bonding_refusal(bonding: Bonding, kind: Kind) -> u8
+    ensures { λ r. ⌜ r ≡ firstOf (bondingChecks kind (bonding .«number_of_carriers») (bonding .«carrier_sequence») (bonding .«number_of_frames») (bonding .«frame_position»)) ⌝ }
+{
+    setting_rules::bonding_refusal(
+        kind,
+        bonding.number_of_carriers,
+        bonding.carrier_sequence,
+        bonding.number_of_frames,
+        FramePosition(bonding.frame_position),
+    )
+}
+
 // 8 to 11, and what the packet says where none of them holds. Each part is read when it is first asked for.
 pub(crate) fn said_by(packet: &[u8], kind: Kind) -> Checked
     requires { ⌜ length (now packet) ≡ headerLength ⌝ }
@@ -131,12 +144,9 @@ pub(crate) fn said_by(packet: &[u8], kind: Kind) -> Checked
         return refused(8);
     }
     let availability = word_at(packet, 7) / 2;
-    let mut relative_ts_number = [0u8; SLOTS];
-    read_halves(
-        &mut relative_ts_number,
-        &packet[layout::NUMBERS..layout::PRIVATE],
-    );
-    if available_slots::has_unavailable(availability, &relative_ts_number) {
+    let mut numbers = [0u8; SLOTS];
+    read_halves(&mut numbers, &packet[layout::NUMBERS..layout::PRIVATE]);
+    if available_slots::has_unavailable(availability, &numbers) {
         return refused(9);
     }
     let mut ts_id = [0u16; STREAMS];
@@ -150,13 +160,7 @@ pub(crate) fn said_by(packet: &[u8], kind: Kind) -> Checked
         return refused(10);
     }
     let bonding = bonding_of(packet, kind);
-    let refusal = setting_rules::bonding_refusal(
-        kind,
-        bonding.number_of_carriers,
-        bonding.carrier_sequence,
-        bonding.number_of_frames,
-        FramePosition(bonding.frame_position),
-    );
+    let refusal = bonding_refusal(bonding, kind);
     if refusal != 0 {
         return refused(refusal);
     }
@@ -166,7 +170,7 @@ pub(crate) fn said_by(packet: &[u8], kind: Kind) -> Checked
         availability,
         ts_id,
         original_network_id,
-        relative_ts_number,
+        relative_ts_number: numbers,
         group_id: bonding.group_id,
         number_of_carriers: bonding.number_of_carriers,
         carrier_sequence: bonding.carrier_sequence,

@@ -1,72 +1,50 @@
--- `marks_of` meets its contract: after i turns slots 1 to i are marked. Assumes nothing.
-use Prim.Native.Nat.{ℕ, _+_, _-_, _*_, _%_, _^_, _≤_, _<_}
-use mathlib.Core.Path.{_≡_, refl, sym, ap, _∙_}
-use mathlib.Core.Logic.{⊎-elim}
-use mathlib.Core.Bool.{Bool, cond, and-false}
-use mathlib.Core.List.{List}
+-- `marks_of` meets its contract: the shares of the slots before slot i + 1 are left. Assumes nothing.
+use Prim.Native.Nat.{ℕ, suc, _-_, _*_, _≤_, _<_}
+use mathlib.Core.Path.{_≡_, sym, ap, _∙_}
+use mathlib.Core.Bool.{Bool, and-false}
+use mathlib.Core.List.{List, map}
 use native.Mathlib.Omega.{arith}
-use native.Mathlib.Nat.{pow-suc}
-use native.Mathlib.Numerals.{add-one}
 use borrow.Author.Needs.{needs}
-use borrow.Author.Tests.{eq-eqb, ne-eqb}
+use borrow.Author.Tests.{eq-eqb}
 use lib.Dec.{eqb}
-use lib.ListN.{getD}
-use lib.Pow.{shl-exact, pow-mono}
+use lib.ListN.{length, length-map}
 use Rattle.counters.specs.Counters.{lastSlot}
+use Rattle.slot_bits.proofs.Sharing.{Sharing, sharing-none, sharing-more, sharing-long, sharing-all}
 use Rattle.places.specs.Order.{framePackets}
 use Rattle.group.specs.Group.{hasNumber}
 use Rattle.group.specs.Plan.{marksUpTo}
-use Rattle.group.proofs.Marks.{marks-more, marks-none, marks-small}
+use Rattle.group.proofs.Marks.{marks-none, marks-small, told-at, numbered-marks}
 use Rattle.group.proofs.headers.marks_of.Statement.{statement}
 use Rattle.group.proofs.headers.marks_of.Tie as tie
 
--- slot i + 1 has the number where element i is it
-module _ (numbers : List ℕ) (r i : ℕ) {b : Bool} (some : r ≡ 0 → ⊥) (here : eqb (getD numbers i 0) r ≡ b) where
-  next : marksUpTo (hasNumber numbers r) (i + 1 + 1) ≡ marksUpTo (hasNumber numbers r) (i + 1) + cond b (2 ^ (i + 1)) 0
-  next =
-      let has : hasNumber numbers r (i + 1) ≡ b =
-      rw (ne-eqb (i + 1) 0 (λ e. omega arith), ne-eqb r 0 some) (ap (λ (k : ℕ). eqb (getD numbers k 0) r) (omega arith) ∙ here) in
-      marks-more (hasNumber numbers r) (i + 1) ∙ ap (λ (t : Bool). marksUpTo (hasNumber numbers r) (i + 1) + cond t (2 ^ (i + 1)) 0) has
-
-module _ (i : ℕ) (inside : i < lastSlot) where
-  -- nothing is shifted out
-  shifted : 2 * 2 ^ i % 2 ^ 64 ≡ 2 ^ (i + 1)
-  shifted = shl-exact 2 i 64 (omega arith) (omega arith) ∙ omega (arith, ap (λ (k : ℕ). 2 ^ k) (add-one i) ∙ pow-suc 2 i)
-
-  -- and the sum has room
-  room : (m : ℕ) → m < 2 ^ (i + 1) → m + 2 * 2 ^ i % 2 ^ 64 < 2 ^ 64
-  room m h = rw shifted (omega (arith, pow-mono {i = i + 1} {j = lastSlot} (omega arith)))
-
 abbrev Inv-loop : tie.InvT-loop
-Inv-loop numbers r marks₀ i₀ marks i = (i ≤ lastSlot) × (marks ≡ marksUpTo (hasNumber numbers r) (i + 1))
+Inv-loop numbers r shares₀ i₀ shares i = (i ≤ lastSlot) × (length shares ≡ lastSlot) × Sharing (map (λ (n : ℕ). eqb n r) numbers) shares i
 
 abbrev μ-loop : tie.MeasureT-loop
-μ-loop numbers r marks₀ i₀ marks i = lastSlot - i
+μ-loop numbers r shares₀ i₀ shares i = lastSlot - i
+
+-- which slots have the number, and how many slots there are
+abbrev told : tie.Start Inv-loop μ-loop → List Bool
+told c = map (λ (n : ℕ). eqb n (c .args .r)) (c .args .numbers .now)
+
+told-long : (c : tie.Start Inv-loop μ-loop) → length (told c) ≡ lastSlot
+told-long c = length-map (c .args .numbers .now) (λ (n : ℕ). eqb n (c .args .r)) ∙ c .pre
 
 returns : tie.Need-returns Inv-loop μ-loop
 returns c =
-    sym (marks-none _ (λ i. simp (eq-eqb (c .before .args .r) 0 (c .if1 .taken), and-false)) framePackets)
+    sym (marks-none _ (λ i. simp (eq-eqb (c .before .before .args .r) 0 (c .if1 .taken), and-false)) framePackets)
 
 loop-holds : tie.Need-loop-holds Inv-loop μ-loop
-unfolding marksUpTo
-loop-holds c = (omega arith, refl)
+loop-holds c = (omega arith, omega arith, sharing-none (told (c .before .before)))
 
-shared-slice-read-if2 : tie.Need-shared-slice-read-if2 Inv-loop μ-loop
-shared-slice-read-if2 c = search needs
+shared-slice-read-share : tie.Need-shared-slice-read-share Inv-loop μ-loop
+shared-slice-read-share c = search needs
 
-cast-marks : tie.Need-cast-marks Inv-loop μ-loop
-cast-marks c = search needs
+share-requires : tie.Need-share-requires Inv-loop μ-loop
+share-requires c κs = search needs
 
-cast-marks-2 : tie.Need-cast-marks-2 Inv-loop μ-loop
-cast-marks-2 c = search needs
-
-shl-marks : tie.Need-shl-marks Inv-loop μ-loop
-shl-marks c = search needs
-
-add-marks : tie.Need-add-marks Inv-loop μ-loop
-add-marks c =
-    let k = c .before .before .before in
-    omega (arith, room (k .loop .i) (omega arith) (k .loop .marks) (rw (k .loop .inv .1) (marks-small _ (k .loop .i + 1))))
+array-write-shares : tie.Need-array-write-shares Inv-loop μ-loop
+array-write-shares c = search needs
 
 add-i : tie.Need-add-i Inv-loop μ-loop
 add-i c = search needs
@@ -76,24 +54,34 @@ loop-less c = search needs
 
 loop-again : tie.Need-loop-again Inv-loop μ-loop
 loop-again c =
-    let k = c .before .before .before in
-    let s = k .before .before in
-    let numbers = s .args .numbers .now in
-    let i = k .loop .i in
-    let bit = shifted i (omega arith) in
-    let held = k .loop .inv .1 in (
-      omega arith,
-      ⊎-elim
-          (λ w. let marked = next numbers (s .args .r) i (k .before .if1 .left) (eq-eqb _ _ (w .0 .taken)) in rw (w .1) (omega arith))
-          (λ w. let same = next numbers (s .args .r) i (k .before .if1 .left) (ne-eqb _ _ (w .0 .left)) in rw (w .1) (omega arith))
-          (c .if2 .came),
-    )
+    let loop = c .before .before .before in
+    let start = loop .before .before .before in
+    let i = loop .loop .i in
+    let shared = sharing-more (told start) (told-long start) (loop .loop .inv .2) (omega arith)
+    (told-at (start .args .r) (loop .before .if1 .left) (start .args .numbers .now) i) (c .share .ensures) in
+    (omega arith, sharing-long (told start) (told-long start) shared (omega arith), shared)
+
+summed-of-requires : tie.Need-summed-of-requires Inv-loop μ-loop
+summed-of-requires c κs = search needs
+
+-- all slots are asked, and their bits stand one higher
+abbrev asked : tie.After-summed-of Inv-loop μ-loop → ℕ → Bool
+asked c = let args = c .before .before .before .before .before .before .args in hasNumber (args .numbers .now) (args .r)
+
+doubled : (c : tie.After-summed-of Inv-loop μ-loop) → 2 * c .summed-of .result ≡ marksUpTo (asked c) framePackets
+doubled c =
+    let loop = c .before .before .before in
+    let start = loop .before .before .before in
+    let numbers = start .args .numbers .now in
+    let r = start .args .r in
+    ap (λ (m : ℕ). 2 * m) (c .summed-of .ensures ∙ sharing-all (told start) (told-long start) (loop .loop .inv .2) (omega arith))
+    ∙ numbered-marks r (loop .before .if1 .left) numbers ∙ ap (λ (n : ℕ). marksUpTo (hasNumber numbers r) (suc n)) (start .pre)
+
+mul-result : tie.Need-mul-result Inv-loop μ-loop
+mul-result c = omega (arith, doubled c, marks-small (asked c) framePackets)
 
 returns-2 : tie.Need-returns-2 Inv-loop μ-loop
-returns-2 c =
-    let k = c .before in
-    let all : k .loop .i + 1 ≡ framePackets = omega arith in
-    rw all at (k .loop .inv .1)
+returns-2 c = doubled c
 
 pub marks-of-spec : {M : Type 1} → statement M
 marks-of-spec =
@@ -103,12 +91,12 @@ marks-of-spec =
     μ-loop
     returns
     loop-holds
-    shared-slice-read-if2
-    cast-marks
-    cast-marks-2
-    shl-marks
-    add-marks
+    shared-slice-read-share
+    share-requires
+    array-write-shares
     add-i
     loop-less
     loop-again
+    summed-of-requires
+    mul-result
     returns-2)
