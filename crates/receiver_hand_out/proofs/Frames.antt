@@ -61,11 +61,11 @@ module _ (c : Receiver) (r store : ℕ) where
     unfolding readyChecks
     handed-store = eqb-true store storeLength (not-false _ (none-at none-before 0))
 
-    pub handed-number : (firstStream ≤ r) × (r ≤ lastStream)
+    pub handed-number : r ≤ lastStream
     unfolding readyChecks
     handed-number =
-        let allowed = both (leb firstStream r) (leb r lastStream) (not-false _ (none-at (none-behind (receiverChecks c) (none-behind ((1, not (eqb store storeLength)) ∷ []) none-before)) 0)) in
-        (leb-true firstStream r (allowed .0), leb-true r lastStream (allowed .1))
+        let behind = none-behind (receiverChecks c) (none-behind ((1, not (eqb store storeLength)) ∷ []) none-before) in
+        leb-true r lastStream (both (leb firstStream r) (leb r lastStream) (not-false _ (none-at behind 0)) .1)
 
     by-room : (out : ℕ) → handOutRefusal c r store out ≡ cond (short out) 15 0
     unfolding firstOf

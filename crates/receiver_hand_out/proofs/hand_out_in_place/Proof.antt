@@ -57,8 +57,7 @@ hand-out-requires : tie.Need-hand-out-requires
 hand-out-requires c κs =
     let k = c .before .before in
     let s = start k in
-    let number = handed-number (of s) (s .args .r .0) (length (s .args .store .now)) (accepted k .1) in
-    (search needs, handed-store (of s) (s .args .r .0) _ (accepted k .1), number .0, number .1)
+    (search needs, handed-store (of s) (s .args .r .0) _ (accepted k .1), handed-number (of s) (s .args .r .0) (length (s .args .store .now)) (accepted k .1))
 
 same-length : tie.Need-same-length
 same-length c = search needs
