@@ -20,19 +20,14 @@ fn wide(byte: u8) -> u64
     byte as u64
 }
 
-// Eight bytes as one number, the first of them the highest. They are written out, since the compiler makes one load of that and not of a loop.
+// Eight bytes as one number, the first of them the highest. They are written out, four and four, since the compiler makes one load of that
+// and not of a loop or of a longer sum.
 fn word(bytes: &[u8]) -> u64
     requires { ⌜ length (now bytes) ≡ 8 ⌝ }
     ensures { λ t. ⌜ halvesOf t ≡ cut 4 16 (run 8 (now (bytes .entry))) ⌝ }
 {
-    (wide(bytes[0]) << 56)
-        + (wide(bytes[1]) << 48)
-        + (wide(bytes[2]) << 40)
-        + (wide(bytes[3]) << 32)
-        + (wide(bytes[4]) << 24)
-        + (wide(bytes[5]) << 16)
-        + (wide(bytes[6]) << 8)
-        + wide(bytes[7])
+    ((wide(bytes[0]) << 56) + (wide(bytes[1]) << 48) + (wide(bytes[2]) << 40) + (wide(bytes[3]) << 32))
+        + ((wide(bytes[4]) << 24) + (wide(bytes[5]) << 16) + (wide(bytes[6]) << 8) + wide(bytes[7]))
 }
 
 // The halves of `word` that are r, each as the highest bit of its half: that of y is set where the half of x is not 0, and no carry leaves a half.

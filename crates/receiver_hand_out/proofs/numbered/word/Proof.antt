@@ -45,17 +45,14 @@ shared-slice-read-wide-5 c = search needs
 wide-requires-5 : tie.Need-wide-requires-5
 wide-requires-5 c κs = search needs
 
-add-result-4 : tie.Need-add-result-4
-add-result-4 c = search needs
-
 shared-slice-read-wide-6 : tie.Need-shared-slice-read-wide-6
 shared-slice-read-wide-6 c = search needs
 
 wide-requires-6 : tie.Need-wide-requires-6
 wide-requires-6 c κs = search needs
 
-add-result-5 : tie.Need-add-result-5
-add-result-5 c = search needs
+add-result-4 : tie.Need-add-result-4
+add-result-4 c = search needs
 
 shared-slice-read-wide-7 : tie.Need-shared-slice-read-wide-7
 shared-slice-read-wide-7 c = search needs
@@ -63,14 +60,17 @@ shared-slice-read-wide-7 c = search needs
 wide-requires-7 : tie.Need-wide-requires-7
 wide-requires-7 c κs = search needs
 
-add-result-6 : tie.Need-add-result-6
-add-result-6 c = search needs
+add-result-5 : tie.Need-add-result-5
+add-result-5 c = search needs
 
 shared-slice-read-wide-8 : tie.Need-shared-slice-read-wide-8
 shared-slice-read-wide-8 c = search needs
 
 wide-requires-8 : tie.Need-wide-requires-8
 wide-requires-8 c κs = search needs
+
+add-result-6 : tie.Need-add-result-6
+add-result-6 c = search needs
 
 add-result-7 : tie.Need-add-result-7
 add-result-7 c = search needs
@@ -109,14 +109,14 @@ word-spec =
     add-result-3
     shared-slice-read-wide-5
     wide-requires-5
-    add-result-4
     shared-slice-read-wide-6
     wide-requires-6
-    add-result-5
+    add-result-4
     shared-slice-read-wide-7
     wide-requires-7
-    add-result-6
+    add-result-5
     shared-slice-read-wide-8
     wide-requires-8
+    add-result-6
     add-result-7
     returns)
