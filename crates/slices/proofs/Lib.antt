@@ -2,3 +2,4 @@ pub mod Any
 pub mod Front
 mod Most
 pub mod Toward
+mod Whole

@@ -1,9 +1,51 @@
 // Slices of bytes: copied, filled, tested.
 ghost use mathlib.Core.Path.{_≡_};
 ghost use mathlib.Core.Bool.{false};
-ghost use Prim.Native.Nat.{_<_};
+ghost use Prim.Native.Nat.{_≤_, _<_};
 ghost use lib.ListN.{length, replicate};
 ghost use Rattle.slices.specs.Slices.{copied, someAtLeast};
+
+// How many bytes are copied at a time.
+const AT_A_TIME: usize = 16;
+
+// Copies all of src over as many elements, one by one.
+fn copy_bytes(dst: &mut [u8], src: &[u8])
+    requires { ⌜ length (now dst) ≡ length (now src) ⌝ }
+    ensures { λ _. ⌜ now (dst .exit) ≡ now (src .entry) ⌝ }
+{
+    let mut i = 0;
+    while i < src.len() {
+        dst[i] = src[i];
+        i += 1;
+    }
+}
+
+// Copies sixteen bytes by way of an array: the compiler makes one load and one store of that, and does not ask whether the slices overlap.
+fn copy_sixteen(dst: &mut [u8], src: &[u8])
+    requires { ⌜ (length (now dst) ≡ 16) × (length (now src) ≡ 16) ⌝ }
+    ensures { λ _. ⌜ now (dst .exit) ≡ now (src .entry) ⌝ }
+{
+    let mut held = [0u8; AT_A_TIME];
+    copy_bytes(&mut held, src);
+    copy_bytes(dst, &held);
+}
+
+// Copies sixteen bytes or more, sixteen at a time; the last sixteen may have been copied in part.
+fn copy_long(dst: &mut [u8], src: &[u8])
+    requires { ⌜ (length (now dst) ≡ length (now src)) × (16 ≤ length (now src)) ⌝ }
+    ensures { λ _. ⌜ now (dst .exit) ≡ now (src .entry) ⌝ }
+{
+    let last = src.len() - AT_A_TIME;
+    let mut at = 0;
+    while at < last {
+        copy_sixteen(&mut dst[at..at + AT_A_TIME], &src[at..at + AT_A_TIME]);
+        at += AT_A_TIME;
+    }
+    copy_sixteen(
+        &mut dst[last..last + AT_A_TIME],
+        &src[last..last + AT_A_TIME],
+    );
+}
 
 // Copies src over the front of dst, as many elements as there is room for.
 pub fn copy(dst: &mut [u8], src: &[u8])
@@ -13,11 +55,11 @@ pub fn copy(dst: &mut [u8], src: &[u8])
     if dst.len() < n {
         n = dst.len();
     }
-    let mut i = 0;
-    while i < n {
-        dst[i] = src[i];
-        i += 1;
+    if n < AT_A_TIME {
+        copy_bytes(&mut dst[0..n], &src[0..n]);
+        return;
     }
+    copy_long(&mut dst[0..n], &src[0..n]);
 }
 
 // Sets each element of dst to v.
