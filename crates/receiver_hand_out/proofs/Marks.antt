@@ -96,7 +96,7 @@ module _ (m : ℕ) (bound : m < 2 ^ 64) (are : marked 8 (halvesOf m) ≡ halvesO
       pub same : rest ≡ joined 4 (drop place ms)
 
     pub next : (k : ℕ) {i rest : ℕ} → 16 ≤ i + k → HandingOut 8 ms store out₀ at₀ out i at → rest ≡ joined 4 (drop i ms) → (rest ≡ 0 → ⊥) → Next rest
-    next zero {i} h w e some = 
+    next zero {i} h w e some =
         let l = length-halves m in
         absurd (some (e ∙ joined-none 4 ms i (omega arith)))
     next (suc k) {i} {rest} h w e some =
@@ -108,7 +108,7 @@ module _ (m : ℕ) (bound : m < 2 ^ 64) (are : marked 8 (halvesOf m) ≡ halvesO
             → (HandingOut 8 ms store out₀ at₀ out (i + 1) at → rest ≡ joined 4 (drop (i + 1) ms) → Next rest)
             → Next rest
         by-half true inside d b later = record { place = i; handed = w; inside = inside; here = d; same = e }
-        by-half false inside d b later = 
+        by-half false inside d b later =
             let l = length-halves m in
             later (handing-passed 8 ms store out₀ at₀ w (omega arith) d) (omega arith)
 
