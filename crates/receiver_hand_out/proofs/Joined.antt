@@ -1,5 +1,5 @@
 -- Halves joined to one number, and what is done to all of them at once. Assumes nothing.
-use Prim.Native.Nat.{ℕ, zero, suc, _+_, _-_, _*_, _^_, _≤_, _<_}
+use Prim.Native.Nat.{ℕ, zero, suc, _+_, _-_, _*_, _/_, _%_, _^_, _≤_, _<_}
 use mathlib.Core.Path.{_≡_, refl, sym, ap, ap₂, subst, _∙_}
 use mathlib.Core.Bool.{Bool, true, false, cond, not}
 use mathlib.Core.List.{List, [], _∷_, _++_, append-nil}
@@ -10,13 +10,15 @@ use borrow.Author.Tests.{eqb-true, not-false}
 use lib.Arith.{digits-lt}
 use lib.Bits.{bitAnd, bitOr, bitXor, and-block, or-block, xor-block, and-le-r, and-lt, or-lt, xor-lt}
 use lib.Dec.{eqb, lit<}
-use lib.ListN.{length, getD, drop, length-drop, drop-of-length-le}
+use lib.ListN.{length, getD, take, drop, replicate, length-drop, drop-of-length-le}
 use lib.Pow.{pow-add}
 use lib.Seq.{take-all, drop-cons}
 use Rattle.slices.specs.Slices.{anyBelow}
 use Rattle.slices.proofs.Any.{any-each}
 use Rattle.bits.specs.Fields.{Fit, none, more, bitsOf, number, run, cut}
-use Rattle.bits.proofs.Laws.{length-bitsOf, number-bitsOf, bitsOf-join, bits-bitsOf, length-cut, fit-cut, cut-run, run-cut}
+use Rattle.bits.proofs.Laws.{length-bitsOf, number-bitsOf, bitsOf-split, bitsOf-mod, bitsOf-join, bits-bitsOf, length-cut, fit-drop, fit-cut, cut-run, run-cut}
+use Rattle.slot_numbers.specs.Packed.{packedLength, unpacked}
+use Rattle.slot_numbers.proofs.Packing.{unpacked-part}
 use Rattle.receiver_hand_out.specs.Halves.{halvesOf, marked}
 
 -- the number that values of w bits make, the first of them the highest
@@ -196,3 +198,29 @@ module _ (bs : List ℕ) (l : length bs ≡ 8) where
   pub bytes-halves : Fit 8 bs → {w : ℕ} → w ≡ joined 8 bs → halvesOf w ≡ cut 4 16 (run 8 bs)
   unfolding halvesOf
   bytes-halves f e = ap (cut 4 16) (ap (bitsOf 64) e ∙ ap (λ (n : ℕ). bitsOf (n * 8) (joined 8 bs)) (sym l) ∙ bits-joined f)
+
+-- ---- the last two bytes
+
+-- the lowest four halves
+low-halves : (w : ℕ) → drop 12 (halvesOf w) ≡ cut 4 4 (bitsOf 16 w)
+unfolding halvesOf cut bitsOf
+low-halves w = refl
+
+pub only-low : (w : ℕ) → halvesOf (w % 65536) ≡ replicate 12 0 ++ drop 12 (halvesOf w)
+unfolding halvesOf cut bitsOf number
+only-low w =
+    let none : w % 65536 / 65536 ≡ 0 = omega arith in
+    ap (cut 4 16) (bitsOf-split 48 16 (w % 65536) ∙ ap₂ (λ (x y : List ℕ). x ++ y) (ap (bitsOf 48) none) (bitsOf-mod 16 0 w))
+
+pub last-four : (bs : List ℕ) → length bs ≡ packedLength → Fit 8 bs → {w : ℕ} → w ≡ getD bs 24 0 * 2 ^ 8 + getD bs 25 0 → drop 12 (halvesOf w) ≡ take 4 (drop 48 (unpacked bs))
+last-four bs l f {w} e =
+    let two : length (drop 24 bs) ≡ 2 = length-drop 24 bs ∙ ap (λ (n : ℕ). n - 24) l in
+    let first = joined-from 8 bs l 24 (omega arith) in
+    let second = joined-from 8 bs l 25 (omega arith) in
+    let end = joined-none 8 bs 26 (omega arith) in
+    let whole : w ≡ joined 8 (drop 24 bs) = omega arith in
+    low-halves w
+    ∙ ap (cut 4 4)
+    (ap (bitsOf 16) whole ∙ ap (λ (n : ℕ). bitsOf (n * 8) (joined 8 (drop 24 bs))) (sym two) ∙ bits-joined (fit-drop 24 f)
+    ∙ ap (run 8) (sym (take-all 2 (drop 24 bs) (omega arith))))
+    ∙ unpacked-part 24 2 bs (omega arith) l

@@ -1,5 +1,5 @@
--- Marked halves, gone through from the highest on: how many there are, and the next one, which stands as many halves behind as its number
--- has zeros above. Assumes nothing.
+-- Marked halves, gone through from the highest on: the next one stands behind as many halves as its number has zeros above, four each.
+-- Assumes nothing.
 use Prim.Native.Nat.{ℕ, zero, suc, _+_, _-_, _*_, _/_, _^_, _≤_, _<_}
 use mathlib.Core.Path.{_≡_, refl, sym, ap, ap₂, subst, _∙_}
 use mathlib.Core.Bool.{Bool, true, false, cond}
@@ -14,13 +14,13 @@ use Rattle.bits.proofs.Laws.{fit-drop}
 use Rattle.packet.specs.Packets.{packetLength}
 use Rattle.receiver_in_place.specs.Store.{numbered, slotsFor}
 use Rattle.receiver_hand_out.specs.Halves.{halvesOf, marked}
-use Rattle.receiver_hand_out.proofs.Joined.{joined, joined-lt, joined-from, joined-none, marked-fit, length-halves, halves-fit, joined-halves}
+use Rattle.receiver_hand_out.proofs.Joined.{joined, joined-lt, joined-from, joined-none, marked-fit, length-halves, halves-fit}
 use Rattle.receiver_hand_out.proofs.Handing.{HandingOut, handing-passed}
 
 -- ---- marks
 
 -- one bit for each
-pub marked-ones : (r : ℕ) (ns : List ℕ) → ones (joined 4 (marked r ns)) ≡ slotsFor r ns
+marked-ones : (r : ℕ) (ns : List ℕ) → ones (joined 4 (marked r ns)) ≡ slotsFor r ns
 unfolding joined marked slotsFor ones
 marked-ones r [] = refl
 marked-ones r (n ∷ ns) =
@@ -66,12 +66,9 @@ marked-drop r (suc n) (k ∷ ns) = marked-drop r n ns
 
 -- ---- a number whose halves are marks
 
-module _ (m : ℕ) (bound : m < 2 ^ 64) (are : marked 8 (halvesOf m) ≡ halvesOf m) where
+module _ (m : ℕ) (are : marked 8 (halvesOf m) ≡ halvesOf m) where
   abbrev ms : List ℕ
   ms = halvesOf m
-
-  pub marks-ones : ones m ≡ slotsFor 8 ms
-  marks-ones = ap ones (sym (joined-halves m bound) ∙ ap (joined 4) (sym are)) ∙ marked-ones 8 ms
 
   -- half i and those behind it
   from : (i : ℕ) → i < 16 → {t : Bool} → eqb (getD ms i 0) 8 ≡ t → joined 4 (drop i ms) ≡ cond t 8 0 * 2 ^ ((16 - (i + 1)) * 4) + joined 4 (drop (i + 1) ms)
@@ -87,7 +84,7 @@ module _ (m : ℕ) (bound : m < 2 ^ 64) (are : marked 8 (halvesOf m) ≡ halvesO
   no-slot i z = sym (marked-ones 8 (drop i ms)) ∙ ap (λ (l : List ℕ). ones (joined 4 l)) (marked-drop 8 i ms ∙ ap (drop i) are) ∙ ap ones z
 
   module _ (store out₀ : List ℕ) (at₀ : ℕ) (out : List ℕ) (at : ℕ) where
-    -- half j is the next that is marked, and `rest` are the marks from it on
+    -- a half is the next that is marked, and `rest` are the marks from it on
     pub record Next (rest : ℕ) : Type 0 where
       pub place : ℕ
       pub handed : HandingOut 8 ms store out₀ at₀ out place at
@@ -96,7 +93,7 @@ module _ (m : ℕ) (bound : m < 2 ^ 64) (are : marked 8 (halvesOf m) ≡ halvesO
       pub same : rest ≡ joined 4 (drop place ms)
 
     pub next : (k : ℕ) {i rest : ℕ} → 16 ≤ i + k → HandingOut 8 ms store out₀ at₀ out i at → rest ≡ joined 4 (drop i ms) → (rest ≡ 0 → ⊥) → Next rest
-    next zero {i} h w e some = 
+    next zero {i} h w e some =
         let l = length-halves m in
         absurd (some (e ∙ joined-none 4 ms i (omega arith)))
     next (suc k) {i} {rest} h w e some =
@@ -108,7 +105,7 @@ module _ (m : ℕ) (bound : m < 2 ^ 64) (are : marked 8 (halvesOf m) ≡ halvesO
             → (HandingOut 8 ms store out₀ at₀ out (i + 1) at → rest ≡ joined 4 (drop (i + 1) ms) → Next rest)
             → Next rest
         by-half true inside d b later = record { place = i; handed = w; inside = inside; here = d; same = e }
-        by-half false inside d b later = 
+        by-half false inside d b later =
             let l = length-halves m in
             later (handing-passed 8 ms store out₀ at₀ w (omega arith) d) (omega arith)
 

@@ -1,22 +1,20 @@
 -- The slots with one number, sixteen at a time: what a word of marks says of them, and what is copied word by word. Assumes nothing.
-use Prim.Native.Nat.{ℕ, zero, suc, _+_, _*_, _/_, _%_, _≤_}
+use Prim.Native.Nat.{ℕ, zero, suc, _+_, _*_, _≤_}
 use mathlib.Core.Path.{_≡_, refl, sym, ap, ap₂, _∙_}
 use mathlib.Core.Bool.{Bool, true, false, cond}
 use mathlib.Core.List.{List, [], _∷_, _++_, append-assoc}
-use native.Mathlib.Nat.{zero-add, suc-add, add-assoc}
+use native.Mathlib.Nat.{zero-add, add-assoc}
 use native.Mathlib.Omega.{arith}
 use lib.Dec.{eqb}
 use lib.ListN.{length, take, drop, replicate, length-append, take-append-drop}
-use lib.Seq.{take-all, take-nil, take-at, drop-drop, drop-append-add, take-add, length-take-le}
+use lib.Seq.{take-all, take-at, drop-drop, drop-append-add, take-add, length-take-le}
 use Rattle.slices.specs.Slices.{over}
-use Rattle.bits.specs.Fields.{bitsOf, number, cut}
-use Rattle.bits.proofs.Laws.{bitsOf-split, bitsOf-mod}
 use Rattle.counters.specs.Counters.{lastSlot}
 use Rattle.packet.specs.Packets.{packetLength}
 use Rattle.receiver_in_place.specs.Store.{storeLength, numbered, slotsFor}
 use Rattle.receiver_in_place.proofs.Store.{length-numbered}
 use Rattle.receiver_hand_out.specs.Halves.{halvesOf, marked}
-use Rattle.receiver_hand_out.proofs.Marks.{marked-again, marked-slots, marked-numbered, marked-drop}
+use Rattle.receiver_hand_out.proofs.Marks.{marked-again, marked-slots, marked-numbered}
 
 -- ---- numbers in two parts
 
@@ -58,12 +56,6 @@ says r m {hs} e =
     }
 
 -- of the last four
-last-halves : (m : ℕ) → halvesOf (m % 65536) ≡ replicate 12 0 ++ drop 12 (halvesOf m)
-unfolding halvesOf cut bitsOf number
-last-halves m =
-    let none : m % 65536 / 65536 ≡ 0 = omega arith in
-    ap (cut 4 16) (bitsOf-split 48 16 (m % 65536) ∙ ap₂ (λ (x y : List ℕ). x ++ y) (ap (bitsOf 48) none) (bitsOf-mod 16 0 m))
-
 passed-slots : (k : ℕ) (hs : List ℕ) → slotsFor 8 (replicate k 0 ++ hs) ≡ slotsFor 8 hs
 unfolding slotsFor
 passed-slots zero hs = refl
@@ -82,21 +74,13 @@ unfolding marked
 passed-again zero e = e
 passed-again (suc k) e = ap (λ (l : List ℕ). 0 ∷ l) (passed-again k e)
 
-drop-take : (k n : ℕ) (l : List ℕ) → drop k (take (k + n) l) ≡ take n (drop k l)
-drop-take zero n l = ap (λ (m : ℕ). take m l) (zero-add n)
-drop-take (suc k) n [] = ap (λ (m : ℕ). drop (suc k) (take m [])) (suc-add k n) ∙ sym (take-nil n)
-drop-take (suc k) n (x ∷ l) = ap (λ (m : ℕ). drop (suc k) (take m (x ∷ l))) (suc-add k n) ∙ drop-take k n l
-
-pub says-last : (r m o : ℕ) (ns : List ℕ) → halvesOf m ≡ marked r (take 16 (drop o ns)) → Says r (m % 65536) (take 4 (drop (o + 12) ns)) 12
-says-last r m o ns e =
-    let hs = take 4 (drop (o + 12) ns) in
-    let four : drop 12 (take 16 (drop o ns)) ≡ hs = drop-take 12 4 (drop o ns) ∙ ap (take 4) (drop-drop 12 o ns) in
-    let last = last-halves m ∙ ap (λ (l : List ℕ). replicate 12 0 ++ l) (ap (drop 12) e ∙ sym (marked-drop r 12 (take 16 (drop o ns))) ∙ ap (marked r) four) in
+pub says-last : (r m : ℕ) (hs : List ℕ) → halvesOf m ≡ replicate 12 0 ++ marked r hs → Says r m hs 12
+says-last r m hs e =
     record {
-      are = ap (marked 8) last ∙ passed-again 12 (marked-again r hs) ∙ sym last;
-      count = ap (slotsFor 8) last ∙ passed-slots 12 (marked r hs) ∙ marked-slots r hs;
+      are = ap (marked 8) e ∙ passed-again 12 (marked-again r hs) ∙ sym e;
+      count = ap (slotsFor 8) e ∙ passed-slots 12 (marked r hs) ∙ marked-slots r hs;
       packets = λ bytes.
-          ap (λ (l : List ℕ). numbered 8 l bytes) last ∙ passed-numbered 12 (marked r hs) bytes ∙ marked-numbered r hs (drop (packetLength * 12) bytes);
+          ap (λ (l : List ℕ). numbered 8 l bytes) e ∙ passed-numbered 12 (marked r hs) bytes ∙ marked-numbered r hs (drop (packetLength * 12) bytes);
     }
 
 -- ---- what is copied

@@ -3,9 +3,10 @@ use packet::PACKET_BYTES;
 use receiver_in_place::HandedOut;
 ghost use mathlib.Core.Path.{_≡_};
 ghost use mathlib.Core.Bool.{cond};
+ghost use mathlib.Core.List.{_++_};
 ghost use Prim.Native.Nat.{_+_, _*_, _≤_};
 ghost use lib.Dec.{ltb};
-ghost use lib.ListN.{length, take, drop};
+ghost use lib.ListN.{length, take, drop, replicate};
 ghost use Rattle.bits.specs.Fields.{run, cut};
 ghost use Rattle.packet.specs.Packets.{packetLength};
 ghost use Rattle.slices.specs.Slices.{over};
@@ -20,14 +21,21 @@ fn wide(byte: u8) -> u64
     byte as u64
 }
 
-// Eight bytes as one number, the first of them the highest. They are written out, four and four, since the compiler makes one load of that
-// and not of a loop or of a longer sum.
+// Eight bytes as one number, the first of them the highest. They are written out, four and four, since the compiler makes one load of that, and
+// not of a loop or of one long sum.
 fn word(bytes: &[u8]) -> u64
     requires { ⌜ length (now bytes) ≡ 8 ⌝ }
     ensures { λ t. ⌜ halvesOf t ≡ cut 4 16 (run 8 (now (bytes .entry))) ⌝ }
 {
-    ((wide(bytes[0]) << 56) + (wide(bytes[1]) << 48) + (wide(bytes[2]) << 40) + (wide(bytes[3]) << 32))
-        + ((wide(bytes[4]) << 24) + (wide(bytes[5]) << 16) + (wide(bytes[6]) << 8) + wide(bytes[7]))
+    let high = (wide(bytes[0]) << 56)
+        + (wide(bytes[1]) << 48)
+        + (wide(bytes[2]) << 40)
+        + (wide(bytes[3]) << 32);
+    let low = (wide(bytes[4]) << 24)
+        + (wide(bytes[5]) << 16)
+        + (wide(bytes[6]) << 8)
+        + wide(bytes[7]);
+    high + low
 }
 
 // The halves of `word` that are r, each as the highest bit of its half: that of y is set where the half of x is not 0, and no carry leaves a half.
@@ -46,6 +54,14 @@ fn marks_at(numbers: &[u8], at: usize, r: u8) -> u64
     ensures { λ t. ⌜ halvesOf t ≡ marked r (take 16 (drop (2 * at) (unpacked (now (numbers .entry))))) ⌝ }
 {
     marks(word(&numbers[at..at + 8]), r)
+}
+
+// Those among the last four slots, in the low halves.
+fn last_marks(numbers: &[u8], r: u8) -> u64
+    requires { ⌜ (length (now numbers) ≡ packedLength) × (r ≤ 15) ⌝ }
+    ensures { λ t. ⌜ halvesOf t ≡ replicate 12 0 ++ marked r (take 4 (drop 48 (unpacked (now (numbers .entry))))) ⌝ }
+{
+    marks((wide(numbers[24]) << 8) + wide(numbers[25]), r) % 0x1_0000
 }
 
 // How many slots are marked in four words. A mark leaves three bits of its half free: each word has one of the four, and one count is enough.
@@ -78,8 +94,8 @@ fn copy_marked(out: &mut [u8], from: usize, store: &[u8], first: usize, marks: u
     at
 }
 
-// 15: room for fewer packets than have number r; else copies those, in slot order, to the front of `out`. The last word is that of slots 37 to
-// 52, of which the marks of the last four are left.
+// 15: room for fewer packets than have number r; else copies those, in slot order, to the front of `out`. The last four slots
+// are the last of sixteen.
 pub(crate) fn hand_out(out: &mut [u8], store: &[u8], numbers: &[u8], r: u8) -> HandedOut
     requires { ⌜ (length (now numbers) ≡ packedLength) × (length (now store) ≡ storeLength) × (r ≤ 15) ⌝ }
     ensures { λ t. ⌜ t ≡ cond (ltb (length (now (out .entry))) (packetLength * slotsFor r (unpacked (now (numbers .entry))))) (record { refusal = 15; packets = 0 }) (record { refusal = 0; packets = slotsFor r (unpacked (now (numbers .entry))) }) ⌝ }
@@ -88,7 +104,7 @@ pub(crate) fn hand_out(out: &mut [u8], store: &[u8], numbers: &[u8], r: u8) -> H
     let a = marks_at(numbers, 0, r);
     let b = marks_at(numbers, 8, r);
     let c = marks_at(numbers, 16, r);
-    let d = marks_at(numbers, 18, r) % 0x1_0000;
+    let d = last_marks(numbers, r);
     let packets = count(a, b, c, d);
     if out.len() < PACKET_BYTES * packets {
         return HandedOut {

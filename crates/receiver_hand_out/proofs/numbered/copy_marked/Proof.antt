@@ -1,5 +1,5 @@
 -- `copy_marked` meets its contract: so many of the sixteen slots were gone through, and the marks are those of the others. Assumes nothing.
-use Prim.Native.Nat.{ℕ, _+_, _-_, _*_, _/_, _^_, _≤_, _<_}
+use Prim.Native.Nat.{ℕ, _+_, _-_, _*_, _/_, _≤_, _<_}
 use mathlib.Core.Path.{_≡_, refl, sym, ap, _∙_}
 use mathlib.Core.List.{List}
 use native.Mathlib.Omega.{arith}
@@ -29,9 +29,6 @@ abbrev μ-loop : tie.MeasureT-loop
 abbrev start : tie.At-loop Inv-loop μ-loop → tie.Start Inv-loop μ-loop
 start c = c .before .before .before
 
-bound : (c : tie.At-loop Inv-loop μ-loop) → start c .args .marks < 2 ^ 64
-bound c = omega arith
-
 -- the packets of the sixteen slots and of those behind them
 abbrev behind : tie.At-loop Inv-loop μ-loop → List ℕ
 behind c = drop (packetLength * start c .args .first) (start c .args .store .now)
@@ -39,14 +36,14 @@ behind c = drop (packetLength * start c .args .first) (start c .args .store .now
 -- the next slot that is marked
 abbrev Found : tie.In-loop Inv-loop μ-loop → Type 0
 Found c =
-    Next (start (c .before) .args .marks) (bound (c .before)) (start (c .before) .pre .0) (behind (c .before)) (start (c .before) .args .out .now) (start (c .before) .args .from)
+    Next (start (c .before) .args .marks) (start (c .before) .pre .0) (behind (c .before)) (start (c .before) .args .out .now) (start (c .before) .args .from)
     (c .before .loop .out) (c .before .loop .at) (c .before .loop .rest)
 
 found : (c : tie.In-loop Inv-loop μ-loop) → Found c
-found c = next _ _ _ _ _ _ _ _ 16 (omega arith) (c .before .loop .inv .3) (c .before .loop .inv .4) (c .loop-test .taken)
+found c = next _ _ _ _ _ _ _ 16 (omega arith) (c .before .loop .inv .3) (c .before .loop .inv .4) (c .loop-test .taken)
 
 zeros-are : (c : tie.In-loop Inv-loop μ-loop) → leadingZeros 64 (c .before .loop .rest) ≡ 4 * found c .place
-zeros-are c = zeros _ _ _ _ _ _ _ _ (found c)
+zeros-are c = zeros _ _ _ _ _ _ _ (found c)
 
 inside : (c : tie.In-loop Inv-loop μ-loop) → found c .place < 16
 inside c = found c .inside
@@ -160,12 +157,12 @@ shr-rest c =
 
 sub-rest : tie.Need-sub-rest Inv-loop μ-loop
 sub-rest c =
-    let m = mark-in _ _ _ _ _ _ _ _ (found (c .before .before .before .before .before)) in
+    let m = mark-in _ _ _ _ _ _ _ (found (c .before .before .before .before .before)) in
     omega arith
 
 loop-less : tie.Need-loop-less Inv-loop μ-loop
 loop-less c =
-    let m = mark-in _ _ _ _ _ _ _ _ (found (c .before .before .before .before .before)) in
+    let m = mark-in _ _ _ _ _ _ _ (found (c .before .before .before .before .before)) in
     omega arith
 
 loop-again : tie.Need-loop-again Inv-loop μ-loop
@@ -178,7 +175,7 @@ loop-again c =
     let left = room t in
     let long : k .loop .at + packetLength - k .loop .at ≡ packetLength = omega arith in
     let more = handing-one _ _ _ _ _ (found t .handed) (omega arith) (found t .here) (k .loop .at + packetLength - k .loop .at) long (copy .copy .last .0) (copied copy) (rw length-drop (omega arith)) in
-    (found t .place + 1, omega arith, toward-length (more .front) (omega arith), more, unmarked _ _ _ _ _ _ _ _ (found t))
+    (found t .place + 1, omega arith, toward-length (more .front) (omega arith), more, unmarked _ _ _ _ _ _ _ (found t))
 
 same-length : tie.Need-same-length Inv-loop μ-loop
 same-length c = c .before .loop .inv .2
@@ -186,7 +183,7 @@ same-length c = c .before .loop .inv .2
 returns : tie.Need-returns Inv-loop μ-loop
 returns c =
     let k = c .before in
-    let none = no-slot (start k .args .marks) (bound k) (start k .pre .0) (k .loop .inv .0) (sym (k .loop .inv .4) ∙ c .loop-test .left) in
+    let none = no-slot (start k .args .marks) (start k .pre .0) (k .loop .inv .0) (sym (k .loop .inv .4) ∙ c .loop-test .left) in
     (handed _ _ _ _ _ (k .loop .inv .3) none, handing-all _ _ _ _ _ (k .loop .inv .3) none)
 
 pub copy-marked-spec : {M : Type 1} → statement M

@@ -1,5 +1,5 @@
 -- `hand_out` meets its contract: the packets of so many slots were copied, word by word. Assumes nothing.
-use Prim.Native.Nat.{ℕ, _*_, _%_, _≤_}
+use Prim.Native.Nat.{ℕ, _*_, _≤_}
 use mathlib.Core.Path.{_≡_, refl}
 use mathlib.Core.List.{List}
 use native.Mathlib.Omega.{arith}
@@ -16,27 +16,27 @@ use Rattle.receiver_hand_out.proofs.numbered.hand_out.Statement.{statem
 use Rattle.receiver_hand_out.proofs.numbered.hand_out.Tie as tie
 
 -- what the call was given, and the numbers
-abbrev start : tie.After-marks-at4 → tie.Start
+abbrev start : tie.After-last-marks → tie.Start
 start c = c .before .before .before .before .before .before .before
 
-abbrev ns : tie.After-marks-at4 → List ℕ
+abbrev ns : tie.After-last-marks → List ℕ
 ns c = unpacked (start c .args .numbers .now)
 
-long : (c : tie.After-marks-at4) → length (ns c) ≡ lastSlot
+long : (c : tie.After-last-marks) → length (ns c) ≡ lastSlot
 long c = length-unpacked (start c .args .numbers .now)
 
 -- what the words say
-says₁ : (c : tie.After-marks-at4) → Says (start c .args .r) (c .before .before .before .marks-at .result) (take 16 (ns c)) 0
+says₁ : (c : tie.After-last-marks) → Says (start c .args .r) (c .before .before .before .marks-at .result) (take 16 (ns c)) 0
 says₁ c = says _ _ (c .before .before .before .marks-at .ensures)
 
-says₂ : (c : tie.After-marks-at4) → Says (start c .args .r) (c .before .before .marks-at2 .result) (take 16 (drop 16 (ns c))) 0
+says₂ : (c : tie.After-last-marks) → Says (start c .args .r) (c .before .before .marks-at2 .result) (take 16 (drop 16 (ns c))) 0
 says₂ c = says _ _ (c .before .before .marks-at2 .ensures)
 
-says₃ : (c : tie.After-marks-at4) → Says (start c .args .r) (c .before .marks-at3 .result) (take 16 (drop 32 (ns c))) 0
+says₃ : (c : tie.After-last-marks) → Says (start c .args .r) (c .before .marks-at3 .result) (take 16 (drop 32 (ns c))) 0
 says₃ c = says _ _ (c .before .marks-at3 .ensures)
 
-says₄ : (c : tie.After-marks-at4) → Says (start c .args .r) (c .marks-at4 .result % 65536) (take 4 (drop 48 (ns c))) 12
-says₄ c = says-last _ _ 36 (ns c) (c .marks-at4 .ensures)
+says₄ : (c : tie.After-last-marks) → Says (start c .args .r) (c .last-marks .result) (take 4 (drop 48 (ns c))) 12
+says₄ c = says-last _ _ (take 4 (drop 48 (ns c))) (c .last-marks .ensures)
 
 -- how many slots have the number
 counted : (c : tie.After-count) → c .count .result ≡ slotsFor (start (c .before) .args .r) (ns (c .before))
@@ -51,26 +51,26 @@ enough c =
     omega (arith, c .if1 .left)
 
 -- from the place behind a word's packets to that behind the marks
-abbrev words₁ : tie.After-copy-marked → tie.After-marks-at4
+abbrev words₁ : tie.After-copy-marked → tie.After-last-marks
 words₁ c = c .before .before .before .before
 
-abbrev words₂ : tie.After-copy-marked2 → tie.After-marks-at4
+abbrev words₂ : tie.After-copy-marked2 → tie.After-last-marks
 words₂ c = words₁ (c .before .before .before .before)
 
-abbrev words₃ : tie.After-copy-marked3 → tie.After-marks-at4
+abbrev words₃ : tie.After-copy-marked3 → tie.After-last-marks
 words₃ c = words₂ (c .before .before .before .before)
 
-abbrev words₄ : tie.After-copy-marked4 → tie.After-marks-at4
+abbrev words₄ : tie.After-copy-marked4 → tie.After-last-marks
 words₄ c = words₃ (c .before .before .before .before)
 
 abbrev first : tie.After-copy-marked4 → tie.After-copy-marked
 first c = c .before .before .before .before .before .before .before .before .before .before .before .before
 
 -- what is copied
-abbrev Copied : tie.After-marks-at4 → List ℕ → ℕ → ℕ → Type 0
+abbrev Copied : tie.After-last-marks → List ℕ → ℕ → ℕ → Type 0
 Copied k = Gone (start k .args .r) (ns k) (start k .args .store .now) (start k .args .out .now) (long k) (start k .pre .1)
 
-copied₀ : (k : tie.After-marks-at4) → Copied k (start k .args .out .now) 0 0
+copied₀ : (k : tie.After-last-marks) → Copied k (start k .args .out .now) 0 0
 copied₀ k = gone-none _ _ _ _ _ _
 
 copied₁ : (c : tie.After-copy-marked) → Copied (words₁ c) (c .copy-marked .last .0) 16 (c .copy-marked .result)
@@ -97,8 +97,8 @@ marks-at-requires-2 c κs = search needs
 marks-at-requires-3 : tie.Need-marks-at-requires-3
 marks-at-requires-3 c κs = search needs
 
-marks-at-requires-4 : tie.Need-marks-at-requires-4
-marks-at-requires-4 c κs = search needs
+last-marks-requires : tie.Need-last-marks-requires
+last-marks-requires c κs = search needs
 
 count-requires : tie.Need-count-requires
 count-requires c κs = (says₁ c .are, says₂ c .are, says₃ c .are, says₄ c .are)
@@ -162,7 +162,7 @@ hand-out-spec =
     marks-at-requires
     marks-at-requires-2
     marks-at-requires-3
-    marks-at-requires-4
+    last-marks-requires
     count-requires
     mul-if1
     returns

@@ -18,8 +18,8 @@ shared-slice-read-wide-2 c = search needs
 wide-requires-2 : tie.Need-wide-requires-2
 wide-requires-2 c κs = search needs
 
-add-result : tie.Need-add-result
-add-result c = search needs
+add-high : tie.Need-add-high
+add-high c = search needs
 
 shared-slice-read-wide-3 : tie.Need-shared-slice-read-wide-3
 shared-slice-read-wide-3 c = search needs
@@ -27,8 +27,8 @@ shared-slice-read-wide-3 c = search needs
 wide-requires-3 : tie.Need-wide-requires-3
 wide-requires-3 c κs = search needs
 
-add-result-2 : tie.Need-add-result-2
-add-result-2 c = search needs
+add-high-2 : tie.Need-add-high-2
+add-high-2 c = search needs
 
 shared-slice-read-wide-4 : tie.Need-shared-slice-read-wide-4
 shared-slice-read-wide-4 c = search needs
@@ -36,8 +36,8 @@ shared-slice-read-wide-4 c = search needs
 wide-requires-4 : tie.Need-wide-requires-4
 wide-requires-4 c κs = search needs
 
-add-result-3 : tie.Need-add-result-3
-add-result-3 c = search needs
+add-high-3 : tie.Need-add-high-3
+add-high-3 c = search needs
 
 shared-slice-read-wide-5 : tie.Need-shared-slice-read-wide-5
 shared-slice-read-wide-5 c = search needs
@@ -51,8 +51,8 @@ shared-slice-read-wide-6 c = search needs
 wide-requires-6 : tie.Need-wide-requires-6
 wide-requires-6 c κs = search needs
 
-add-result-4 : tie.Need-add-result-4
-add-result-4 c = search needs
+add-low : tie.Need-add-low
+add-low c = search needs
 
 shared-slice-read-wide-7 : tie.Need-shared-slice-read-wide-7
 shared-slice-read-wide-7 c = search needs
@@ -60,8 +60,8 @@ shared-slice-read-wide-7 c = search needs
 wide-requires-7 : tie.Need-wide-requires-7
 wide-requires-7 c κs = search needs
 
-add-result-5 : tie.Need-add-result-5
-add-result-5 c = search needs
+add-low-2 : tie.Need-add-low-2
+add-low-2 c = search needs
 
 shared-slice-read-wide-8 : tie.Need-shared-slice-read-wide-8
 shared-slice-read-wide-8 c = search needs
@@ -69,11 +69,11 @@ shared-slice-read-wide-8 c = search needs
 wide-requires-8 : tie.Need-wide-requires-8
 wide-requires-8 c κs = search needs
 
-add-result-6 : tie.Need-add-result-6
-add-result-6 c = search needs
+add-low-3 : tie.Need-add-low-3
+add-low-3 c = search needs
 
-add-result-7 : tie.Need-add-result-7
-add-result-7 c = search needs
+add-result : tie.Need-add-result
+add-result c = search needs
 
 returns : tie.Need-returns
 returns c =
@@ -100,23 +100,23 @@ word-spec =
     wide-requires
     shared-slice-read-wide-2
     wide-requires-2
-    add-result
+    add-high
     shared-slice-read-wide-3
     wide-requires-3
-    add-result-2
+    add-high-2
     shared-slice-read-wide-4
     wide-requires-4
-    add-result-3
+    add-high-3
     shared-slice-read-wide-5
     wide-requires-5
     shared-slice-read-wide-6
     wide-requires-6
-    add-result-4
+    add-low
     shared-slice-read-wide-7
     wide-requires-7
-    add-result-5
+    add-low-2
     shared-slice-read-wide-8
     wide-requires-8
-    add-result-6
-    add-result-7
+    add-low-3
+    add-result
     returns)
