@@ -152,7 +152,7 @@ fn with_header(c: Carrier, packet: &[u8], pid: u16) -> Carrier {
 
 // Puts a frame that became ready to its position in the super frame.
 fn put_frame(part: &mut [u8], position: u8, frame: &[u8])
-    requires { ⌜ (length (now part) ≡ 49930) × (length (now frame) ≡ 9964) ⌝ }
+    requires { ⌜ (length (now part) ≡ 49878) × (length (now frame) ≡ 9964) ⌝ }
     requires { ⌜ position < 4 ⌝ }
 {
     let at = SUPER_AT + FRAME_BYTES * position as usize;
@@ -161,7 +161,7 @@ fn put_frame(part: &mut [u8], position: u8, frame: &[u8])
 
 // Keeps a frame that became ready, if it is of the super frame asked for.
 fn keep(c: Carrier, want: u64, part: &mut [u8], frame: &[u8]) -> Carrier
-    requires { ⌜ (length (now part) ≡ 49930) × (length (now frame) ≡ 9964) ⌝ }
+    requires { ⌜ (length (now part) ≡ 49878) × (length (now frame) ≡ 9964) ⌝ }
 {
     if super_of(c.place, c.frames) != want {
         return c;
@@ -174,7 +174,7 @@ fn keep(c: Carrier, want: u64, part: &mut [u8], frame: &[u8]) -> Carrier
 }
 
 fn keep_ready(c: Carrier, event: Event, want: u64, part: &mut [u8], frame: &[u8]) -> Carrier
-    requires { ⌜ (length (now part) ≡ 49930) × (length (now frame) ≡ 9964) ⌝ }
+    requires { ⌜ (length (now part) ≡ 49878) × (length (now frame) ≡ 9964) ⌝ }
 {
     if let Event::Ready = event {
         return keep(c, want, part, frame);
@@ -197,7 +197,7 @@ fn event_of(n: u8) -> Event {
 }
 
 fn receive(frame: &mut [u8], part: &mut [u8], packet: &[u8]) -> Event
-    requires { ⌜ (length (now frame) ≡ 9964) × (length (now part) ≡ 49930) ⌝ }
+    requires { ⌜ (length (now frame) ≡ 9964) × (length (now part) ≡ 49878) ⌝ }
 {
     let mut event = 0u8;
     board_receiver_receive::niranbok_receiver_receive(
@@ -238,7 +238,7 @@ fn take(
     frame: &mut [u8],
     part: &mut [u8],
 ) -> Carrier
-    requires { ⌜ (length (now frame) ≡ 9964) × (length (now part) ≡ 49930) ⌝ }
+    requires { ⌜ (length (now frame) ≡ 9964) × (length (now part) ≡ 49878) ⌝ }
 {
     let event = receive(frame, part, packet);
     let one = keep_ready(counted(c, event), event, want, part, frame);
@@ -247,7 +247,7 @@ fn take(
 
 // Reads the next block.
 fn refill(c: Carrier, part: &mut [u8]) -> Carrier
-    requires { ⌜ length (now part) ≡ 49930 ⌝ }
+    requires { ⌜ length (now part) ≡ 49878 ⌝ }
 {
     let got = input::read_block(c.fd, &mut part[BLOCK_AT..SUPER_AT]);
     input::say_part(got);
@@ -260,7 +260,7 @@ fn refill(c: Carrier, part: &mut [u8]) -> Carrier
 
 // Where the next packet of a block stands, if it has one.
 fn next_at(c: Carrier) -> usize
-    ensures { λ r. ⌜ (110 ≤ r) × (r ≤ 9886) ⌝ }
+    ensures { λ r. ⌜ (58 ≤ r) × (r ≤ 9834) ⌝ }
 {
     let taken = c.taken;
     if taken < BLOCK_PACKETS {
@@ -271,7 +271,7 @@ fn next_at(c: Carrier) -> usize
 
 // Takes the next packet of the block. It is copied, since the state stands beside the block and is written.
 fn take_next(c: Carrier, want: u64, pid: u16, frame: &mut [u8], part: &mut [u8]) -> Carrier
-    requires { ⌜ (length (now frame) ≡ 9964) × (length (now part) ≡ 49930) ⌝ }
+    requires { ⌜ (length (now frame) ≡ 9964) × (length (now part) ≡ 49878) ⌝ }
 {
     let at = next_at(c);
     let mut packet = [0u8; PACKET_BYTES];
@@ -281,7 +281,7 @@ fn take_next(c: Carrier, want: u64, pid: u16, frame: &mut [u8], part: &mut [u8])
 
 // Takes the next packet of the block, or reads another block where it has none.
 fn step(c: Carrier, want: u64, pid: u16, frame: &mut [u8], part: &mut [u8]) -> Carrier
-    requires { ⌜ (length (now frame) ≡ 9964) × (length (now part) ≡ 49930) ⌝ }
+    requires { ⌜ (length (now frame) ≡ 9964) × (length (now part) ≡ 49878) ⌝ }
 {
     if c.taken < c.packets {
         return take_next(c, want, pid, frame, part);
@@ -291,7 +291,7 @@ fn step(c: Carrier, want: u64, pid: u16, frame: &mut [u8], part: &mut [u8]) -> C
 
 // Reads on until the super frame with this number is whole, or a later one has begun, or the input has ended.
 pub(crate) fn read_on(c: Carrier, want: u64, pid: u16, frame: &mut [u8], part: &mut [u8]) -> Carrier
-    requires { ⌜ (length (now frame) ≡ 9964) × (length (now part) ≡ 49930) ⌝ }
+    requires { ⌜ (length (now frame) ≡ 9964) × (length (now part) ≡ 49878) ⌝ }
 {
     let mut next = c;
     next.have = 0;

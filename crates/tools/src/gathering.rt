@@ -92,7 +92,7 @@ fn frames_of(g: Group, n: usize) -> [u8; CARRIERS]
 
 // Puts the super frame of carrier c, which has so many frames, behind so many bytes of the group.
 fn put_super(frames: &mut [u8], before: usize, parts: &[u8], c: usize, size: u8)
-    requires { ⌜ (length (now frames) ≡ 398560) × (length (now parts) ≡ 712272) ⌝ }
+    requires { ⌜ (length (now frames) ≡ 398560) × (length (now parts) ≡ 711856) ⌝ }
     requires { ⌜ (before ≤ 318848) × (c < 8) ⌝ }
 {
     let left = carriers::at_most(SUPER_BYTES, GROUP_BYTES - before);
@@ -106,7 +106,7 @@ fn put_super(frames: &mut [u8], before: usize, parts: &[u8], c: usize, size: u8)
 
 // Puts the carriers' super frames one behind another.
 fn join(frames: &mut [u8], parts: &[u8], sizes: &[u8], n: usize)
-    requires { ⌜ (length (now frames) ≡ 398560) × (length (now parts) ≡ 712272) ⌝ }
+    requires { ⌜ (length (now frames) ≡ 398560) × (length (now parts) ≡ 711856) ⌝ }
     requires { ⌜ (length (now sizes) ≡ 8) × (n ≤ 8) ⌝ }
 {
     let mut c = 0;
@@ -119,7 +119,7 @@ fn join(frames: &mut [u8], parts: &[u8], sizes: &[u8], n: usize)
 
 // Writes so many packets of the stream. Answers whether they were taken.
 fn write(parts: &[u8], packets: usize) -> bool
-    requires { ⌜ length (now parts) ≡ 712272 ⌝ }
+    requires { ⌜ length (now parts) ≡ 711856 ⌝ }
 {
     let end = carriers::at_most(packets, STREAM_BYTES / PACKET_BYTES);
     if !io::write_all(STDOUT_FILENO, &parts[0..PACKET_BYTES * end]) {
@@ -166,7 +166,7 @@ fn gather_into(out: &mut [u8], group: &[u8], bond: Bond) -> Moved {
 
 // Gathers the group, which has so many bytes.
 fn gather_group(frames: &[u8], bytes: usize, parts: &mut [u8], bond: Bond) -> Moved
-    requires { ⌜ (length (now frames) ≡ 398560) × (length (now parts) ≡ 712272) ⌝ }
+    requires { ⌜ (length (now frames) ≡ 398560) × (length (now parts) ≡ 711856) ⌝ }
     requires { ⌜ bytes ≤ 318848 ⌝ }
 {
     gather_into(&mut parts[0..STREAM_BYTES], &frames[0..bytes], bond)
@@ -174,7 +174,7 @@ fn gather_group(frames: &[u8], bytes: usize, parts: &mut [u8], bond: Bond) -> Mo
 
 // Gathers the group and writes the stream.
 fn gather(frames: &[u8], bytes: usize, parts: &mut [u8], bond: Bond, count: Count) -> Count
-    requires { ⌜ (length (now frames) ≡ 398560) × (length (now parts) ≡ 712272) ⌝ }
+    requires { ⌜ (length (now frames) ≡ 398560) × (length (now parts) ≡ 711856) ⌝ }
     requires { ⌜ bytes ≤ 318848 ⌝ }
 {
     let moved = gather_group(frames, bytes, parts, bond);
@@ -215,7 +215,7 @@ pub(crate) fn one_super(
     bond: Bond,
     count: Count,
 ) -> Count
-    requires { ⌜ (length (now frames) ≡ 398560) × (length (now parts) ≡ 712272) ⌝ }
+    requires { ⌜ (length (now frames) ≡ 398560) × (length (now parts) ≡ 711856) ⌝ }
     requires { ⌜ n ≤ 8 ⌝ }
 {
     let now = standing_of(g, n);

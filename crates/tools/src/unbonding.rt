@@ -45,7 +45,7 @@ fn open_all(g: Group, first: usize, n: usize) -> Group
 
 // Starts the receivers of all carriers.
 fn start_receivers(parts: &mut [u8], pid: u16)
-    requires { ⌜ length (now parts) ≡ 712272 ⌝ }
+    requires { ⌜ length (now parts) ≡ 711856 ⌝ }
 {
     let mut c = 0;
     while c < CARRIERS {
@@ -64,7 +64,7 @@ fn read_one(
     frames: &mut [u8],
     parts: &mut [u8],
 ) -> Carrier
-    requires { ⌜ (length (now frames) ≡ 398560) × (length (now parts) ≡ 712272) ⌝ }
+    requires { ⌜ (length (now frames) ≡ 398560) × (length (now parts) ≡ 711856) ⌝ }
     requires { ⌜ c < 8 ⌝ }
 {
     let frame = GROUP_BYTES + FRAME_BYTES * c;
@@ -80,7 +80,7 @@ fn read_one(
 
 // Reads each carrier on to there.
 fn read_on(g: Group, want: u64, pid: u16, n: usize, frames: &mut [u8], parts: &mut [u8]) -> Group
-    requires { ⌜ (length (now frames) ≡ 398560) × (length (now parts) ≡ 712272) ⌝ }
+    requires { ⌜ (length (now frames) ≡ 398560) × (length (now parts) ≡ 711856) ⌝ }
     requires { ⌜ n ≤ 8 ⌝ }
 {
     let mut next = g;
@@ -121,7 +121,7 @@ fn next_super(
     frames: &mut [u8],
     parts: &mut [u8],
 ) -> State
-    requires { ⌜ (length (now frames) ≡ 398560) × (length (now parts) ≡ 712272) ⌝ }
+    requires { ⌜ (length (now frames) ≡ 398560) × (length (now parts) ≡ 711856) ⌝ }
     requires { ⌜ n ≤ 8 ⌝ }
 {
     let before = s.count;
@@ -132,7 +132,7 @@ fn next_super(
 
 // Reads and gathers until the input ends. A loop that is proved has to end: the super frames' numbers do.
 fn unbond_with(start: State, n: usize, bond: Bond, frames: &mut [u8], parts: &mut [u8]) -> State
-    requires { ⌜ (length (now frames) ≡ 398560) × (length (now parts) ≡ 712272) ⌝ }
+    requires { ⌜ (length (now frames) ≡ 398560) × (length (now parts) ≡ 711856) ⌝ }
     requires { ⌜ n ≤ 8 ⌝ }
 {
     let mut s = start;
@@ -155,7 +155,7 @@ fn start_and_unbond(
     frames: &mut [u8],
     parts: &mut [u8],
 ) -> State
-    requires { ⌜ (length (now frames) ≡ 398560) × (length (now parts) ≡ 712272) ⌝ }
+    requires { ⌜ (length (now frames) ≡ 398560) × (length (now parts) ≡ 711856) ⌝ }
     requires { ⌜ n ≤ 8 ⌝ }
 {
     start_receivers(parts, bond.pid);

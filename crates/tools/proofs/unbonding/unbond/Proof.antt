@@ -10,10 +10,10 @@ slice-aggregate-start-and-unbond : tie.Need-slice-aggregate-start-and-unbond
 slice-aggregate-start-and-unbond c = sym (length-replicate {A = ℕ} 398560 0)
 
 slice-aggregate-start-and-unbond-2 : tie.Need-slice-aggregate-start-and-unbond-2
-slice-aggregate-start-and-unbond-2 c = sym (length-replicate {A = ℕ} 712272 0)
+slice-aggregate-start-and-unbond-2 c = sym (length-replicate {A = ℕ} 711856 0)
 
 start-and-unbond-requires : tie.Need-start-and-unbond-requires
-start-and-unbond-requires c κs = ((length-replicate {A = ℕ} 398560 0, length-replicate {A = ℕ} 712272 0), search needs)
+start-and-unbond-requires c κs = ((length-replicate {A = ℕ} 398560 0, length-replicate {A = ℕ} 711856 0), search needs)
 
 returns : tie.Need-returns
 returns c = tt
