@@ -82,7 +82,7 @@ accepted-kind state p store e = by-kind (isKind (getD state 2 0)) refl
 
 module _ (state p store : List ℕ) where
   -- what is asked of the answer, of the event, and of what the state and the store are then
-  abbrev Receives : ℕ → ℕ → List ℕ → List ℕ → Type 0
+  abbrev pub Receives : ℕ → ℕ → List ℕ → List ℕ → Type 0
   Receives n event after memory =
       (n ≡ receiveRefused state p store)
       × ((event ≡ receiveEvent state p store) × ((after ≡ receiveState state p store) × (memory ≡ receiveMemory state p store)))

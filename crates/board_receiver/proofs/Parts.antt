@@ -6,7 +6,7 @@ use mathlib.Core.List.{List, [], _∷_, _++_, append-nil}
 use native.Mathlib.Omega.{arith}
 use borrow.Author.Tests.{eq-eqb, ltb-true}
 use lib.Dec.{eqb}
-use lib.ListN.{length, length-append, getD, replicate, take, drop, length-drop, drop-of-length-le, take-append-drop}
+use lib.ListN.{length, length-append, getD, set, replicate, take, drop, length-drop, drop-of-length-le, take-append-drop}
 use lib.Seq.{length-take-le, take-all, drop-at, drop-drop}
 use Rattle.bits.specs.Fields.{Fit, more, bitsOf, number, run, cut}
 use Rattle.bits.proofs.Laws.{fit-take, fit-drop}
@@ -20,6 +20,7 @@ use Rattle.counters.specs.Counters.{lastSlot}
 use Rattle.slot_numbers.specs.Packed.{packedLength, packed}
 use Rattle.receiver_table.specs.declared.Stage.{Stage}
 use Rattle.receiver_in_place.specs.declared.Receiver.{Receiver}
+use Rattle.receiver_in_place.specs.Receiving.{moved}
 use Rattle.receiver_in_place.specs.InPlace.{numbersLength, receiverWith, numbersOf}
 use Rattle.receiver_in_place.proofs.Lent.{numbers-with}
 use Rattle.receiver_bytes.specs.Stages.{receiverLength, stageBytes, noStage, stageIn}
@@ -132,3 +133,22 @@ module _ (b : List ℕ) (l : length b ≡ receiverLength) where
   said-numbers e =
       let bytes : someAtLeast (2 ^ 8) lent ≡ false = some-fit 8 lent (fit-take numbersLength (fit-drop 6 (fit-some 8 b e))) in
       ap numbersOf (sym said-whole) ∙ numbers-with lent lent-length bytes (receiverOf b .pid) (receiverOf b .kind) (receiverOf b .stage) ∙ lent-all
+
+-- ---- counted
+
+-- the place of the stored packets' number, behind the stage's other two
+counted : (b : List ℕ) (n : ℕ) → 6 ≤ length b → getD b 3 0 ≡ 1 → set b 5 n ≡ take 3 b ++ (1 ∷ getD b 4 0 ∷ n ∷ drop 6 b)
+counted [] n h e = absurd (omega arith)
+counted (x₀ ∷ []) n h e = absurd (omega arith)
+counted (x₀ ∷ x₁ ∷ []) n h e = absurd (omega arith)
+counted (x₀ ∷ x₁ ∷ x₂ ∷ []) n h e = absurd (omega arith)
+counted (x₀ ∷ x₁ ∷ x₂ ∷ x₃ ∷ []) n h e = absurd (omega arith)
+counted (x₀ ∷ x₁ ∷ x₂ ∷ x₃ ∷ x₄ ∷ []) n h e = absurd (omega arith)
+counted (x₀ ∷ x₁ ∷ x₂ ∷ x₃ ∷ x₄ ∷ x₅ ∷ b) n h e = ap (λ (t : ℕ). x₀ ∷ x₁ ∷ x₂ ∷ t ∷ x₄ ∷ n ∷ b) e
+
+pub counted-bytes : (b : List ℕ) → length b ≡ receiverLength → someAtLeast (2 ^ 8) b ≡ false → isKind (getD b 2 0) ≡ true → getD b 3 0 ≡ 1
+    → (n : ℕ) → set b 5 n ≡ receiverBytes (moved (receiverOf b) (Stage.Open (getD b 4 0) n))
+unfolding receiverBytes receiverOf moved numbersOf stageBytes
+counted-bytes b l w k e n =
+    counted b n (omega (arith, l)) e
+    ∙ ap₂ (λ (x y : List ℕ). x ++ (1 ∷ getD b 4 0 ∷ n ∷ y)) (sym (front-same b (omega (arith, l)) (fit-some 8 b w) k)) (sym (said-numbers b l w))

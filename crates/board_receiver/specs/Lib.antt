@@ -2,3 +2,4 @@
 pub mod States
 pub mod Calls
 pub mod Demands
+pub mod Storing
