@@ -1,5 +1,5 @@
 -- `marks_of` meets its contract: the shares of the slots before slot i + 1 are left. Assumes nothing.
-use Prim.Native.Nat.{ℕ, suc, _-_, _*_, _≤_, _<_}
+use Prim.Native.Nat.{ℕ, suc, _-_, _*_, _≤_}
 use mathlib.Core.Path.{_≡_, sym, ap, _∙_}
 use mathlib.Core.Bool.{Bool, and-false}
 use mathlib.Core.List.{List, map}
