@@ -5,7 +5,7 @@ use mathlib.Core.List.{List, [], _∷_, _++_, append-assoc, append-nil}
 use native.Mathlib.Omega.{arith}
 use native.Mathlib.Numerals.{add-one}
 use lib.ListN.{length, take, drop, set, getD, length-append, length-drop, drop-of-length-le, take-append-drop}
-use lib.Seq.{sets, sets-eq, drop-cons, set-at, append-snoc, take-at, drop-at, getD-at, drop-drop, take-length, length-take-le}
+use lib.Seq.{sets, sets-eq, drop-cons, set-at, append-snoc, take-at, drop-at, drop-drop, take-length, length-take-le}
 use Rattle.slices.specs.Slices.{copied, over}
 
 -- d is d₀ with the i elements of `done` over its front
@@ -47,12 +47,6 @@ module _ {A : Type 0} where
       let e : length d ≡ length done + (length d₀ - i) = ap length (f .is) ∙ length-append done (drop i d₀) ∙ ap (λ (k : ℕ). length done + k) (length-drop i d₀) in
       let l : length done ≡ i = f .long in
       omega arith
-
-  -- the next element is the one that was there
-  pub front-next : (d₀ done d : List A) (i : ℕ) (v : A) → Front d₀ done d i → i < length d₀ → getD d i v ≡ getD d₀ i v
-  front-next d₀ done d i v f h =
-      ap (λ (l : List A). getD l i v) (f .is ∙ ap (λ (l : List A). done ++ l) (drop-cons d₀ i v h))
-      ∙ getD-at done (getD d₀ i v) (drop (suc i) d₀) v i (f .long)
 
   pub front-all : (d₀ done d : List A) (i : ℕ) → Front d₀ done d i → length d₀ ≤ i → d ≡ done
   front-all d₀ done d i f h = f .is ∙ ap (λ (l : List A). done ++ l) (drop-of-length-le d₀ h) ∙ append-nil done

@@ -6,7 +6,7 @@ use mathlib.Core.List.{List, [], _∷_, _++_, append-assoc}
 use native.Mathlib.Omega.{arith}
 use lib.ListN.{length, getD, take, drop, set}
 use lib.Seq.{drop-cons}
-use Rattle.slices.proofs.Front.{Front, put, front-none, front-more, front-kept, front-part, front-length, front-next}
+use Rattle.slices.proofs.Front.{Front, put, front-none, front-more, front-kept, front-part, front-length}
 
 -- d is d₀ with i elements of `whole` over its front, behind which `whole` has `next`
 pub record Toward {A : Type 0} (whole d₀ d next : List A) (i : ℕ) : Type 0 where
@@ -54,10 +54,6 @@ module _ {A : Type 0} where
 
     pub toward-length : i ≤ length d₀ → length d ≡ length d₀
     toward-length h = front-length d₀ (t .done) d i (t .front) h
-
-    -- the next element is the one that was there
-    pub toward-next : (v : A) → i < length d₀ → getD d i v ≡ getD d₀ i v
-    toward-next v h = front-next d₀ (t .done) d i v (t .front) h
 
     -- what is to follow is there already
     pub toward-all : drop i d₀ ≡ next → d ≡ whole
