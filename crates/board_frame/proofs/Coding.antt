@@ -20,7 +20,8 @@ use Rattle.words.specs.Words.{wordBytes, wordAt}
 use Rattle.words.specs.Kinds.{isKind, kindNumber}
 use Rattle.coding.specs.Settings.{part, announcedBytes, settingLength, settingBytes, settingOf}
 use Rattle.coding.proofs.Parts.{length-announced}
-use Rattle.coding.proofs.Back.{part-behind, part-first, byte-behind, long, announced-back, length-setting, setting-back, kind-back}
+use Rattle.coding.proofs.Back.{part-behind, part-first, byte-behind, long, announced-back, length-setting, setting-back}
+use Rattle.words.proofs.KindsBack.{kind-back, kind-is}
 use Rattle.composer_bytes.specs.States.{composerLength, markByte, composerBytes, isCoded, noCounter, composerOf}
 use Rattle.board_frame.specs.Calls.{beginRefused, putRefused, closeRefused}
 use Rattle.board_frame.specs.Demands.{StateBack, Uncoded, UncodedRefused}
@@ -50,11 +51,6 @@ marks-low (m ∷ ms) (suc i) = marks-low ms i
 no-other : (ms : List Bool) → someAtLeast 2 (map markByte ms) ≡ false
 unfolding someAtLeast
 no-other ms = any-no (λ i. leb 2 (getD (map markByte ms) i 0)) (length (map markByte ms)) (λ i l. lt-leb 2 (getD (map markByte ms) i 0) (marks-low ms i))
-
-kind-low : (kind : Kind) → isKind (kindNumber kind) ≡ true
-unfolding kindNumber
-kind-low Kind.Plain = refl
-kind-low Kind.Extended = refl
 
 -- ---- a state's bytes
 
@@ -118,7 +114,7 @@ module _ (c : Composer) (n : Long-state c) where
 
   coded : isCoded (composerBytes c) ≡ true
   unfolding isCoded
-  coded = rw (kind-byte, kind-low (c .kind), open-byte, lt-ltb (markByte (c .«is_open»)) 2 (mark-low (c .«is_open»)), marks-part, no-other (c .filled)) refl
+  coded = rw (kind-byte, kind-is (c .kind), open-byte, lt-ltb (markByte (c .«is_open»)) 2 (mark-low (c .«is_open»)), marks-part, no-other (c .filled)) refl
 
   back : settingOf s ≡ c .setting → composerOf (composerBytes c) ≡ c
   unfolding composerOf

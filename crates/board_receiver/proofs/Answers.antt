@@ -13,6 +13,7 @@ use Rattle.refusal_table.specs.Refusal.{firstOf, none}
 use Rattle.rules.specs.Rules.{pidAllowed}
 use Rattle.refusal_table.proofs.Refusals.{answers, passed, first-none, kept, written}
 use Rattle.words.specs.Kinds.{isKind, kindOf}
+use Rattle.words.proofs.KindsBack.{kind-same}
 use Rattle.receiver_table.specs.declared.Stage.{Stage}
 use Rattle.receiver_in_place.specs.declared.Received.{Received}
 use Rattle.receiver_in_place.specs.declared.HandedOut.{HandedOut}
@@ -23,7 +24,7 @@ use Rattle.receiver_in_place.proofs.Lent.{lent-step, lent-numbers, lent-store, 
 use Rattle.words.specs.Words.{wordBytes}
 use Rattle.receiver_bytes.specs.Stages.{receiverLength, stageBytes}
 use Rattle.board_receiver.specs.States.{receiverBytes, receiverOf, eventNumber}
-use Rattle.board_receiver.proofs.Parts.{kind-same, zeros-packed, renewed-bytes, put-back, lent, lent-length, said-whole, said-numbers}
+use Rattle.board_receiver.proofs.Parts.{zeros-packed, renewed-bytes, put-back, lent, lent-length, said-whole, said-numbers}
 use Rattle.board_receiver.proofs.Uncoded.{no-kind}
 use Rattle.board_receiver.specs.Calls.{startRefused, startState, receiveRefused, receiveEvent, receiveState, receiveMemory, handOutRefused, handOutPackets, handOutMemory}
 
@@ -66,7 +67,7 @@ module _ (state : List ℕ) (pid kind : ℕ) where
       starts h {zeros} n e =
           let granted = sym (by-kind ∙ passed 17 [] (ap not (lt-ltb kind 2 (omega arith))) ∙ first-none none) in
           let none-yet : zeros ≡ replicate receiverLength 0 = n ∙ ap (λ (m : ℕ). replicate m 0) l in
-          let bytes : receiverBytes (waiting (kindOf kind) pid) ≡ pid / 256 ∷ pid % 256 ∷ kind ∷ replicate 55 0 = rw (zeros-packed, kind-same kind (lt-ltb kind 2 (omega arith))) refl in
+          let bytes : receiverBytes (waiting (kindOf kind) pid) ≡ pid / 256 ∷ pid % 256 ∷ kind ∷ replicate 55 0 = rw (zeros-packed, kind-same kind (omega arith)) refl in
           (granted, e ∙ rw none-yet (sym bytes) ∙ ap receiverBytes (sym fresh) ∙ written granted _ state refl)
 
 -- ---- receive

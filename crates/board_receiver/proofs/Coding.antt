@@ -8,18 +8,13 @@ use native.Mathlib.Omega.{arith}
 use lib.Seq.{take-at, drop-at, take-all}
 use Rattle.setting.specs.declared.Kind.{Kind}
 use Rattle.words.specs.Words.{wordBytes, wordAt}
-use Rattle.words.specs.Kinds.{isKind, kindOf, kindNumber}
+use Rattle.words.proofs.KindsBack.{kind-back, kind-is}
 use Rattle.slot_numbers.specs.Packed.{packedLength, packed}
 use Rattle.slot_numbers.proofs.Packing.{length-packed, unpacked-packed}
 use Rattle.receiver_table.specs.declared.Stage.{Stage}
 use Rattle.receiver_bytes.specs.Stages.{stageBytes, stageOf}
 use Rattle.board_receiver.specs.States.{receiverBytes, receiverOf}
 use Rattle.board_receiver.specs.Demands.{StateBack}
-
-kind-back : (kind : Kind) → (kindOf (kindNumber kind) ≡ kind) × (isKind (kindNumber kind) ≡ true)
-unfolding kindOf kindNumber
-kind-back Kind.Plain = (refl, refl)
-kind-back Kind.Extended = (refl, refl)
 
 -- a stage's three bytes, and the stage back from them
 record Coded (stage : Stage) : Type 0 where
@@ -43,8 +38,8 @@ receiver-back c h =
     rw (
       s .bytes,
       pid,
-      kind-back (c .kind) .0,
-      kind-back (c .kind) .1,
+      kind-back (c .kind),
+      kind-is (c .kind),
       s .back,
       take-at (packed (c .numbers)) (packed (c .before)) packedLength (length-packed (c .numbers)),
       drop-at (packed (c .numbers)) (packed (c .before)) packedLength (length-packed (c .numbers)),

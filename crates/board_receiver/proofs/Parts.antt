@@ -1,5 +1,5 @@
 -- A receiver's bytes, as they are written and read part by part. Assumes nothing.
-use Prim.Native.Nat.{ℕ, zero, suc, _+_, _*_, _/_, _%_, _^_, _≤_}
+use Prim.Native.Nat.{ℕ, _+_, _*_, _/_, _%_, _^_, _≤_}
 use mathlib.Core.Path.{_≡_, refl, sym, ap, ap₂, _∙_}
 use mathlib.Core.Bool.{true, false, cond}
 use mathlib.Core.List.{List, [], _∷_, _++_, append-nil}
@@ -16,6 +16,7 @@ use Rattle.setting.specs.declared.Kind.{Kind}
 use Rattle.rules.proofs.Fields.{some-fit, fit-some}
 use Rattle.words.specs.Words.{wordBytes, wordAt}
 use Rattle.words.specs.Kinds.{isKind, kindOf, kindNumber}
+use Rattle.words.proofs.KindsBack.{kind-same}
 use Rattle.counters.specs.Counters.{lastSlot}
 use Rattle.slot_numbers.specs.Packed.{packedLength, packed}
 use Rattle.receiver_table.specs.declared.Stage.{Stage}
@@ -34,14 +35,6 @@ stage-length Stage.Waiting = refl
 stage-length (Stage.Open from k) = refl
 stage-length (Stage.Ready from) = refl
 
-pub kind-same : (n : ℕ) → isKind n ≡ true → kindNumber (kindOf n) ≡ n
-unfolding kindNumber kindOf
-kind-same zero e = refl
-kind-same (suc zero) e = refl
-kind-same (suc (suc n)) e =
-    let less = ltb-true (suc (suc n)) 2 e in
-    absurd (omega arith)
-
 -- no number yet
 pub zeros-packed : packed (replicate lastSlot 0) ≡ replicate packedLength 0
 unfolding packed run bitsOf cut number
@@ -56,7 +49,7 @@ front-same (x ∷ y ∷ []) h f k = absurd (omega arith)
 front-same (x ∷ y ∷ z ∷ b) h (more f (more g t)) k =
     let high : (x * 256 + y) / 256 ≡ x = omega arith in
     let low : (x * 256 + y) % 256 ≡ y = omega arith in
-    rw (high, low, kind-same z k) refl
+    rw (high, low, kind-same z (ltb-true z 2 k)) refl
 
 three-first : (b ys : List ℕ) → 3 ≤ length b → take 3 (take 6 b ++ ys) ≡ take 3 b
 three-first [] ys h = absurd (omega arith)

@@ -12,7 +12,6 @@ use Rattle.setting.specs.Setting.{OfItsTypes}
 use Rattle.announced.specs.declared.Announced.{Announced}
 use Rattle.announced.specs.Announcing.{announced}
 use Rattle.words.specs.Words.{wordBytes}
-use Rattle.words.specs.Kinds.{kindOf, kindNumber}
 use Rattle.coding.specs.Settings.{part, announcedLength, announcedBytes, announcedOf, settingLength, settingBytes, settingOf}
 use Rattle.coding.specs.Demands.{SettingBack}
 use Rattle.words.proofs.Numbers.{length-bytes, words-back}
@@ -124,9 +123,3 @@ module _ (s : Setting) (l : Long s) where
 
 pub setting-back : SettingBack
 setting-back s t = back s (long s t)
-
--- kinds
-pub kind-back : (kind : Kind) → kindOf (kindNumber kind) ≡ kind
-unfolding kindOf kindNumber
-kind-back Kind.Plain = refl
-kind-back Kind.Extended = refl

@@ -18,6 +18,7 @@ use Rattle.words.specs.Words.{wordBytes}
 use Rattle.words.specs.Kinds.{isKind, kindOf, kindNumber}
 use Rattle.coding.specs.Settings.{part, announcedBytes, settingLength, settingBytes, settingOf}
 use Rattle.rules.proofs.Fields.{fit-some}
+use Rattle.words.proofs.KindsBack.{kind-same}
 use Rattle.coding.proofs.Parts.{length-part}
 use Rattle.coding.proofs.Same.{part-joined, part-joined-before, part-inside, part-first-byte, fit-part}
 use Rattle.coding.proofs.Same.{word-same, announced-same, announced-part-same, setting-same}
@@ -25,14 +26,7 @@ use Rattle.composer_state.specs.Composing.{fresh, opened, marked, closedWith}
 use Rattle.composer_bytes.specs.States.{composerLength, markByte, composerBytes, isCoded, noCounter, composerOf}
 use Rattle.composer_bytes.proofs.Parts.{frontBytes}
 
--- a byte that is a kind says itself
-pub kind-same : (n : ℕ) → n < 2 → kindNumber (kindOf n) ≡ n
-unfolding kindNumber kindOf
-kind-same zero h = refl
-kind-same (suc zero) h = refl
-kind-same (suc (suc n)) h = absurd (omega arith)
-
--- and so does one that is a mark
+-- a byte that is a mark says itself
 mark-same : (n : ℕ) → n < 2 → markByte (eqb n 1) ≡ n
 unfolding markByte
 mark-same zero h = refl

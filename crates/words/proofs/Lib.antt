@@ -1,1 +1,2 @@
+pub mod KindsBack
 pub mod Numbers

@@ -1,25 +1,18 @@
 -- `start` meets its contract, by whether the PID is allowed. Assumes nothing.
-use Prim.Native.Nat.{ℕ, _<_}
 use mathlib.Core.Path.{_≡_, refl, sym, ap, _∙_}
 use mathlib.Core.Bool.{not}
-use native.Mathlib.Omega.{arith}
 use borrow.Author.Needs.{needs}
 use borrow.Author.Tests.{not-true, not-false}
 use Rattle.setting.specs.declared.Kind.{Kind}
 use Rattle.refusal_table.specs.Refusal.{firstOf}
-use Rattle.words.specs.Kinds.{kindNumber, kindOf}
+use Rattle.words.specs.Kinds.{kindOf}
 use Rattle.composer_state.specs.Composing.{fresh, answer, startOf}
 use Rattle.composer_bytes.specs.States.{composerBytes}
-use Rattle.coding.proofs.Back.{kind-back}
+use Rattle.words.proofs.KindsBack.{kind-back, kind-low}
 use Rattle.composer_start.proofs.start.Statement.{statement}
 use Rattle.composer_start.proofs.start.Tie as tie
 
 -- a kind's number is 0 or 1
-kind-low : (kind : Kind) → kindNumber kind < 2
-unfolding kindNumber
-kind-low Kind.Plain = omega arith
-kind-low Kind.Extended = omega arith
-
 pid-allowed-requires : tie.Need-pid-allowed-requires
 pid-allowed-requires c κs = search needs
 

@@ -7,7 +7,8 @@ use lib.ListN.{replicate}
 use Rattle.words.specs.Kinds.{kindOf}
 use Rattle.words.specs.Words.{wordBytes}
 use Rattle.composer_bytes.specs.States.{composerLength}
-use Rattle.composer_bytes.proofs.Same.{fresh-bytes, kind-same}
+use Rattle.words.proofs.KindsBack.{kind-same}
+use Rattle.composer_bytes.proofs.Same.{fresh-bytes}
 use Rattle.composer_start.proofs.write_fresh.Statement.{statement}
 use Rattle.composer_start.proofs.write_fresh.Tie as tie
 
