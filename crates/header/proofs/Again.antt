@@ -11,10 +11,9 @@ use Rattle.bits.proofs.Laws.{fit-run, fit-drop, length-run, bitsOf-number, numb
 use Rattle.crc.proofs.Laws.{own-bits-only}
 use Rattle.setting.specs.declared.Kind.{Kind}
 use Rattle.counters.specs.Counters.{lastStream}
-use Rattle.layout.specs.Layout.{layout, reservedRows}
-use Rattle.layout.specs.Header.{headerLength, one, paired, firsts, seconds, content, body, header, row, value, reading}
-use Rattle.slices.specs.Slices.{Among, here, there}
-use Rattle.header.specs.Demands.{allOnes, SameButReserved, ReservedOnes, WrittenAgain}
+use Rattle.layout.specs.Layout.{Field, layout}
+use Rattle.layout.specs.Header.{headerLength, one, paired, firsts, seconds, allOnes, content, packed, body, header, row, reading}
+use Rattle.header.specs.Demands.{fieldAt, SameButReserved, ReservedOnes, WrittenAgain}
 use Rattle.layout.proofs.Rows.{rowOf, Fills, Suits, Each, next, done, each-at, pack-rows}
 use Rattle.layout.proofs.LaidOut.{laid-out, bodyBits, size-layout, length-content}
 use Rattle.header_writer.proofs.Calls.{not-refused}
@@ -39,43 +38,43 @@ halves (x ∷ y ∷ xs) n e = ap (λ (l : List ℕ). x ∷ y ∷ l) (halves xs (
 -- what is written again in row k is what was read there, or the row is reserved and written as ones
 data Stands (kind : Kind) (pid : ℕ) (p : List ℕ) (k : ℕ) : Type 0 where
   kept : getD (content kind pid (reading kind p)) k [] ≡ row kind p k → Stands kind pid p k
-  reserved : Among k (reservedRows kind) → getD (content kind pid (reading kind p)) k [] ≡ allOnes (rowOf (layout kind) k) → Stands kind pid p k
+  reserved : fieldAt kind k ≡ Field.reserved → getD (content kind pid (reading kind p)) k [] ≡ allOnes (rowOf (layout kind) k) → Stands kind pid p k
 
 module _ (kind : Kind) (pid : ℕ) (p : List ℕ) (a : Shown kind pid p) where
   -- a row of one value is that value
-  sole : (k : ℕ) → k < length (layout kind) → rowOf (layout kind) k .1 ≡ 1 → one (value kind p k) ≡ row kind p k
+  sole : (k : ℕ) → k < length (layout kind) → rowOf (layout kind) k .1 ≡ 1 → one (getD (row kind p k) 0 0) ≡ row kind p k
   sole k h e = single (row kind p k) (row-filled kind pid p a k h .0 ∙ e)
 
   common : Each (Stands kind pid p) (length (layout kind)) 17 → Each (Stands kind pid p) (length (layout kind)) 0
-  unfolding laid-out reading reservedRows
+  unfolding laid-out reading
   common behind =
       next (kept (ap one (sym (a .sync)) ∙ sole 0 (omega arith) refl))
       (next (kept (ap one (sym (a .zeros)) ∙ sole 1 (omega arith) refl))
       (next (kept (ap one (sym (a .pid-row)) ∙ sole 2 (omega arith) refl))
       (next (kept (ap one (sym (a .payload)) ∙ sole 3 (omega arith) refl))
       (next (kept (sole 4 (omega arith) refl))
-      (next (reserved here refl)
+      (next (reserved refl refl)
       (next (kept (ap one (sym (a .tsmf)) ∙ sole 6 (omega arith) refl))
       (next (kept (sole 7 (omega arith) refl))
       (next (kept (sole 8 (omega arith) refl))
       (next (kept (sole 9 (omega arith) refl))
       (next (kept (sole 10 (omega arith) refl))
-      (next (reserved (there here) refl)
+      (next (reserved refl refl)
       (next (kept (halves (row kind p 12) lastStream (row-filled kind pid p a 12 (omega arith) .0)))
       (next (kept refl)
       (next (kept (sole 14 (omega arith) refl))
-      (next (reserved (there (there here)) refl)
+      (next (reserved refl refl)
       (next (kept refl) behind))))))))))))))))
 
 private-rows : (kind : Kind) (pid : ℕ) (p : List ℕ) → Shown kind pid p → Each (Stands kind pid p) (length (layout kind)) 17
-unfolding laid-out reading reservedRows
+unfolding laid-out reading
 private-rows Kind.Plain pid p a = next (kept refl) done
 private-rows Kind.Extended pid p a =
     next (kept refl) (next (kept (only 18 (lit< tt) refl)) (next (kept (only 19 (lit< tt) refl)) (next (kept (only 20 (lit< tt) refl))
-    (next (kept (only 21 (lit< tt) refl)) (next (kept (only 22 (lit< tt) refl)) (next (reserved (there (there (there here))) refl) done))))))
+    (next (kept (only 21 (lit< tt) refl)) (next (kept (only 22 (lit< tt) refl)) (next (reserved refl refl) done))))))
   where
     only : (k : ℕ) → k < length (layout Kind.Extended) → rowOf (layout Kind.Extended) k .1 ≡ 1
-        → one (value Kind.Extended p k) ≡ row Kind.Extended p k
+        → one (getD (row Kind.Extended p k) 0 0) ≡ row Kind.Extended p k
     only = sole Kind.Extended pid p a
 
 stands : (kind : Kind) (pid : ℕ) (p : List ℕ) → Shown kind pid p → (k : ℕ) → k < length (layout kind) → Stands kind pid p k
@@ -94,7 +93,7 @@ module _ (kind : Kind) (pid : ℕ) (p : List ℕ) (a : Shown kind pid p) where
           subst (Fills (rowOf (layout kind) k)) (sym e) (fills-replicate w (rowOf (layout kind) k .1) (2 ^ w - 1) (ones-lt w))
 
   -- a row is as it was, where it was ones if it is reserved
-  as-read : (k : ℕ) → k < length (layout kind) → (Among k (reservedRows kind) → row kind p k ≡ allOnes (rowOf (layout kind) k))
+  as-read : (k : ℕ) → k < length (layout kind) → (fieldAt kind k ≡ Field.reserved → row kind p k ≡ allOnes (rowOf (layout kind) k))
       → getD (content kind pid (reading kind p)) k [] ≡ row kind p k
   as-read k h ones = settled (stands kind pid p a k h)
     where
@@ -106,10 +105,10 @@ module _ (kind : Kind) (pid : ℕ) (p : List ℕ) (a : Shown kind pid p) where
   same-rows k h free = row-header kind pid (reading kind p) filled k h ∙ as-read k h (λ r. absurd (free r))
 
   same-body : ReservedOnes kind p → body kind pid (reading kind p) ≡ take bodyBits (run 8 p)
-  unfolding body
+  unfolding body packed
   same-body ones =
       pack-rows (layout kind) (content kind pid (reading kind p)) (run 8 p) (fit-run 8 p) (long kind pid p a) (length-content kind pid (reading kind p))
-      (λ k h. as-read k h (ones k))
+      (λ k h. as-read k h (ones k h))
       ∙ ap (λ (n : ℕ). take n (run 8 p)) (size-layout kind)
 
   -- the 32 bits behind the body bring the register to zero, so they are the CRC

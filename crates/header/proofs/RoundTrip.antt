@@ -22,7 +22,7 @@ use Rattle.refusal_table.proofs.Refusals.{first-none, none-at, none-append, non
 use Rattle.header_reader.specs.declared.Reading.{Reading}
 use Rattle.layout.specs.Rows.{place, rowAt}
 use Rattle.layout.specs.Layout.{layout}
-use Rattle.layout.specs.Header.{paired, firsts, seconds, content, headerLength, header, row, value, reading, packetChecks}
+use Rattle.layout.specs.Header.{paired, firsts, seconds, content, headerLength, header, row, reading, packetChecks}
 use Rattle.header_writer.specs.Writing.{written}
 use Rattle.header_checks.specs.Checking.{readRefusal}
 use Rattle.header_reader.specs.Reader.{readOf}
@@ -73,7 +73,7 @@ module _ (kind : Kind) (pid : ℕ) (s : Setting) (t : OfItsTypes s) (m : MeetsRu
   row-back : (k : ℕ) → k < length (layout kind) → row kind (header kind pid s) k ≡ getD (content kind pid s) k []
   row-back = row-header kind pid s (suits kind pid s t m)
 
-  value-back : (k : ℕ) → k < length (layout kind) → value kind (header kind pid s) k ≡ getD (getD (content kind pid s) k []) 0 0
+  value-back : (k : ℕ) → k < length (layout kind) → getD (row kind (header kind pid s) k) 0 0 ≡ getD (getD (content kind pid s) k []) 0 0
   value-back k h = ap (λ (l : List ℕ). getD l 0 0) (row-back k h)
 
   reading-back : SamePrivate (reading kind (header kind pid s)) s → reading kind (header kind pid s) ≡ s
@@ -140,8 +140,8 @@ module _ (kind : Kind) (pid : ℕ) (s : Setting) (t : OfItsTypes s) (m : MeetsRu
       (more (ap not (shown 6 (omega arith)))
       (more (ap not (eq-eqb (registerOf (drop 4 (header kind pid s))) 0 (register-header kind pid s (suits kind pid s t m)))) none))))
     where
-      shown : (k : ℕ) → k < length (layout kind) → eqb (value kind (header kind pid s) k) (getD (getD (content kind pid s) k []) 0 0) ≡ true
-      shown k h = eq-eqb (value kind (header kind pid s) k) (getD (getD (content kind pid s) k []) 0 0) (value-back kind pid s t m k h)
+      shown : (k : ℕ) → k < length (layout kind) → eqb (getD (row kind (header kind pid s) k) 0 0) (getD (getD (content kind pid s) k []) 0 0) ≡ true
+      shown k h = eq-eqb (getD (row kind (header kind pid s) k) 0 0) (getD (getD (content kind pid s) k []) 0 0) (value-back kind pid s t m k h)
 
   read-back : readRefusal kind pid (header kind pid s) ≡ 0
   unfolding readRefusal

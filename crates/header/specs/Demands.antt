@@ -1,16 +1,14 @@
 -- What demand 2 says of headers, as statements over what the calls answer and leave. The proofs stand apart.
-use Prim.Native.Nat.{ℕ, _-_, _<_, _^_}
+use Prim.Native.Nat.{ℕ, _<_}
 use mathlib.Core.Path.{_≡_}
 use mathlib.Core.List.{List}
-use lib.ListN.{length, getD, replicate}
+use lib.ListN.{length, getD}
 use Rattle.bits.specs.Fields.{Fit}
-use Rattle.slices.specs.Slices.{Among}
 use Rattle.setting.specs.declared.Kind.{Kind}
 use Rattle.setting.specs.declared.Setting.{Setting}
 use Rattle.setting.specs.Setting.{OfItsTypes}
-use Rattle.layout.specs.Rows.{Row}
-use Rattle.layout.specs.Layout.{layout, reservedRows}
-use Rattle.layout.specs.Header.{headerLength, header, row, reading}
+use Rattle.layout.specs.Layout.{Field, table, layout}
+use Rattle.layout.specs.Header.{headerLength, allOnes, header, row, reading}
 use Rattle.layout.specs.Meets.{MeetsRules}
 use Rattle.header_writer.specs.Writing.{writeRefusal, written}
 use Rattle.header_checks.specs.Checking.{readRefusal}
@@ -24,18 +22,19 @@ WrittenAndReadBack =
     → (writeRefusal kind pid s (length buffer) ≡ 0)
     × (readOf kind pid (written kind pid s buffer) ≡ record { refusal = 0; setting = s })
 
+-- what row k holds
+abbrev pub fieldAt : Kind → ℕ → Field
+fieldAt kind k = getD (table kind) k (Field.reserved, (0, 0)) .0
+
 -- two headers say the same in every row that is not reserved
 abbrev pub SameButReserved : Kind → List ℕ → List ℕ → Type 0
 SameButReserved kind p q =
-    (k : ℕ) → k < length (layout kind) → (Among k (reservedRows kind) → ⊥) → row kind p k ≡ row kind q k
-
--- the values of a row whose bits are all ones
-abbrev pub allOnes : Row → List ℕ
-allOnes r = replicate (r .1) (2 ^ r .0 - 1)
+    (k : ℕ) → k < length (layout kind) → (fieldAt kind k ≡ Field.reserved → ⊥) → row kind p k ≡ row kind q k
 
 -- the reserved bits of a header are ones
 abbrev pub ReservedOnes : Kind → List ℕ → Type 0
-ReservedOnes kind p = (k : ℕ) → Among k (reservedRows kind) → row kind p k ≡ allOnes (getD (layout kind) k (0, 0))
+ReservedOnes kind p =
+    (k : ℕ) → k < length (layout kind) → fieldAt kind k ≡ Field.reserved → row kind p k ≡ allOnes (getD (layout kind) k (0, 0))
 
 -- 'A header that the reader accepts, written again, gives the same bytes but for reserved bits': it is written, it says the same
 -- in every row that is not reserved, and where the reserved bits were ones it is the same header, its CRC too

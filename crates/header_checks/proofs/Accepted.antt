@@ -5,7 +5,7 @@ use mathlib.Core.Bool.{true, false}
 use mathlib.Core.List.{List, _++_}
 use native.Mathlib.Omega.{arith}
 use lib.Dec.{lit<, leb, eqb}
-use lib.ListN.{length, drop, replicate}
+use lib.ListN.{length, getD, drop, replicate}
 use borrow.Author.Tests.{lt-leb, eqb-true, not-false}
 use Rattle.bits.specs.Fields.{run}
 use Rattle.bits.proofs.Laws.{fit-run, fit-getD, length-run}
@@ -19,7 +19,7 @@ use Rattle.rules.specs.Rules.{pidAllowed, absentChecks, absentOf, widthChecks, 
 use Rattle.rules.proofs.Fields.{some-fit}
 use Rattle.refusal_table.proofs.Refusals.{numbered, none-first, none-at, none-append, none-behind}
 use Rattle.layout.specs.Rows.{place, rowAt}
-use Rattle.layout.specs.Layout.{syncByte, tsmfSync, layout}
+use Rattle.layout.specs.Layout.{syncByte, tsmfSync, Field, layout}
 use Rattle.layout.specs.Header.{headerLength, row, value, reading, callChecks, packetChecks}
 use Rattle.header_checks.specs.Checking.{readRefusal}
 use Rattle.layout.specs.Meets.{MeetsRules}
@@ -36,18 +36,18 @@ numbered-bonding Kind.Extended s = refl
 pub record Shown (kind : Kind) (pid : ℕ) (p : List ℕ) : Type 0 where
   pub whole : length p ≡ headerLength
   pub allowed : pidAllowed pid ≡ true
-  pub sync : value kind p 0 ≡ syncByte
-  pub zeros : value kind p 1 ≡ 0
-  pub pid-row : value kind p 2 ≡ pid
-  pub payload : value kind p 3 ≡ 1
-  pub tsmf : value kind p 6 ≡ tsmfSync
+  pub sync : value kind p Field.sync-byte ≡ syncByte
+  pub zeros : value kind p Field.zeros ≡ 0
+  pub pid-row : value kind p Field.header-pid ≡ pid
+  pub payload : value kind p Field.payload ≡ 1
+  pub tsmf : value kind p Field.tsmf-sync ≡ tsmfSync
   pub register : registerOf (drop 4 p) ≡ 0
   pub rules : NoneHolds (ruleChecks kind (reading kind p))
 
 pub shown : (kind : Kind) (pid : ℕ) (p : List ℕ) → readRefusal kind pid p ≡ 0 → Shown kind pid p
 unfolding laid-out readRefusal packetChecks ruleChecks rowAt place
 shown kind pid p e =
-    let marks = both (eqb (value kind p 1) 0) (eqb (value kind p 3) 1) (not-false _ (none-at h 4)) in
+    let marks = both (eqb (value kind p Field.zeros) 0) (eqb (value kind p Field.payload) 1) (not-false _ (none-at h 4)) in
     record {
       whole = eqb-true _ _ (not-false _ (none-at h 0));
       allowed = not-false _ (none-at h 1);
@@ -90,5 +90,5 @@ module _ (kind : Kind) (pid : ℕ) (p : List ℕ) (a : Shown kind pid p) where
             (more (some-fit 4 (row kind p 16) (row-filled 16 (omega arith) .1)) (absent-none kind p))))))))) (a .rules);
       }
     where
-      narrow : (k : ℕ) → k < length (layout kind) → leb (2 ^ (rowOf (layout kind) k .0)) (value kind p k) ≡ false
-      narrow k h = lt-leb (2 ^ (rowOf (layout kind) k .0)) (value kind p k) (fit-getD (row-filled k h .1) 0)
+      narrow : (k : ℕ) → k < length (layout kind) → leb (2 ^ (rowOf (layout kind) k .0)) (getD (row kind p k) 0 0) ≡ false
+      narrow k h = lt-leb (2 ^ (rowOf (layout kind) k .0)) (getD (row kind p k) 0 0) (fit-getD (row-filled k h .1) 0)

@@ -5,22 +5,21 @@ use setting::Kind;
 use setting::PRIVATE_BYTES;
 use setting::Setting;
 ghost use mathlib.Core.Path.{_≡_};
-ghost use Prim.Native.Nat.{_*_, _<_, _^_};
+ghost use Prim.Native.Nat.{ℕ, _*_, _<_, _^_};
 ghost use lib.ListN.{length};
 ghost use Rattle.bits.specs.Fields.{bitsOf, run};
 ghost use Rattle.setting.specs.Setting.{privateBytes};
 ghost use Rattle.refusal_table.specs.Refusal.{firstOf};
 ghost use Rattle.rules.specs.Rules.{Narrow, bondingOf};
-ghost use Rattle.layout.specs.Rows.{pack};
-ghost use Rattle.layout.specs.Layout.{startRows, controlRows, privateRows};
+ghost use Rattle.layout.specs.Layout.{startTable, controlTable, privateTable};
 ghost use Rattle.layout.specs.Bytes.{bondingBytes};
-ghost use Rattle.layout.specs.Header.{headerLength, startContent, paired, controlContent, privateContent, body, header};
+ghost use Rattle.layout.specs.Header.{headerLength, paired, packed, body, header};
 
 // Bytes 0 to 8: packet header, sync, version, types and availability.
 fn write_start(part: &mut [u8], pid: u16, s: Setting)
     requires { ⌜ (length (now part) ≡ 9) × (pid < 2 ^ 13) ⌝ }
     requires { ⌜ Narrow s ⌝ }
-    ensures { λ _. ⌜ run 8 (now (part .exit)) ≡ pack startRows (startContent pid s) ⌝ }
+    ensures { λ _. ⌜ run 8 (now (part .exit)) ≡ packed pid s startTable ⌝ }
 {
     let bytes = [
         0x47,
@@ -59,7 +58,7 @@ fn write_identifiers(part: &mut [u8], ts: &[u16], os: &[u16])
 fn write_control(part: &mut [u8], s: Setting)
     requires { ⌜ length (now part) ≡ 4 ⌝ }
     requires { ⌜ Narrow s ⌝ }
-    ensures { λ _. ⌜ run 8 (now (part .exit)) ≡ pack controlRows (controlContent s) ⌝ }
+    ensures { λ _. ⌜ ((pid : ℕ) → run 8 (now (part .exit)) ≡ packed pid s controlTable) ⌝ }
 {
     let receive_status = s.receive_status;
     let left = packed::write_run(&mut part[0..layout::CONTROL_LAST], &receive_status, 2);
@@ -83,7 +82,7 @@ fn write_bonding(part: &mut [u8], s: Setting)
 fn write_extended(part: &mut [u8], s: Setting)
     requires { ⌜ length (now part) ≡ privateBytes ⌝ }
     requires { ⌜ firstOf (bondingOf Kind.Extended s) ≡ 0 ⌝ }
-    ensures { λ _. ⌜ run 8 (now (part .exit)) ≡ pack (privateRows Kind.Extended) (privateContent Kind.Extended s) ⌝ }
+    ensures { λ _. ⌜ ((pid : ℕ) → run 8 (now (part .exit)) ≡ packed pid s (privateTable Kind.Extended)) ⌝ }
 {
     let auxiliary = s.auxiliary;
     slices::copy(&mut part[0..AUXILIARY_BYTES], &auxiliary);
@@ -100,7 +99,7 @@ fn write_extended(part: &mut [u8], s: Setting)
 fn write_private(part: &mut [u8], kind: Kind, s: Setting)
     requires { ⌜ length (now part) ≡ privateBytes ⌝ }
     requires { ⌜ firstOf (bondingOf kind s) ≡ 0 ⌝ }
-    ensures { λ _. ⌜ run 8 (now (part .exit)) ≡ pack (privateRows kind) (privateContent kind s) ⌝ }
+    ensures { λ _. ⌜ ((pid : ℕ) → run 8 (now (part .exit)) ≡ packed pid s (privateTable kind)) ⌝ }
 {
     match kind {
         Kind::Plain => {

@@ -9,42 +9,40 @@ use Rattle.bits.proofs.Laws.{run-append}
 use Rattle.slices.proofs.Front.{put, front-none, front-part, front-all}
 use Rattle.setting.specs.declared.Kind.{Kind}
 use Rattle.setting.specs.declared.Setting.{Setting}
-use Rattle.layout.specs.Rows.{Row, pack}
-use Rattle.layout.specs.Layout.{startRows, identifierRows, controlRows, numberRows, privateRows, layout}
-use Rattle.layout.specs.Header.{paired, startContent, identifierContent, controlContent, numberContent, privateContent, content, body}
+use Rattle.layout.specs.Rows.{pack}
+use Rattle.layout.specs.Layout.{Line, startTable, identifierTable, controlTable, numberTable, privateTable, table}
+use Rattle.layout.specs.Header.{paired, held, packed, body}
 
-pack-append : (rs qs : List Row) (vss wss : List (List ℕ)) → length vss ≡ length rs
-    → pack (rs ++ qs) (vss ++ wss) ≡ pack rs vss ++ pack qs wss
-unfolding pack
-pack-append [] qs [] wss e = refl
-pack-append [] qs (vs ∷ vss) wss e = absurd (omega arith)
-pack-append (r ∷ rs) qs [] wss e = absurd (omega arith)
-pack-append (r ∷ rs) qs (vs ∷ vss) wss e =
-    ap (λ (l : List ℕ). run (r .0) vs ++ l) (pack-append rs qs vss wss (omega arith)) ∙ sym (append-assoc (run (r .0) vs) (pack rs vss) (pack qs wss))
+packed-append : (pid : ℕ) (s : Setting) (ls ms : List Line) → packed pid s (ls ++ ms) ≡ packed pid s ls ++ packed pid s ms
+unfolding packed pack
+packed-append pid s [] ms = refl
+packed-append pid s (l ∷ ls) ms =
+    ap (λ (bs : List ℕ). run (l .1 .0) (held pid s l) ++ bs) (packed-append pid s ls ms)
+    ∙ sym (append-assoc (run (l .1 .0) (held pid s l)) (packed pid s ls) (packed pid s ms))
 
 -- the body is its five parts
 body-is : (kind : Kind) (pid : ℕ) (s : Setting)
-    → body kind pid s ≡ pack startRows (startContent pid s) ++ (pack identifierRows (identifierContent s) ++ (pack controlRows (controlContent s)
-    ++ (pack numberRows (numberContent s) ++ pack (privateRows kind) (privateContent kind s))))
-unfolding body layout content startRows startContent identifierRows identifierContent controlRows controlContent numberRows numberContent
+    → body kind pid s ≡ packed pid s startTable ++ (packed pid s identifierTable ++ (packed pid s controlTable
+    ++ (packed pid s numberTable ++ packed pid s (privateTable kind))))
+unfolding body table
 body-is kind pid s =
-    pack-append startRows _ (startContent pid s) _ refl
-    ∙ ap (λ (l : List ℕ). pack startRows (startContent pid s) ++ l)
-    (pack-append identifierRows _ (identifierContent s) _ refl
-    ∙ ap (λ (l : List ℕ). pack identifierRows (identifierContent s) ++ l)
-    (pack-append controlRows _ (controlContent s) _ refl
-    ∙ ap (λ (l : List ℕ). pack controlRows (controlContent s) ++ l) (pack-append numberRows (privateRows kind) (numberContent s) (privateContent kind s) refl)))
+    packed-append pid s startTable _
+    ∙ ap (λ (l : List ℕ). packed pid s startTable ++ l)
+    (packed-append pid s identifierTable _
+    ∙ ap (λ (l : List ℕ). packed pid s identifierTable ++ l)
+    (packed-append pid s controlTable _
+    ∙ ap (λ (l : List ℕ). packed pid s controlTable ++ l) (packed-append pid s numberTable (privateTable kind))))
 
 -- the five parts of a list of 184 bytes, filled one after the other
 pub body-parts : (kind : Kind) (pid : ℕ) (s : Setting) (part a b c d e : List ℕ)
     → length part ≡ 184 → length a ≡ 9 → length b ≡ 60 → length c ≡ 4 → length d ≡ 26 → length e ≡ 85
-    → run 8 a ≡ pack startRows (startContent pid s)
+    → run 8 a ≡ packed pid s startTable
     → run 8 b ≡ run 16 (paired (s .«ts_id») (s .«original_network_id»))
-    → run 8 c ≡ pack controlRows (controlContent s)
+    → run 8 c ≡ packed pid s controlTable
     → run 8 d ≡ run 4 (s .«relative_ts_number»)
-    → run 8 e ≡ pack (privateRows kind) (privateContent kind s)
+    → run 8 e ≡ packed pid s (privateTable kind)
     → run 8 (put 99 85 (put 73 26 (put 69 4 (put 9 60 (put 0 9 part a) b) c) d) e) ≡ body kind pid s
-unfolding identifierRows identifierContent numberRows numberContent pack
+unfolding identifierTable numberTable held packed pack
 body-parts kind pid s part a b c d e l la lb lc ld le pa pb pc pd pe =
     let f₁ = front-part part [] part a 0 9 (front-none part) la in
     let f₂ = front-part part a _ b 9 60 f₁ lb in

@@ -1,5 +1,5 @@
 -- What a setting that meets the rules puts into the rows fills them. Assumes nothing.
-use Prim.Native.Nat.{ℕ, zero, suc, _+_, _^_, _<_}
+use Prim.Native.Nat.{ℕ, zero, suc, _+_, _-_, _^_, _<_}
 use mathlib.Core.Path.{_≡_, refl}
 use mathlib.Core.List.{List, [], _∷_}
 use native.Mathlib.Omega.{arith}
@@ -13,7 +13,7 @@ use Rattle.setting.specs.Setting.{Array, OfItsTypes}
 use Rattle.rules.specs.Rules.{widthChecks, ruleChecks}
 use Rattle.rules.proofs.Fields.{at-most, bonded, bonding-none, narrow}
 use Rattle.refusal_table.proofs.Refusals.{none-before, none-behind}
-use Rattle.layout.specs.Layout.{reservedByte, reservedBytes, layout}
+use Rattle.layout.specs.Layout.{reservedBytes, layout}
 use Rattle.layout.specs.Header.{one, paired, content}
 use Rattle.layout.specs.Meets.{MeetsRules}
 use Rattle.layout.proofs.LaidOut.{laid-out, length-content}
@@ -68,7 +68,7 @@ private-rows Kind.Extended pid s t m =
     let b = bonded s (bonding-none Kind.Extended s (none-behind (widthChecks Kind.Extended s) (m .fields))) in
     next (t .auxiliaries) (next (fills-one (t .group))
     (next (fills-one (b .carriers)) (next (fills-one (b .sequence)) (next (fills-one (b .frames)) (next (fills-one (b .position))
-    (next (fills-replicate 8 reservedBytes reservedByte (lit< tt)) done))))))
+    (next (fills-replicate 8 reservedBytes (2 ^ 8 - 1) (lit< tt)) done))))))
 
 pub suits : (kind : Kind) (pid : ℕ) (s : Setting) → OfItsTypes s → MeetsRules kind pid s → Suits (layout kind) (content kind pid s)
 suits kind pid s t m =

@@ -11,8 +11,8 @@ use Rattle.bits.specs.Fields.{bitsOf, run}
 use Rattle.bits.proofs.Laws.{run-append, run-one, bitsOf-join, bitsOf-mod}
 use Rattle.setting.specs.declared.Setting.{Setting}
 use Rattle.layout.specs.Rows.{pack}
-use Rattle.layout.specs.Layout.{controlRows}
-use Rattle.layout.specs.Header.{controlContent}
+use Rattle.layout.specs.Layout.{controlTable}
+use Rattle.layout.specs.Header.{held, packed}
 
 -- the last byte: six bits of statuses, the emergency bit and a reserved one
 last-byte : (left e : ℕ) → e < 2 → bitsOf 8 (left % 64 * 4 + e * 2 + 1) ≡ bitsOf 6 left ++ (bitsOf 1 e ++ bitsOf 1 1)
@@ -29,11 +29,11 @@ behind ys l b e f =
     ap (λ (r : List ℕ). set (ys ++ r) 3 b) (drop-cons l 3 0 room) ∙ set-at ys (getD l 3 0) (drop 4 l) b 3 e
     ∙ ap (λ (r : List ℕ). ys ++ (b ∷ r)) (drop-of-length-le l whole)
 
-pub control-bits : (s : Setting) (ys l : List ℕ) (left : ℕ) → length ys ≡ 3 → length l ≡ 4 → s .«emergency_indicator» < 2
+pub control-bits : (pid : ℕ) (s : Setting) (ys l : List ℕ) (left : ℕ) → length ys ≡ 3 → length l ≡ 4 → s .«emergency_indicator» < 2
     → run 8 ys ++ bitsOf 6 left ≡ run 2 (s .«receive_status»)
-    → run 8 (set (ys ++ drop 3 l) 3 (left % 64 * 4 + s .«emergency_indicator» * 2 + 1)) ≡ pack controlRows (controlContent s)
-unfolding pack controlRows controlContent
-control-bits s ys l left e f h same =
+    → run 8 (set (ys ++ drop 3 l) 3 (left % 64 * 4 + s .«emergency_indicator» * 2 + 1)) ≡ packed pid s controlTable
+unfolding packed pack controlTable held
+control-bits pid s ys l left e f h same =
     let em = s .«emergency_indicator» in
     let b = left % 64 * 4 + em * 2 + 1 in
     ap (run 8) (behind ys l b e f) ∙ run-append 8 ys (b ∷ []) ∙ ap (λ (r : List ℕ). run 8 ys ++ r) (run-one 8 b ∙ last-byte left em h)

@@ -1,17 +1,18 @@
 -- The layout and its content, opened down to their rows, and their sizes. Assumes nothing.
 use Prim.Native.Nat.{ℕ}
 use mathlib.Core.Path.{_≡_, refl}
+use mathlib.Core.Bool.{decide}
 use lib.ListN.{length}
 use Rattle.setting.specs.declared.Kind.{Kind}
 use Rattle.setting.specs.declared.Setting.{Setting}
 use Rattle.layout.specs.Rows.{place}
-use Rattle.layout.specs.Layout.{startRows, identifierRows, controlRows, numberRows, privateRows, layout}
-use Rattle.layout.specs.Header.{content, startContent, identifierContent, controlContent, numberContent, privateContent}
+use Rattle.layout.specs.Layout.{startTable, identifierTable, controlTable, numberTable, privateTable, table, layout, numberOf}
+use Rattle.layout.specs.Header.{held, content}
 use Rattle.layout.proofs.Rows.{size}
 
--- a proof that says `unfolding laid-out` sees each row and what stands in it
+-- a proof that says `unfolding laid-out` sees each row, its number and what stands in it
 unfoldable pub laid-out : Unit {0}
-unfolding layout startRows identifierRows controlRows numberRows privateRows content startContent identifierContent controlContent numberContent privateContent
+unfolding table startTable identifierTable controlTable numberTable privateTable numberOf decide held
 laid-out = tt
 
 -- the bits before the CRC, which both kinds fill

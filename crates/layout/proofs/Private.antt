@@ -15,9 +15,9 @@ use Rattle.refusal_table.specs.Refusal.{NoneHolds}
 use Rattle.rules.specs.Rules.{bondingOf}
 use Rattle.rules.proofs.Fields.{bonded}
 use Rattle.layout.specs.Rows.{pack}
-use Rattle.layout.specs.Layout.{privateRows}
+use Rattle.layout.specs.Layout.{privateTable}
 use Rattle.layout.specs.Bytes.{bondingBytes}
-use Rattle.layout.specs.Header.{privateContent}
+use Rattle.layout.specs.Header.{held, packed}
 use Rattle.layout.proofs.Bytes.{joined}
 
 -- a copy over a list of the same length is what was copied
@@ -35,10 +35,10 @@ unfolding run
 bonding-bits g c q f {p} h rest =
     simp (append-nil, append-assoc) (ap (λ (l : List ℕ). bitsOf 8 g ++ (bitsOf 8 c ++ (bitsOf 8 q ++ l))) (sym (joined 4 4 f h refl)))
 
-pub extended-bits : (s : Setting) → NoneHolds (bondingOf Kind.Extended s)
-    → run 8 ((s .auxiliary ++ bondingBytes s) ++ replicate 53 0xFF) ≡ pack (privateRows Kind.Extended) (privateContent Kind.Extended s)
-unfolding privateRows privateContent pack
-extended-bits s h =
+pub extended-bits : (pid : ℕ) (s : Setting) → NoneHolds (bondingOf Kind.Extended s)
+    → run 8 ((s .auxiliary ++ bondingBytes s) ++ replicate 53 0xFF) ≡ packed pid s (privateTable Kind.Extended)
+unfolding privateTable held packed pack
+extended-bits pid s h =
     let aux = s .auxiliary in
     let bonding = bondingBytes s in
     run-append 8 (aux ++ bonding) (replicate 53 0xFF) ∙ ap (λ (l : List ℕ). l ++ run 8 (replicate 53 0xFF)) (run-append 8 aux bonding)
@@ -48,15 +48,15 @@ extended-bits s h =
     ∙ bonding-bits (s .«group_id») (s .«number_of_carriers») (s .«carrier_sequence») (s .«number_of_frames») (bonded s h .position) (run 8 (replicate 53 0xFF) ++ []))
 
 -- three parts of the private data, filled one after the other
-pub extended-parts : (s : Setting) (part aux bonding ones : List ℕ) → length part ≡ 85 → length (s .auxiliary) ≡ 28
+pub extended-parts : (pid : ℕ) (s : Setting) (part aux bonding ones : List ℕ) → length part ≡ 85 → length (s .auxiliary) ≡ 28
     → aux ≡ s .auxiliary → bonding ≡ bondingBytes s → ones ≡ replicate (length (take 53 (drop 32 (put 28 4 (put 0 28 part aux) bonding)))) 0xFF
     → NoneHolds (bondingOf Kind.Extended s)
-    → run 8 (put 32 53 (put 28 4 (put 0 28 part aux) bonding) ones) ≡ pack (privateRows Kind.Extended) (privateContent Kind.Extended s)
-extended-parts s part aux bonding ones l a p q r h =
+    → run 8 (put 32 53 (put 28 4 (put 0 28 part aux) bonding) ones) ≡ packed pid s (privateTable Kind.Extended)
+extended-parts pid s part aux bonding ones l a p q r h =
     let two = put 28 4 (put 0 28 part aux) bonding in
     let front = front-part part aux (put 0 28 part aux) bonding 28 4 (front-part part [] part aux 0 28 (front-none part) (ap length p ∙ a)) (ap length q) in
     let whole : length two ≡ length part = front-length part (aux ++ bonding) two 32 front (omega arith) in
     let behind : 53 ≤ length (drop 32 two) = rw length-drop (omega arith) in
     let all : ones ≡ replicate 53 0xFF = r ∙ ap (λ (n : ℕ). replicate n 0xFF) (length-take-le 53 (drop 32 two) behind) in
     ap (run 8) (front-all part ((aux ++ bonding) ++ ones) _ 85 (front-part part (aux ++ bonding) two ones 32 53 front (ap length all)) (omega arith))
-    ∙ ap (run 8) (ap₂ (λ (x y : List ℕ). x ++ y) (ap₂ (λ (x y : List ℕ). x ++ y) p q) all) ∙ extended-bits s h
+    ∙ ap (run 8) (ap₂ (λ (x y : List ℕ). x ++ y) (ap₂ (λ (x y : List ℕ). x ++ y) p q) all) ∙ extended-bits pid s h

@@ -11,7 +11,8 @@ use Rattle.setting.specs.declared.Setting.{Setting}
 use Rattle.setting.specs.Setting.{privateBytes, auxiliaryBytes}
 use Rattle.rules.specs.Rules.{byKind}
 use Rattle.layout.specs.Rows.{place, rowAt}
-use Rattle.layout.specs.Header.{headerLength, row, reading}
+use Rattle.layout.specs.Layout.{Field}
+use Rattle.layout.specs.Header.{headerLength, values, reading}
 use Rattle.layout.proofs.Cut.{byte-field, word-field, wordAt, part-row, byte-row}
 use Rattle.layout.proofs.LaidOut.{laid-out}
 
@@ -80,11 +81,11 @@ module _ (p : List ℕ) (f : Fit 8 p) (h : length p ≡ headerLength) where
   numbers-are = part-row p 73 26 4 52 (omega arith) (omega arith)
 
   -- the lists of each stream, which stand in the same place in both kinds
-  pub identifiers : (n : ℕ) → n ≡ 15 → cut 16 (2 * n) (run 8 (take 60 (drop 9 p))) ≡ row Kind.Plain p 12
+  pub identifiers : (n : ℕ) → n ≡ 15 → cut 16 (2 * n) (run 8 (take 60 (drop 9 p))) ≡ values Kind.Plain p Field.identifiers
   unfolding laid-out rowAt place
   identifiers n e = ap (λ (k : ℕ). cut 16 (2 * k) (run 8 (take 60 (drop 9 p)))) e ∙ part-row p 9 60 16 30 (omega arith) (omega arith)
 
-  pub status : (n : ℕ) → n ≡ 15 → cut 2 n (run 8 (take 4 (drop 69 p))) ≡ row Kind.Plain p 13
+  pub status : (n : ℕ) → n ≡ 15 → cut 2 n (run 8 (take 4 (drop 69 p))) ≡ values Kind.Plain p Field.statuses
   unfolding laid-out rowAt place
   status n e = ap (λ (k : ℕ). cut 2 k (run 8 (take 4 (drop 69 p)))) e ∙ part-row p 69 4 2 15 (omega arith) (omega arith)
 

@@ -9,8 +9,8 @@ use Rattle.bits.proofs.Laws.{bitsOf-join}
 use Rattle.setting.specs.declared.Setting.{Setting}
 use Rattle.rules.specs.Rules.{Narrow}
 use Rattle.layout.specs.Rows.{pack}
-use Rattle.layout.specs.Layout.{startRows}
-use Rattle.layout.specs.Header.{startContent}
+use Rattle.layout.specs.Layout.{startTable}
+use Rattle.layout.specs.Header.{held, packed}
 use Rattle.layout.proofs.Bytes.{two-bytes, joined, split}
 
 -- the nine bytes
@@ -20,8 +20,8 @@ startBytes pid s =
     ∷ (s .«version_number» * 32 + s .«slot_allocation_type» * 16 + s .«frame_type»)
     ∷ s .availability / 128 ∷ (s .availability % 128 * 2 + 1) ∷ []
 
-pub start-bits : (pid : ℕ) (s : Setting) → pid < 2 ^ 13 → Narrow s → run 8 (startBytes pid s) ≡ pack startRows (startContent pid s)
-unfolding pack startRows startContent run
+pub start-bits : (pid : ℕ) (s : Setting) → pid < 2 ^ 13 → Narrow s → run 8 (startBytes pid s) ≡ packed pid s startTable
+unfolding packed pack startTable held run
 start-bits pid s h n =
     let a = s .availability in
     let v = s .«version_number» in

@@ -1,7 +1,7 @@
 -- What stands in the rows of a header, the header that they make, and what a packet says that is read as one.
 use Prim.Native.Nat.{ℕ, _-_, _^_}
 use mathlib.Core.Bool.{not, _&&_}
-use mathlib.Core.List.{List, [], _∷_, _++_}
+use mathlib.Core.List.{List, [], _∷_, _++_, map}
 use lib.Dec.{eqb}
 use lib.ListN.{getD, drop, replicate}
 use Rattle.bits.specs.Fields.{bitsOf, run, cut}
@@ -11,8 +11,8 @@ use Rattle.setting.specs.declared.Setting.{Setting}
 use Rattle.setting.specs.Setting.{privateBytes, auxiliaryBytes}
 use Rattle.refusal_table.specs.Refusal.{Check}
 use Rattle.rules.specs.Rules.{byKind, pidAllowed}
-use Rattle.layout.specs.Rows.{pack, rowAt}
-use Rattle.layout.specs.Layout.{syncByte, tsmfSync, reservedByte, reservedBytes, startRows, layout}
+use Rattle.layout.specs.Rows.{Row, pack, rowAt}
+use Rattle.layout.specs.Layout.{syncByte, tsmfSync, Field, Line, startTable, table, rowsOf, layout, numberOf}
 
 -- a header is 188 bytes
 abbrev pub headerLength : ℕ
@@ -38,85 +38,98 @@ seconds [] = []
 seconds (t ∷ []) = []
 seconds (t ∷ o ∷ ids) = o ∷ seconds ids
 
--- what stands in each row of the layout
-unfoldable pub startContent : ℕ → Setting → List (List ℕ)
-startContent pid s =
-    one syncByte ∷ one 0 ∷ one pid ∷ one 1 ∷ one (s .«continuity_counter»)
-    ∷ one 7 ∷ one tsmfSync
-    ∷ one (s .«version_number») ∷ one (s .«slot_allocation_type») ∷ one (s .«frame_type»)
-    ∷ one (s .availability) ∷ one 1 ∷ []
+-- the values of a row whose bits are all ones
+abbrev pub allOnes : Row → List ℕ
+allOnes r = replicate (r .1) (2 ^ r .0 - 1)
 
-unfoldable pub identifierContent : Setting → List (List ℕ)
-identifierContent s = paired (s .«ts_id») (s .«original_network_id») ∷ []
+-- what stands in a row of a header by the field that it holds
+unfoldable pub held : ℕ → Setting → Line → List ℕ
+held pid s (Field.reserved, r) = allOnes r
+held pid s (Field.sync-byte, r) = one syncByte
+held pid s (Field.zeros, r) = one 0
+held pid s (Field.header-pid, r) = one pid
+held pid s (Field.payload, r) = one 1
+held pid s (Field.counter, r) = one (s .«continuity_counter»)
+held pid s (Field.tsmf-sync, r) = one tsmfSync
+held pid s (Field.version, r) = one (s .«version_number»)
+held pid s (Field.slot-type, r) = one (s .«slot_allocation_type»)
+held pid s (Field.frame-type, r) = one (s .«frame_type»)
+held pid s (Field.streams, r) = one (s .availability)
+held pid s (Field.identifiers, r) = paired (s .«ts_id») (s .«original_network_id»)
+held pid s (Field.statuses, r) = s .«receive_status»
+held pid s (Field.emergency, r) = one (s .«emergency_indicator»)
+held pid s (Field.numbers, r) = s .«relative_ts_number»
+held pid s (Field.privates, r) = s .«private_data»
+held pid s (Field.auxiliary, r) = s .auxiliary
+held pid s (Field.group, r) = one (s .«group_id»)
+held pid s (Field.carriers, r) = one (s .«number_of_carriers»)
+held pid s (Field.sequence, r) = one (s .«carrier_sequence»)
+held pid s (Field.frames, r) = one (s .«number_of_frames»)
+held pid s (Field.position, r) = one (s .«frame_position» .0)
 
-unfoldable pub controlContent : Setting → List (List ℕ)
-controlContent s = s .«receive_status» ∷ one (s .«emergency_indicator») ∷ one 1 ∷ []
+-- the bits of a part of the table
+unfoldable pub packed : ℕ → Setting → List Line → List ℕ
+packed pid s lines = pack (rowsOf lines) (map (held pid s) lines)
 
-unfoldable pub numberContent : Setting → List (List ℕ)
-numberContent s = s .«relative_ts_number» ∷ []
-
-unfoldable pub privateContent : Kind → Setting → List (List ℕ)
-privateContent Kind.Plain s = s .«private_data» ∷ []
-privateContent Kind.Extended s =
-    s .auxiliary ∷ one (s .«group_id») ∷ one (s .«number_of_carriers») ∷ one (s .«carrier_sequence»)
-    ∷ one (s .«number_of_frames») ∷ one (s .«frame_position» .0) ∷ replicate reservedBytes reservedByte ∷ []
-
-unfoldable pub content : Kind → ℕ → Setting → List (List ℕ)
-content kind pid s =
-    startContent pid s ++ (identifierContent s ++ (controlContent s ++ (numberContent s ++ privateContent kind s)))
+-- what stands in each row
+abbrev pub content : Kind → ℕ → Setting → List (List ℕ)
+content kind pid s = map (held pid s) (table kind)
 
 -- the header's bits before the CRC
 unfoldable pub body : Kind → ℕ → Setting → List ℕ
-body kind pid s = pack (layout kind) (content kind pid s)
+body kind pid s = packed pid s (table kind)
 
 -- the header's 188 bytes. The CRC is the register that the bytes from byte 4 on leave
 unfoldable pub header : Kind → ℕ → Setting → List ℕ
 header kind pid s =
     cut 8 headerLength (body kind pid s ++ bitsOf 32 (registerFrom (2 ^ 32 - 1) (drop 32 (body kind pid s))))
 
--- what a packet says, read as a header: the values of row k, and the one value of row k
+-- what a packet says, read as a header: the values of row k, and those and the one value of the row that holds a field
 abbrev pub row : Kind → List ℕ → ℕ → List ℕ
 row kind p k = rowAt (layout kind) k (run 8 p)
 
-abbrev pub value : Kind → List ℕ → ℕ → ℕ
-value kind p k = getD (row kind p k) 0 0
+abbrev pub values : Kind → List ℕ → Field → List ℕ
+values kind p f = row kind p (numberOf f (table kind))
+
+abbrev pub value : Kind → List ℕ → Field → ℕ
+value kind p f = getD (values kind p f) 0 0
 
 unfoldable pub reading : Kind → List ℕ → Setting
 reading kind p =
     record {
-      «continuity_counter» = value kind p 4;
-      «version_number» = value kind p 7;
-      «slot_allocation_type» = value kind p 8;
-      «frame_type» = value kind p 9;
-      availability = value kind p 10;
-      «ts_id» = firsts (row kind p 12);
-      «original_network_id» = seconds (row kind p 12);
-      «receive_status» = row kind p 13;
-      «emergency_indicator» = value kind p 14;
-      «relative_ts_number» = row kind p 16;
-      «private_data» = byKind kind (row kind p 17) (replicate privateBytes 0);
-      auxiliary = byKind kind (replicate auxiliaryBytes 0) (row kind p 17);
-      «group_id» = byKind kind 0 (value kind p 18);
-      «number_of_carriers» = byKind kind 0 (value kind p 19);
-      «carrier_sequence» = byKind kind 0 (value kind p 20);
-      «number_of_frames» = byKind kind 0 (value kind p 21);
-      «frame_position» = record { 0 = byKind kind 0 (value kind p 22) };
+      «continuity_counter» = value kind p Field.counter;
+      «version_number» = value kind p Field.version;
+      «slot_allocation_type» = value kind p Field.slot-type;
+      «frame_type» = value kind p Field.frame-type;
+      availability = value kind p Field.streams;
+      «ts_id» = firsts (values kind p Field.identifiers);
+      «original_network_id» = seconds (values kind p Field.identifiers);
+      «receive_status» = values kind p Field.statuses;
+      «emergency_indicator» = value kind p Field.emergency;
+      «relative_ts_number» = values kind p Field.numbers;
+      «private_data» = byKind kind (values kind p Field.privates) (replicate privateBytes 0);
+      auxiliary = byKind kind (replicate auxiliaryBytes 0) (values kind p Field.auxiliary);
+      «group_id» = byKind kind 0 (value kind p Field.group);
+      «number_of_carriers» = byKind kind 0 (value kind p Field.carriers);
+      «carrier_sequence» = byKind kind 0 (value kind p Field.sequence);
+      «number_of_frames» = byKind kind 0 (value kind p Field.frames);
+      «frame_position» = record { 0 = byKind kind 0 (value kind p Field.position) };
     }
 
 -- what is asked of every call's PID and of the packet or buffer that it is lent
 abbrev pub callChecks : ℕ → ℕ → List Check
 callChecks pid lent = (1, not (eqb lent headerLength)) ∷ (2, not (pidAllowed pid)) ∷ []
 
--- the one value of a row that both kinds have in the same place
-abbrev pub startValue : List ℕ → ℕ → ℕ
-startValue p k = getD (rowAt startRows k (run 8 p)) 0 0
+-- the one value of a row that all kinds have in the same place
+abbrev pub startValue : List ℕ → Field → ℕ
+startValue p f = getD (rowAt (rowsOf startTable) (numberOf f startTable) (run 8 p)) 0 0
 
 -- 3 to 7: what the packet itself shows
 unfoldable pub packetChecks : ℕ → List ℕ → List Check
 packetChecks pid p =
-    (3, not (eqb (startValue p 0) syncByte))
-    ∷ (4, not (eqb (startValue p 2) pid))
-    ∷ (5, not (eqb (startValue p 1) 0 && eqb (startValue p 3) 1))
-    ∷ (6, not (eqb (startValue p 6) tsmfSync))
+    (3, not (eqb (startValue p Field.sync-byte) syncByte))
+    ∷ (4, not (eqb (startValue p Field.header-pid) pid))
+    ∷ (5, not (eqb (startValue p Field.zeros) 0 && eqb (startValue p Field.payload) 1))
+    ∷ (6, not (eqb (startValue p Field.tsmf-sync) tsmfSync))
     ∷ (7, not (eqb (registerOf (drop 4 p)) 0))
     ∷ []

@@ -1,62 +1,75 @@
--- The header's layout: 01's table, row under row. The rows are numbered from 0.
-use Prim.Native.Nat.{ℕ, _*_}
-use mathlib.Core.List.{List, [], _∷_, _++_}
+-- The header's layout: 01's table, row under row.
+use Prim.Native.Nat.{ℕ, suc, _*_}
+use mathlib.Core.Bool.{cond, decide}
+use mathlib.Core.List.{List, [], _∷_, _++_, map}
 use Rattle.setting.specs.declared.Kind.{Kind}
 use Rattle.counters.specs.Counters.{lastSlot, lastStream}
 use Rattle.setting.specs.Setting.{privateBytes, auxiliaryBytes}
-use Rattle.rules.specs.Rules.{byKind}
 use Rattle.layout.specs.Rows.{Row}
 
--- sync_byte, TSMF_sync, and the value of a reserved byte
+-- sync_byte, TSMF_sync, and how many bytes of an extended header's private data are reserved, which are its last
 abbrev pub syncByte : ℕ
 syncByte = 0x47
 
 abbrev pub tsmfSync : ℕ
 tsmfSync = 0x1A86
 
-abbrev pub reservedByte : ℕ
-reservedByte = 0xFF
-
--- how many bytes of an extended header's private data are reserved, which are its last
 abbrev pub reservedBytes : ℕ
 reservedBytes = 53
 
+-- what a row can hold; `zeros` and `payload` are the bits 000 and 0001, `streams` is their availability
+pub data Field : Type 0 where
+  reserved : Field
+  sync-byte zeros header-pid payload counter : Field
+  tsmf-sync version slot-type frame-type streams : Field
+  identifiers statuses emergency numbers : Field
+  privates auxiliary group carriers sequence frames position : Field
+  deriving Discrete as Field-discrete
+
+-- a line of the table: what its row holds, and the row
+abbrev pub Line : Type 0
+Line = Field × Row
+
 -- packet_header, TSMF_sync, version_number and slot_information: bytes 0 to 8
-unfoldable pub startRows : List Row
-startRows =
-    -- 0 sync_byte, 1 '000', 2 TSMF_header_PID, 3 '0001', 4 continuity_counter
-    (8, 1) ∷ (3, 1) ∷ (13, 1) ∷ (4, 1) ∷ (4, 1)
-    -- 5 reserved, 6 TSMF_sync
-    ∷ (3, 1) ∷ (13, 1)
-    -- 7 version_number, 8 slot_allocation_type, 9 frame_type
-    ∷ (3, 1) ∷ (1, 1) ∷ (4, 1)
-    -- 10 availability of the streams, stream 1 highest, 11 reserved
-    ∷ (lastStream, 1) ∷ (1, 1) ∷ []
+unfoldable pub startTable : List Line
+startTable =
+    (sync-byte, (8, 1)) ∷ (zeros, (3, 1)) ∷ (header-pid, (13, 1)) ∷ (payload, (4, 1)) ∷ (counter, (4, 1))
+    ∷ (reserved, (3, 1)) ∷ (tsmf-sync, (13, 1))
+    ∷ (version, (3, 1)) ∷ (slot-type, (1, 1)) ∷ (frame-type, (4, 1))
+    -- stream 1 highest
+    ∷ (streams, (lastStream, 1)) ∷ (reserved, (1, 1)) ∷ []
 
--- identifiers_information, bytes 9 to 68: 12 TS_id and original_network_id of each stream
-unfoldable pub identifierRows : List Row
-identifierRows = (16, 2 * lastStream) ∷ []
+-- identifiers_information, bytes 9 to 68: TS_id and original_network_id of each stream
+unfoldable pub identifierTable : List Line
+identifierTable = (identifiers, (16, 2 * lastStream)) ∷ []
 
--- control_information, bytes 69 to 72: 13 receive_status of each stream, 14 emergency_indicator, 15 reserved
-unfoldable pub controlRows : List Row
-controlRows = (2, lastStream) ∷ (1, 1) ∷ (1, 1) ∷ []
+-- control_information, bytes 69 to 72: receive_status of each stream, and in the last two bits emergency_indicator
+unfoldable pub controlTable : List Line
+controlTable = (statuses, (2, lastStream)) ∷ (emergency, (1, 1)) ∷ (reserved, (1, 1)) ∷ []
 
--- relative_TS_information, bytes 73 to 98: 16 relative_TS_number of each slot
-unfoldable pub numberRows : List Row
-numberRows = (4, lastSlot) ∷ []
+-- relative_TS_information, bytes 73 to 98: relative_TS_number of each slot
+unfoldable pub numberTable : List Line
+numberTable = (numbers, (4, lastSlot)) ∷ []
 
--- private_data, bytes 99 to 183
-unfoldable pub privateRows : Kind → List Row
--- 17 private_data
-privateRows Kind.Plain = (8, privateBytes) ∷ []
--- 17 auxiliary information, 18 group_id, 19 number_of_carriers, 20 carrier_sequence, 21 number_of_frames, 22 frame_position, 23 reserved
-privateRows Kind.Extended =
-    (8, auxiliaryBytes) ∷ (8, 1) ∷ (8, 1) ∷ (8, 1) ∷ (4, 1) ∷ (4, 1) ∷ (8, reservedBytes) ∷ []
+-- private_data, bytes 99 to 183, which in an extended header are auxiliary information and the bonding fields
+unfoldable pub privateTable : Kind → List Line
+privateTable Kind.Plain = (privates, (8, privateBytes)) ∷ []
+privateTable Kind.Extended =
+    (auxiliary, (8, auxiliaryBytes)) ∷ (group, (8, 1)) ∷ (carriers, (8, 1)) ∷ (sequence, (8, 1)) ∷ (frames, (4, 1)) ∷ (position, (4, 1))
+    ∷ (reserved, (8, reservedBytes)) ∷ []
 
--- all rows but the CRC, which stands behind them in 32 bits
-unfoldable pub layout : Kind → List Row
-layout kind = startRows ++ (identifierRows ++ (controlRows ++ (numberRows ++ privateRows kind)))
+-- the whole table but for the CRC, which stands behind it in 32 bits
+unfoldable pub table : Kind → List Line
+table kind = startTable ++ (identifierTable ++ (controlTable ++ (numberTable ++ privateTable kind)))
 
--- the rows that are reserved
-unfoldable pub reservedRows : Kind → List ℕ
-reservedRows kind = 5 ∷ 11 ∷ 15 ∷ byKind kind [] (23 ∷ [])
+-- its rows, numbered from 0
+abbrev pub rowsOf : List Line → List Row
+rowsOf = map (λ (l : Line). l .1)
+
+abbrev pub layout : Kind → List Row
+layout kind = rowsOf (table kind)
+
+-- the number of the row that holds a field: the first that does
+unfoldable pub numberOf : Field → List Line → ℕ
+numberOf f [] = 0
+numberOf f (l ∷ ls) = cond (decide (Field-discrete f (l .0))) 0 (suc (numberOf f ls))

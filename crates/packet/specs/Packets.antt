@@ -5,7 +5,7 @@ use mathlib.Core.List.{List, [], _∷_}
 use lib.Dec.{eqb}
 use lib.ListN.{length, take, drop, replicate}
 use Rattle.refusal_table.specs.Refusal.{firstOf}
-use Rattle.layout.specs.Layout.{syncByte}
+use Rattle.layout.specs.Layout.{syncByte, Field}
 use Rattle.layout.specs.Header.{startValue}
 
 abbrev pub packetLength : ℕ
@@ -25,7 +25,7 @@ nullPacket = 0x47 ∷ 0x1F ∷ 0xFF ∷ 0x10 ∷ replicate 184 0xFF
 
 -- whether a packet lacks 0x47 or bears the header PID
 unfoldable pub unfit : ℕ → List ℕ → Bool
-unfit pid p = not (eqb (startValue p 0) syncByte) || eqb (startValue p 2) pid
+unfit pid p = not (eqb (startValue p Field.sync-byte) syncByte) || eqb (startValue p Field.header-pid) pid
 
 -- 1: it has not 188 bytes; 12: it is unfit; 0: it may stand in a slot
 unfoldable pub placeRefusal : ℕ → List ℕ → ℕ

@@ -8,19 +8,20 @@ use lib.Dec.{eqb}
 use Rattle.slices.proofs.Any.{neither}
 use Rattle.setting.specs.declared.Kind.{Kind}
 use Rattle.layout.specs.Rows.{place, rowAt}
-use Rattle.layout.specs.Layout.{syncByte, startRows, identifierRows, controlRows, numberRows, privateRows, layout}
+use Rattle.layout.specs.Layout.{syncByte, Field}
 use Rattle.layout.specs.Header.{startValue}
+use Rattle.layout.proofs.LaidOut.{laid-out}
 use Rattle.header_checks.specs.Checking.{readRefusal}
 use Rattle.header_checks.proofs.Accepted.{shown}
 use Rattle.packet.specs.Packets.{unfit}
 
 -- a header bears the header PID
-bears-pid : (kind : Kind) (pid : ℕ) (p : List ℕ) → readRefusal kind pid p ≡ 0 → startValue p 2 ≡ pid
-unfolding layout startRows identifierRows controlRows numberRows privateRows rowAt place
+bears-pid : (kind : Kind) (pid : ℕ) (p : List ℕ) → readRefusal kind pid p ≡ 0 → startValue p Field.header-pid ≡ pid
+unfolding laid-out rowAt place
 bears-pid kind pid p e = shown kind pid p e .pid-row
 
 -- so it is unfit for a slot
 pub not-good : (kind : Kind) (pid : ℕ) (p : List ℕ) → unfit pid p ≡ false → readRefusal kind pid p ≡ 0 → ⊥
 unfolding unfit
 not-good kind pid p e r =
-    true≢false (sym (eq-eqb (startValue p 2) pid (bears-pid kind pid p r)) ∙ neither (not (eqb (startValue p 0) syncByte)) (eqb (startValue p 2) pid) e .1)
+    true≢false (sym (eq-eqb (startValue p Field.header-pid) pid (bears-pid kind pid p r)) ∙ neither (not (eqb (startValue p Field.sync-byte) syncByte)) (eqb (startValue p Field.header-pid) pid) e .1)

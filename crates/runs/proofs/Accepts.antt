@@ -1,7 +1,7 @@
 -- A run that is not refused: one frame after another with the same setting, each with one packet placed. Assumes nothing.
 use Prim.Native.Nat.{ℕ, zero, suc, _+_, _*_, _%_, _^_, _<_}
 use mathlib.Core.Path.{_≡_, refl, sym, ap, ap₂, subst, _∙_}
-use mathlib.Core.Bool.{Bool, true, false, not, _&&_, _||_}
+use mathlib.Core.Bool.{Bool, true, false, not, _&&_, _||_, decide}
 use mathlib.Core.List.{List, [], _∷_, _++_}
 use native.Mathlib.Omega.{arith}
 use borrow.Author.Tests.{lt-leb}
@@ -19,7 +19,7 @@ use Rattle.refusal_table.proofs.Refusals.{first-none, none-append}
 use Rattle.rules.proofs.Checked.{width-none, rule-none}
 use Rattle.rules.proofs.Fields.{fit-some}
 use Rattle.layout.specs.Rows.{place, rowAt}
-use Rattle.layout.specs.Layout.{startRows}
+use Rattle.layout.specs.Layout.{startTable, numberOf}
 use Rattle.composer_state.specs.declared.Composer.{Composer}
 use Rattle.packet.specs.Packets.{packetLength, frameLength, unfit}
 use Rattle.composer_state.specs.Slots.{marksAfter, someUnfit, someUnplanned}
@@ -125,7 +125,7 @@ unfolding someUnplanned anyBelow
 unplanned-one = refl
 
 fit-packet : unfit thePid thePacket ≡ false
-unfolding thePacket unfit startRows rowAt place cut run bitsOf number
+unfolding thePacket unfit startTable numberOf decide rowAt place cut run bitsOf number
 fit-packet = refl
 
 all-fit : someUnfit thePid 1 plan noMarks thePacket ≡ false

@@ -12,7 +12,7 @@ use Rattle.bits.specs.Fields.{Fit}
 use Rattle.bits.proofs.Laws.{fit-of}
 use Rattle.refusal_table.specs.Refusal.{firstOf}
 use Rattle.refusal_table.proofs.Refusals.{answers, passed}
-use Rattle.layout.specs.Layout.{syncByte}
+use Rattle.layout.specs.Layout.{syncByte, Field}
 use Rattle.layout.specs.Header.{startValue}
 use Rattle.layout.proofs.Packet.{differs, agrees, sync-byte, header-pid}
 use Rattle.packet.specs.Packets.{unfit, placeRefusal}
@@ -41,11 +41,11 @@ module _ (c : tie.After-shared-slice-known) where
   low-bits : (a b : ℕ) → b < 256 → (a * 256 + b) % 8192 ≡ a % 32 * 256 + b
   low-bits a b h = omega arith
 
-  its-pid : startValue packet 2 ≡ getD packet 1 0 % 32 * 256 + getD packet 2 0
+  its-pid : startValue packet Field.header-pid ≡ getD packet 1 0 % 32 * 256 + getD packet 2 0
   its-pid = header-pid packet bytes (c .before .if1 .left) ∙ low-bits (getD packet 1 0) (getD packet 2 0) (byte 2)
 
 -- with 0x47 it is unfit by its PID alone
-by-pid : (c : tie.Else2) {b : Bool} → eqb (startValue (packet (c .before)) 2) (pid (c .before)) ≡ b → unfit (pid (c .before)) (packet (c .before)) ≡ b
+by-pid : (c : tie.Else2) {b : Bool} → eqb (startValue (packet (c .before)) Field.header-pid) (pid (c .before)) ≡ b → unfit (pid (c .before)) (packet (c .before)) ≡ b
 unfolding unfit
 by-pid c e =
     let k = c .before in
@@ -63,7 +63,7 @@ unfolding unfit
 returns-2 c =
     let k = c .before in
     sym (past₁ k
-    ∙ answers 12 [] (ap (λ (b : Bool). b || eqb (startValue (packet k) 2) (pid k)) (differs syncByte (sync-byte (packet k) (bytes k) (k .before .if1 .left)) (c .if2 .taken))))
+    ∙ answers 12 [] (ap (λ (b : Bool). b || eqb (startValue (packet k) Field.header-pid) (pid k)) (differs syncByte (sync-byte (packet k) (bytes k) (k .before .if1 .left)) (c .if2 .taken))))
 
 shared-slice-read-if3 : tie.Need-shared-slice-read-if3
 shared-slice-read-if3 c = search needs

@@ -11,7 +11,7 @@ use Rattle.bits.proofs.Laws.{fit-of}
 use Rattle.crc.specs.Crc.{registerOf}
 use Rattle.refusal_table.specs.Refusal.{Check, firstOf}
 use Rattle.refusal_table.proofs.Refusals.{Past, answers, passed}
-use Rattle.layout.specs.Layout.{syncByte, tsmfSync}
+use Rattle.layout.specs.Layout.{syncByte, tsmfSync, Field}
 use Rattle.layout.specs.Header.{startValue, packetChecks}
 use Rattle.layout.proofs.Packet.{differs, agrees, first-differs, second-differs, both-agree, sync-byte, zeros, header-pid, one, tsmf-sync}
 use Rattle.header_checks.proofs.parts.packet_refusal.Statement.{statement}
@@ -111,7 +111,7 @@ returns-4 : tie.Need-returns-4
 unfolding packetChecks
 returns-4 c =
     let k = known₃ (c .before .before) in
-    sym (past₂ (c .before .before .before .before) ∙ answers 5 _ (second-differs 1 (eqb (startValue (packet k) 1) 0) (one (packet k) (bytes k) (k .before .pre)) (c .if4 .taken)))
+    sym (past₂ (c .before .before .before .before) ∙ answers 5 _ (second-differs 1 (eqb (startValue (packet k) Field.zeros) 0) (one (packet k) (bytes k) (k .before .pre)) (c .if4 .taken)))
 
 word-at-requires-2 : tie.Need-word-at-requires-2
 word-at-requires-2 c κs = omega arith

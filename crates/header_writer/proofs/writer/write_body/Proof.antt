@@ -160,8 +160,8 @@ returns c =
     body-parts (s .args .kind) (s .args .pid) (s .args .s) (s .args .part .now) _ _ _ _ _ (s .pre .0 .0)
     (nine first) (sixty identifiers) (four control) (twenty-six numbers)
     (private .write-private .kept .0 ∙ mid-len 99 184 (after₄ numbers) (omega (arith, whole₄ numbers)))
-    (first .write-start .ensures) (identifiers .write-identifiers .ensures) (control .write-control .ensures)
-    (numbers .write-halves .ensures) (private .write-private .ensures)
+    (first .write-start .ensures) (identifiers .write-identifiers .ensures) (control .write-control .ensures (s .args .pid))
+    (numbers .write-halves .ensures) (private .write-private .ensures (s .args .pid))
 
 pub write-body-spec : {M : Type 1} → statement M
 write-body-spec =

@@ -53,12 +53,12 @@ same-length : tie.Need-same-length
 same-length c = search needs
 
 returns : tie.Need-returns
-returns c =
+returns c pid =
     let start = c .before .before .before .before .before .before .before .before in
     let call = c .before .before .before .write-run in
     let n = statuses start in
     let left : length (start .args .s .«receive_status») * 2 % 8 ≡ 6 = omega arith in
-    control-bits (start .args .s) (call .last .0) (start .args .part .now) (call .result) (call .kept .0 ∙ length-take-le 3 (start .args .part .now) (omega (arith, start .pre)))
+    control-bits pid (start .args .s) (call .last .0) (start .args .part .now) (call .result) (call .kept .0 ∙ length-take-le 3 (start .args .part .now) (omega (arith, start .pre)))
     (start .pre .0) (start .pre .1 .emergency) (rw left at (call .ensures))
 
 pub write-control-spec : {M : Type 1} → statement M

@@ -65,13 +65,13 @@ same-length c = omega arith
 
 returns : tie.Need-returns
 unfolding bondingChecks
-returns c =
+returns c pid =
     let filled = c .before .before in
     let bonded = filled .before .before .before .before in
     let copied = bonded .before .before .before .before in
     let start = copied .before .before .before .before .before in
     let part = start .args .part .now in
-    extended-parts (start .args .s) part _ _ _ (start .pre .0) (auxiliaries start)
+    extended-parts pid (start .args .s) part _ _ _ (start .pre .0) (auxiliaries start)
     (copied .copy .ensures ∙ copied-all (take 28 part) (start .args .s .auxiliary) (length-take-le 28 part (omega arith) ∙ sym (auxiliaries start)))
     (bonded .write-bonding .ensures)
     (filled .fill .ensures)
