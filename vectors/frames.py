@@ -25,7 +25,7 @@ def header(counter, numbers):
     bits += f"{0:03b}{0:01b}{1:04b}" + "11".ljust(15, "0") + "1"  # version, allocation type, frame type, availability, reserved
     for stream in range(1, 16):
         bits += f"{stream if stream < 3 else 0:016b}{0x7FE0 if stream < 3 else 0:016b}"
-    bits += "00" * 15 + "0" + "1"  # statuses, emergency, reserved
+    bits += "00" * 15 + "1" + "0"  # statuses, reserved, emergency
     bits += "".join(f"{n:04b}" for n in numbers)
     data = int(bits, 2).to_bytes(len(bits) // 8, "big") + bytes(85)
     return data + crc(data[4:]).to_bytes(4, "big")

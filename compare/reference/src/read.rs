@@ -37,7 +37,7 @@ fn fields(packet: &[u8; PACKET_BYTES], kind: Kind) -> Setting {
         slot_allocation_type: packet[6] >> 4 & 1,
         frame_type: packet[6] & 0x0F,
         availability: sixteen(packet, 7) >> 1,
-        emergency_indicator: packet[CONTROL.end - 1] >> 1 & 1,
+        emergency_indicator: packet[CONTROL.end - 1] & 1,
         ..Setting::ZEROS
     };
     identifiers(&packet[IDENTIFIERS], &mut setting);

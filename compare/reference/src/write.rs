@@ -60,11 +60,11 @@ fn identifiers(bytes: &mut [u8], setting: &Setting) {
     }
 }
 
-/// Two bits for each stream, emergency_indicator, and one reserved bit.
+/// Two bits for each stream, one reserved bit, and emergency_indicator.
 fn control(setting: &Setting) -> u32 {
     let statuses = setting.receive_status.iter();
     let statuses = statuses.fold(0, |bits, &status| bits << 2 | u32::from(status));
-    statuses << 2 | u32::from(setting.emergency_indicator) << 1 | 1
+    statuses << 2 | 0b10 | u32::from(setting.emergency_indicator)
 }
 
 fn slot_numbers(bytes: &mut [u8], setting: &Setting) {

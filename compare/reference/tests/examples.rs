@@ -65,7 +65,7 @@ fn seven_last_status_and_emergency() {
             s.emergency_indicator = emergency;
         })[72]
     };
-    assert_eq!((of(0), of(1)), (0x0D, 0x0F));
+    assert_eq!((of(0), of(1)), (0x0E, 0x0F));
 }
 
 #[test]

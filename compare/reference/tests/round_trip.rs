@@ -62,13 +62,30 @@ fn reserved_bits_are_ignored() {
         let mut packet = header(kind, &setting);
         packet[4] &= 0x1F;
         packet[8] &= 0xFE;
-        packet[72] &= 0xFE;
+        packet[72] &= 0xFD;
         if kind == Kind::Extended {
             packet[131..184].fill(0);
         }
         assert_eq!(read(&packet, PID, kind), Err(7));
         make_crc_right(&mut packet);
         assert_eq!(read(&packet, PID, kind), Ok(setting));
+    }
+}
+
+/// The bit before it is reserved: written as 1, and read as either.
+#[test]
+fn emergency_is_the_last_bit_of_byte_72() {
+    let mut random = Random(4);
+    for kind in KINDS {
+        let mut setting = good(&mut random, kind);
+        let mut packet = header(kind, &setting);
+        for last in 0..4 {
+            packet[72] = packet[72] & 0xFC | last;
+            make_crc_right(&mut packet);
+            setting.emergency_indicator = last & 1;
+            assert_eq!(read(&packet, PID, kind).as_ref(), Ok(&setting));
+            assert_eq!(header(kind, &setting)[72], packet[72] | 2);
+        }
     }
 }
 

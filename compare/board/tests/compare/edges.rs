@@ -1,9 +1,10 @@
 //! Every call with all lengths around the fixed ones and all numbers around
 //! the ends of their ranges, each with each.
 
+use crate::draw::faults::make_crc_right;
 use crate::draw::groups::{group, Group};
 use crate::draw::packets::{frames, stream};
-use crate::draw::{good, lengths, plan, resized, KINDS, KIND_BYTES, PIDS};
+use crate::draw::{good, lengths, lent_setting, plan, resized, KINDS, KIND_BYTES, PIDS};
 use board::coding::{
     composer_bytes, kind_byte, receiver_bytes, setting_bytes, COMPOSER_BYTES, RECEIVER_BYTES,
     SETTING_BYTES,
@@ -21,6 +22,7 @@ const STREAMS: [usize; 7] = [0, 1, 187, 188, 189, 376, 9776];
 pub fn round(judge: &mut Judge, random: &mut Random) {
     for kind in KINDS {
         settings(judge, random, kind);
+        emergency(judge, random, kind);
         composers(judge, random, kind);
         receivers(judge, random, kind);
     }
@@ -44,6 +46,31 @@ fn settings(judge: &mut Judge, random: &mut Random, kind: Kind) {
             }
         }
         judge.setting_blank(&mut setting);
+    }
+}
+
+/// Both values of emergency_indicator, the last bit of byte 72, are written, and
+/// each is read with the reserved bit before it at 0 and at 1.
+fn emergency(judge: &mut Judge, random: &mut Random, kind: Kind) {
+    let (pid, number) = (0x1FF0, kind_byte(kind));
+    let mut setting = good(random, kind);
+    for bit in [0, 1] {
+        setting.emergency_indicator = bit;
+        let mut setting = lent_setting(&setting);
+        let mut packet = Lent::new(&random.bytes(PACKET_BYTES));
+        let refusal = judge.header_write(&mut packet, pid, number, &mut setting);
+        assert_eq!(refusal, 0, "a good setting is written");
+        assert_eq!(packet.bytes()[72] & 3, 2 | bit);
+        for reserved in [0, 2] {
+            packet.change(|bytes| {
+                bytes[72] = bytes[72] & 0xFD | reserved;
+                make_crc_right(bytes);
+            });
+            let mut read = Lent::new(&random.bytes(SETTING_BYTES));
+            let refusal = judge.header_read(&mut packet, pid, number, &mut read);
+            assert_eq!(refusal, 0, "reserved bits are ignored");
+            assert_eq!(read.bytes(), setting.bytes());
+        }
     }
 }
 

@@ -25,7 +25,7 @@ const SYNC_BITS: [(usize, u8); 13] = [
 #[rustfmt::skip]
 const CRC_BITS: [(usize, u8); 13] = [
     (4, 0x80), (6, 0x20), (6, 0x02), (8, 0x01), (9, 0x40), (68, 0x01), (69, 0x80),
-    (72, 0x01), (73, 0x10), (99, 0x01), (183, 0x04), (184, 0x80), (187, 0x01),
+    (72, 0x02), (73, 0x10), (99, 0x01), (183, 0x04), (184, 0x80), (187, 0x01),
 ];
 const FRAME_TYPES: [u8; 5] = [0, 2, 3, 9, 15];
 /// Byte, and which half of it names a stream that is not available.

@@ -116,8 +116,8 @@ fn clear_reserved_bits(packet: &mut Packet, variety: usize) {
     let kept = [
         [0x1F, 0xFF, 0xFF],
         [0xFF, 0xFE, 0xFF],
-        [0xFF, 0xFF, 0xFE],
-        [0x1F, 0xFE, 0xFE],
+        [0xFF, 0xFF, 0xFD],
+        [0x1F, 0xFE, 0xFD],
     ];
     let [sync, availability, control] = kept[variety % 4];
     packet[4] &= sync;
