@@ -21,8 +21,8 @@ use Rattle.rules.proofs.Fields.{fit-some}
 use Rattle.refusal_table.proofs.Refusals.{first-none, none-at, none-append, none-behind}
 use Rattle.header_reader.specs.declared.Reading.{Reading}
 use Rattle.layout.specs.Rows.{place, rowAt}
-use Rattle.layout.specs.Layout.{layout}
-use Rattle.layout.specs.Header.{paired, firsts, seconds, content, headerLength, header, row, reading, packetChecks}
+use Rattle.layout.specs.Layout.{Field, table, layout, numberOf}
+use Rattle.layout.specs.Header.{paired, firsts, seconds, content, headerLength, header, values, value, reading, packetChecks}
 use Rattle.header_writer.specs.Writing.{written}
 use Rattle.header_checks.specs.Checking.{readRefusal}
 use Rattle.header_reader.specs.Reader.{readOf}
@@ -70,26 +70,29 @@ record SamePrivate (r s : Setting) : Type 0 where
   position : r .«frame_position» .0 ≡ s .«frame_position» .0
 
 module _ (kind : Kind) (pid : ℕ) (s : Setting) (t : OfItsTypes s) (m : MeetsRules kind pid s) where
-  row-back : (k : ℕ) → k < length (layout kind) → row kind (header kind pid s) k ≡ getD (content kind pid s) k []
-  row-back = row-header kind pid s (suits kind pid s t m)
+  -- the values in the row that holds a field, and the one value
+  row-back : (f : Field) → numberOf f (table kind) < length (layout kind)
+      → values kind (header kind pid s) f ≡ getD (content kind pid s) (numberOf f (table kind)) []
+  row-back f h = row-header kind pid s (suits kind pid s t m) (numberOf f (table kind)) h
 
-  value-back : (k : ℕ) → k < length (layout kind) → getD (row kind (header kind pid s) k) 0 0 ≡ getD (getD (content kind pid s) k []) 0 0
-  value-back k h = ap (λ (l : List ℕ). getD l 0 0) (row-back k h)
+  value-back : (f : Field) → numberOf f (table kind) < length (layout kind)
+      → value kind (header kind pid s) f ≡ getD (getD (content kind pid s) (numberOf f (table kind)) []) 0 0
+  value-back f h = ap (λ (l : List ℕ). getD l 0 0) (row-back f h)
 
   reading-back : SamePrivate (reading kind (header kind pid s)) s → reading kind (header kind pid s) ≡ s
   unfolding laid-out reading
   reading-back private =
       λ i. record {
-        «continuity_counter» = value-back 4 (omega arith) i;
-        «version_number» = value-back 7 (omega arith) i;
-        «slot_allocation_type» = value-back 8 (omega arith) i;
-        «frame_type» = value-back 9 (omega arith) i;
-        availability = value-back 10 (omega arith) i;
-        «ts_id» = (ap firsts (row-back 12 (omega arith)) ∙ firsts-paired (s .«ts_id») (s .«original_network_id») same-count) i;
-        «original_network_id» = (ap seconds (row-back 12 (omega arith)) ∙ seconds-paired (s .«ts_id») (s .«original_network_id») same-count) i;
-        «receive_status» = row-back 13 (omega arith) i;
-        «emergency_indicator» = value-back 14 (omega arith) i;
-        «relative_ts_number» = row-back 16 (omega arith) i;
+        «continuity_counter» = value-back Field.counter (omega arith) i;
+        «version_number» = value-back Field.version (omega arith) i;
+        «slot_allocation_type» = value-back Field.slot-type (omega arith) i;
+        «frame_type» = value-back Field.frame-type (omega arith) i;
+        availability = value-back Field.streams (omega arith) i;
+        «ts_id» = (ap firsts (row-back Field.identifiers (omega arith)) ∙ firsts-paired (s .«ts_id») (s .«original_network_id») same-count) i;
+        «original_network_id» = (ap seconds (row-back Field.identifiers (omega arith)) ∙ seconds-paired (s .«ts_id») (s .«original_network_id») same-count) i;
+        «receive_status» = row-back Field.statuses (omega arith) i;
+        «emergency_indicator» = value-back Field.emergency (omega arith) i;
+        «relative_ts_number» = row-back Field.numbers (omega arith) i;
         «private_data» = private .privates i;
         auxiliary = private .auxiliaries i;
         «group_id» = private .group i;
@@ -106,7 +109,7 @@ private-back : (kind : Kind) (pid : ℕ) (s : Setting) → OfItsTypes s → Meet
 unfolding laid-out reading widthChecks absentChecks
 private-back Kind.Plain pid s t m =
     record {
-      privates = row-back Kind.Plain pid s t m 17 (lit< tt);
+      privates = row-back Kind.Plain pid s t m Field.privates (lit< tt);
       auxiliaries = absent-list auxiliaryBytes (s .auxiliary) (t .auxiliaries .0) (none-at (m .fields) 8);
       group = absent (s .«group_id») (none-at (m .fields) 9);
       carriers = absent (s .«number_of_carriers») (none-at (m .fields) 10);
@@ -117,12 +120,12 @@ private-back Kind.Plain pid s t m =
 private-back Kind.Extended pid s t m =
     record {
       privates = absent-list privateBytes (s .«private_data») (t .privates .0) (none-at (m .fields) 8);
-      auxiliaries = row-back Kind.Extended pid s t m 17 (lit< tt);
-      group = value-back Kind.Extended pid s t m 18 (lit< tt);
-      carriers = value-back Kind.Extended pid s t m 19 (lit< tt);
-      sequence = value-back Kind.Extended pid s t m 20 (lit< tt);
-      frames = value-back Kind.Extended pid s t m 21 (lit< tt);
-      position = value-back Kind.Extended pid s t m 22 (lit< tt);
+      auxiliaries = row-back Kind.Extended pid s t m Field.auxiliary (lit< tt);
+      group = value-back Kind.Extended pid s t m Field.group (lit< tt);
+      carriers = value-back Kind.Extended pid s t m Field.carriers (lit< tt);
+      sequence = value-back Kind.Extended pid s t m Field.sequence (lit< tt);
+      frames = value-back Kind.Extended pid s t m Field.frames (lit< tt);
+      position = value-back Kind.Extended pid s t m Field.position (lit< tt);
     }
 
 -- ---- the answers
@@ -134,14 +137,15 @@ module _ (kind : Kind) (pid : ℕ) (s : Setting) (t : OfItsTypes s) (m : MeetsRu
   packet-none : NoneHolds (packetChecks pid (header kind pid s))
   unfolding laid-out packetChecks rowAt place
   packet-none =
-      more (ap not (shown 0 (omega arith)))
-      (more (ap not (shown 2 (omega arith)))
-      (more (ap₂ (λ (x y : Bool). not (x && y)) (shown 1 (omega arith)) (shown 3 (omega arith)))
-      (more (ap not (shown 6 (omega arith)))
+      more (ap not (shown Field.sync-byte (omega arith)))
+      (more (ap not (shown Field.header-pid (omega arith)))
+      (more (ap₂ (λ (x y : Bool). not (x && y)) (shown Field.zeros (omega arith)) (shown Field.payload (omega arith)))
+      (more (ap not (shown Field.tsmf-sync (omega arith)))
       (more (ap not (eq-eqb (registerOf (drop 4 (header kind pid s))) 0 (register-header kind pid s (suits kind pid s t m)))) none))))
     where
-      shown : (k : ℕ) → k < length (layout kind) → eqb (getD (row kind (header kind pid s) k) 0 0) (getD (getD (content kind pid s) k []) 0 0) ≡ true
-      shown k h = eq-eqb (getD (row kind (header kind pid s) k) 0 0) (getD (getD (content kind pid s) k []) 0 0) (value-back kind pid s t m k h)
+      shown : (f : Field) → numberOf f (table kind) < length (layout kind)
+          → eqb (value kind (header kind pid s) f) (getD (getD (content kind pid s) (numberOf f (table kind)) []) 0 0) ≡ true
+      shown f h = eq-eqb (value kind (header kind pid s) f) (getD (getD (content kind pid s) (numberOf f (table kind)) []) 0 0) (value-back kind pid s t m f h)
 
   read-back : readRefusal kind pid (header kind pid s) ≡ 0
   unfolding readRefusal

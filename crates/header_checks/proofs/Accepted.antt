@@ -5,7 +5,7 @@ use mathlib.Core.Bool.{true, false}
 use mathlib.Core.List.{List, _++_}
 use native.Mathlib.Omega.{arith}
 use lib.Dec.{lit<, leb, eqb}
-use lib.ListN.{length, getD, drop, replicate}
+use lib.ListN.{length, drop, replicate}
 use borrow.Author.Tests.{lt-leb, eqb-true, not-false}
 use Rattle.bits.specs.Fields.{run}
 use Rattle.bits.proofs.Laws.{fit-run, fit-getD, length-run}
@@ -19,8 +19,8 @@ use Rattle.rules.specs.Rules.{pidAllowed, absentChecks, absentOf, widthChecks, 
 use Rattle.rules.proofs.Fields.{some-fit}
 use Rattle.refusal_table.proofs.Refusals.{numbered, none-first, none-at, none-append, none-behind}
 use Rattle.layout.specs.Rows.{place, rowAt}
-use Rattle.layout.specs.Layout.{syncByte, tsmfSync, Field, layout}
-use Rattle.layout.specs.Header.{headerLength, row, value, reading, callChecks, packetChecks}
+use Rattle.layout.specs.Layout.{syncByte, tsmfSync, Field, table, layout, numberOf}
+use Rattle.layout.specs.Header.{headerLength, row, values, value, reading, callChecks, packetChecks}
 use Rattle.header_checks.specs.Checking.{readRefusal}
 use Rattle.layout.specs.Meets.{MeetsRules}
 use Rattle.layout.proofs.Rows.{size, rowOf, Fills, row-fills}
@@ -84,11 +84,16 @@ module _ (kind : Kind) (pid : ℕ) (p : List ℕ) (a : Shown kind pid p) where
       record {
         pid-allowed = a .allowed;
         fields =
-            none-append (more (narrow 4 (omega arith)) (more (narrow 7 (omega arith)) (more (narrow 8 (omega arith)) (more (narrow 9 (omega arith))
-            (more (narrow 10 (omega arith))
-            (more (some-fit 2 (row kind p 13) (row-filled 13 (omega arith) .1)) (more (narrow 14 (omega arith))
-            (more (some-fit 4 (row kind p 16) (row-filled 16 (omega arith) .1)) (absent-none kind p))))))))) (a .rules);
+            none-append (more (narrow Field.counter (omega arith)) (more (narrow Field.version (omega arith)) (more (narrow Field.slot-type (omega arith)) (more (narrow Field.frame-type (omega arith))
+            (more (narrow Field.streams (omega arith))
+            (more (some-fit 2 (values kind p Field.statuses) (filled Field.statuses (omega arith) .1)) (more (narrow Field.emergency (omega arith))
+            (more (some-fit 4 (values kind p Field.numbers) (filled Field.numbers (omega arith) .1)) (absent-none kind p))))))))) (a .rules);
       }
     where
-      narrow : (k : ℕ) → k < length (layout kind) → leb (2 ^ (rowOf (layout kind) k .0)) (getD (row kind p k) 0 0) ≡ false
-      narrow k h = lt-leb (2 ^ (rowOf (layout kind) k .0)) (getD (row kind p k) 0 0) (fit-getD (row-filled k h .1) 0)
+      filled : (f : Field) → numberOf f (table kind) < length (layout kind)
+          → Fills (rowOf (layout kind) (numberOf f (table kind))) (values kind p f)
+      filled f h = row-filled (numberOf f (table kind)) h
+
+      narrow : (f : Field) → numberOf f (table kind) < length (layout kind)
+          → leb (2 ^ (rowOf (layout kind) (numberOf f (table kind)) .0)) (value kind p f) ≡ false
+      narrow f h = lt-leb (2 ^ (rowOf (layout kind) (numberOf f (table kind)) .0)) (value kind p f) (fit-getD (filled f h .1) 0)
