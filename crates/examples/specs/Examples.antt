@@ -117,7 +117,7 @@ examples =
     ∷ record { number = 4; said = bytes first 1 3; written = 0x1F ∷ 0xF0 ∷ 0x19 ∷ [] }
     ∷ record { number = 5; said = bytes first 65 2; written = 0xAB ∷ 0xCD ∷ [] }
     ∷ record { number = 6; said = bytes first 69 1; written = 0x90 ∷ [] }
-    ∷ record { number = 7; said = bytes (second 0) 72 1 ++ bytes (second 1) 72 1; written = 0x0D ∷ 0x0F ∷ [] }
+    ∷ record { number = 7; said = bytes (second 0) 72 1 ++ bytes (second 1) 72 1; written = 0x0E ∷ 0x0F ∷ [] }
     ∷ record { number = 8; said = bytes first 73 1 ++ bytes first 98 1; written = 0x3C ∷ 0x09 ∷ [] }
     ∷ record { number = 9; said = nextAfter 15 7; written = 0 ∷ 0 ∷ [] }
     ∷ record {

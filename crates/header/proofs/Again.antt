@@ -62,8 +62,8 @@ module _ (kind : Kind) (pid : ℕ) (p : List ℕ) (a : Shown kind pid p) where
       (next (reserved refl refl)
       (next (kept (halves (row kind p 12) lastStream (row-filled kind pid p a 12 (omega arith) .0)))
       (next (kept refl)
-      (next (kept (sole 14 (omega arith) refl))
       (next (reserved refl refl)
+      (next (kept (sole 15 (omega arith) refl))
       (next (kept refl) behind))))))))))))))))
 
 private-rows : (kind : Kind) (pid : ℕ) (p : List ℕ) → Shown kind pid p → Each (Stands kind pid p) (length (layout kind)) 17

@@ -50,7 +50,7 @@ fn fields_of(packet: &[u8]) -> Fields
         version_number: types / 32,
         slot_allocation_type: types / 16 % 2,
         frame_type: types % 16,
-        emergency_indicator: packet[layout::CONTROL + layout::CONTROL_LAST] / 2 % 2,
+        emergency_indicator: packet[layout::CONTROL + layout::CONTROL_LAST] % 2,
     }
 }
 

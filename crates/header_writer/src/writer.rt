@@ -54,7 +54,7 @@ fn write_identifiers(part: &mut [u8], ts: &[u16], os: &[u16])
     }
 }
 
-// The statuses, and in the last byte behind them the emergency bit and a reserved one.
+// The statuses, and in the last byte behind them a reserved bit and the emergency bit.
 fn write_control(part: &mut [u8], s: Setting)
     requires { ⌜ length (now part) ≡ 4 ⌝ }
     requires { ⌜ Narrow s ⌝ }
@@ -62,7 +62,7 @@ fn write_control(part: &mut [u8], s: Setting)
 {
     let receive_status = s.receive_status;
     let left = packed::write_run(&mut part[0..layout::CONTROL_LAST], &receive_status, 2);
-    part[layout::CONTROL_LAST] = (left % 64 * 4) as u8 + s.emergency_indicator * 2 + 1;
+    part[layout::CONTROL_LAST] = ((left % 64 * 2) as u8 + 1) * 2 + s.emergency_indicator;
 }
 
 // The bonding fields of an extended header.

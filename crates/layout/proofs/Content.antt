@@ -55,7 +55,7 @@ module _ (kind : Kind) (pid : ℕ) (s : Setting) (t : OfItsTypes s) (m : MeetsRu
       (next (fills-one (narrow .version)) (next (fills-one (narrow .slot-type)) (next (fills-one (narrow .frame-type))
       (next (fills-one (narrow .streams)) (next (fills-one (lit< tt))
       (next (length-paired (s .«ts_id») (s .«original_network_id») lastStream (t .ts-id .0) (t .network-id .0), fit-paired (t .ts-id .1) (t .network-id .1))
-      (next (t .statuses .0, narrow .statuses) (next (fills-one (narrow .emergency)) (next (fills-one (lit< tt))
+      (next (t .statuses .0, narrow .statuses) (next (fills-one (lit< tt)) (next (fills-one (narrow .emergency))
       (next (t .numbers .0, narrow .numbers) behind))))))))))))))))
     where
       pid-fits : pid < 2 ^ 13

@@ -14,12 +14,11 @@ use Rattle.layout.specs.Rows.{pack}
 use Rattle.layout.specs.Layout.{controlTable}
 use Rattle.layout.specs.Header.{held, packed}
 
--- the last byte: six bits of statuses, the emergency bit and a reserved one
-last-byte : (left e : ℕ) → e < 2 → bitsOf 8 (left % 64 * 4 + e * 2 + 1) ≡ bitsOf 6 left ++ (bitsOf 1 e ++ bitsOf 1 1)
+-- the last byte: six bits of statuses, a reserved bit and the emergency bit
+last-byte : (left e : ℕ) → e < 2 → bitsOf 8 ((left % 64 * 2 + 1) * 2 + e) ≡ bitsOf 6 left ++ (bitsOf 1 1 ++ bitsOf 1 e)
 last-byte left e h =
-    ap (bitsOf 8) (omega arith)
-    ∙ sym (bitsOf-join 7 1 (left % 64 * 2 ^ 1 + e) (lit< tt)) ∙ ap (λ (l : List ℕ). l ++ bitsOf 1 1) (sym (bitsOf-join 6 1 (left % 64) h))
-    ∙ append-assoc (bitsOf 6 (left % 64)) (bitsOf 1 e) (bitsOf 1 1) ∙ ap (λ (l : List ℕ). l ++ (bitsOf 1 e ++ bitsOf 1 1)) (bitsOf-mod 6 0 left)
+    sym (bitsOf-join 7 1 (left % 64 * 2 ^ 1 + 1) h) ∙ ap (λ (l : List ℕ). l ++ bitsOf 1 e) (sym (bitsOf-join 6 1 (left % 64) (lit< tt)))
+    ∙ append-assoc (bitsOf 6 (left % 64)) (bitsOf 1 1) (bitsOf 1 e) ∙ ap (λ (l : List ℕ). l ++ (bitsOf 1 1 ++ bitsOf 1 e)) (bitsOf-mod 6 0 left)
 
 -- one store behind three bytes, of four
 behind : (ys l : List ℕ) (b : ℕ) → length ys ≡ 3 → length l ≡ 4 → set (ys ++ drop 3 l) 3 b ≡ ys ++ (b ∷ [])
@@ -31,12 +30,12 @@ behind ys l b e f =
 
 pub control-bits : (pid : ℕ) (s : Setting) (ys l : List ℕ) (left : ℕ) → length ys ≡ 3 → length l ≡ 4 → s .«emergency_indicator» < 2
     → run 8 ys ++ bitsOf 6 left ≡ run 2 (s .«receive_status»)
-    → run 8 (set (ys ++ drop 3 l) 3 (left % 64 * 4 + s .«emergency_indicator» * 2 + 1)) ≡ packed pid s controlTable
+    → run 8 (set (ys ++ drop 3 l) 3 ((left % 64 * 2 + 1) * 2 + s .«emergency_indicator»)) ≡ packed pid s controlTable
 unfolding packed pack controlTable held
 control-bits pid s ys l left e f h same =
     let em = s .«emergency_indicator» in
-    let b = left % 64 * 4 + em * 2 + 1 in
+    let b = (left % 64 * 2 + 1) * 2 + em in
     ap (run 8) (behind ys l b e f) ∙ run-append 8 ys (b ∷ []) ∙ ap (λ (r : List ℕ). run 8 ys ++ r) (run-one 8 b ∙ last-byte left em h)
-    ∙ sym (append-assoc (run 8 ys) (bitsOf 6 left) (bitsOf 1 em ++ bitsOf 1 1))
+    ∙ sym (append-assoc (run 8 ys) (bitsOf 6 left) (bitsOf 1 1 ++ bitsOf 1 em))
     ∙ ap₂ (λ (x y : List ℕ). x ++ y) same
-    (ap₂ (λ (x y : List ℕ). x ++ y) (sym (run-one 1 em)) (sym (append-nil (run 1 (1 ∷ [])) ∙ run-one 1 1)))
+    (ap₂ (λ (x y : List ℕ). x ++ y) (sym (run-one 1 1)) (sym (append-nil (run 1 (em ∷ [])) ∙ run-one 1 em)))

@@ -65,7 +65,7 @@ module _ (p : List ℕ) (f : Fit 8 p) (h : length p ≡ headerLength) where
       × (getD p 6 0 / 16 % 2 ≡ reading Kind.Plain p .«slot_allocation_type»)
       × (getD p 6 0 % 16 ≡ reading Kind.Plain p .«frame_type»)
       × (wordAt p 7 / 2 ≡ reading Kind.Plain p .availability)
-      × (getD p 72 0 / 2 % 2 ≡ reading Kind.Plain p .«emergency_indicator»)
+      × (getD p 72 0 % 2 ≡ reading Kind.Plain p .«emergency_indicator»)
   unfolding reading laid-out rowAt place cut
   fields-are = (
     sym (byte-field p 3 4 4 0 (omega arith) refl ∙ omega arith),
@@ -73,7 +73,7 @@ module _ (p : List ℕ) (f : Fit 8 p) (h : length p ≡ headerLength) where
     sym (byte-field p 6 3 1 4 (omega arith) refl),
     sym (byte-field p 6 4 4 0 (omega arith) refl ∙ omega arith),
     sym (word-field p 7 0 15 1 f (omega arith) refl ∙ omega (arith, fit-getD f 7, fit-getD f 8)),
-    sym (byte-field p 72 6 1 1 (omega arith) refl),
+    sym (byte-field p 72 7 1 0 (omega arith) refl ∙ omega arith),
   )
 
   pub numbers-are : cut 4 52 (run 8 (take 26 (drop 73 p))) ≡ reading Kind.Plain p .«relative_ts_number»

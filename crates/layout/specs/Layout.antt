@@ -43,9 +43,9 @@ startTable =
 unfoldable pub identifierTable : List Line
 identifierTable = (identifiers, (16, 2 * lastStream)) ∷ []
 
--- control_information, bytes 69 to 72: receive_status of each stream, and in the last two bits emergency_indicator
+-- control_information, bytes 69 to 72: receive_status of each stream; emergency_indicator is the last bit
 unfoldable pub controlTable : List Line
-controlTable = (statuses, (2, lastStream)) ∷ (emergency, (1, 1)) ∷ (reserved, (1, 1)) ∷ []
+controlTable = (statuses, (2, lastStream)) ∷ (reserved, (1, 1)) ∷ (emergency, (1, 1)) ∷ []
 
 -- relative_TS_information, bytes 73 to 98: relative_TS_number of each slot
 unfoldable pub numberTable : List Line

@@ -12,7 +12,7 @@ pub const TSMF_SYNC: usize = 4;
 pub const IDENTIFIERS: usize = 9;
 
 pub const CONTROL: usize = IDENTIFIERS + 4 * STREAMS;
-// The last byte of the control information, which holds the rest of the statuses, the emergency bit and a reserved one.
+// The last byte of the control information, which holds the rest of the statuses, a reserved bit and the emergency bit.
 pub const CONTROL_LAST: usize = STREAMS * 2 / 8;
 
 pub const NUMBERS: usize = CONTROL + CONTROL_LAST + 1;

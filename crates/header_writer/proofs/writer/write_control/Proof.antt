@@ -37,11 +37,11 @@ mul-part c = omega arith
 cast-part : tie.Need-cast-part
 cast-part c = omega arith
 
-mul-part-2 : tie.Need-mul-part-2
-mul-part-2 c = omega arith
-
 add-part : tie.Need-add-part
 add-part c = omega arith
+
+mul-part-2 : tie.Need-mul-part-2
+mul-part-2 c = omega arith
 
 add-part-2 : tie.Need-add-part-2
 add-part-2 c = omega arith
@@ -72,8 +72,8 @@ write-control-spec =
     write-run-requires
     mul-part
     cast-part
-    mul-part-2
     add-part
+    mul-part-2
     add-part-2
     slice-write-part
     same-length
