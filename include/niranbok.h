@@ -37,7 +37,11 @@ extern "C" {
 #define NIRANBOK_EXTENDED 1
 
 /* A setting: where each field starts. Every field may hold what its range below allows; the parts of
- * the other kind are zeros. */
+ * the other kind are zeros.
+ *
+ * In a header emergency_indicator is the last bit of byte 72, and the bit before it is reserved. Before
+ * request K1 the two stood the other way round. Headers that were written then have a one in the last
+ * bit, so emergency_indicator reads as 1 in each of them, whatever it was. */
 #define NIRANBOK_CONTINUITY_COUNTER 0    /* 1 byte */
 #define NIRANBOK_VERSION_NUMBER 1        /* 1 byte */
 #define NIRANBOK_SLOT_ALLOCATION_TYPE 2  /* 1 byte */

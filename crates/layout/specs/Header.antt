@@ -42,7 +42,7 @@ seconds (t ∷ o ∷ ids) = o ∷ seconds ids
 abbrev pub allOnes : Row → List ℕ
 allOnes r = replicate (r .1) (2 ^ r .0 - 1)
 
--- what stands in a row of a header by the field that it holds
+-- what stands in a line's row of the header that says a setting. Reserved bits are ones
 unfoldable pub held : ℕ → Setting → Line → List ℕ
 held pid s (Field.reserved, r) = allOnes r
 held pid s (Field.sync-byte, r) = one syncByte
@@ -67,7 +67,7 @@ held pid s (Field.sequence, r) = one (s .«carrier_sequence»)
 held pid s (Field.frames, r) = one (s .«number_of_frames»)
 held pid s (Field.position, r) = one (s .«frame_position» .0)
 
--- the bits of a part of the table
+-- the bits of some lines of the table, one row behind the other
 unfoldable pub packed : ℕ → Setting → List Line → List ℕ
 packed pid s lines = pack (rowsOf lines) (map (held pid s) lines)
 
@@ -84,16 +84,19 @@ unfoldable pub header : Kind → ℕ → Setting → List ℕ
 header kind pid s =
     cut 8 headerLength (body kind pid s ++ bitsOf 32 (registerFrom (2 ^ 32 - 1) (drop 32 (body kind pid s))))
 
--- what a packet says, read as a header: the values of row k, and those and the one value of the row that holds a field
+-- a packet read as a header: the values in row k
 abbrev pub row : Kind → List ℕ → ℕ → List ℕ
 row kind p k = rowAt (layout kind) k (run 8 p)
 
+-- the values in the row that holds a field
 abbrev pub values : Kind → List ℕ → Field → List ℕ
 values kind p f = row kind p (numberOf f (table kind))
 
+-- the one value in the row that holds a field
 abbrev pub value : Kind → List ℕ → Field → ℕ
 value kind p f = getD (values kind p f) 0 0
 
+-- what a packet says, read as a header. The parts that its kind does not have are zeros
 unfoldable pub reading : Kind → List ℕ → Setting
 reading kind p =
     record {

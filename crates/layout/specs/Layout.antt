@@ -7,17 +7,19 @@ use Rattle.counters.specs.Counters.{lastSlot, lastStream}
 use Rattle.setting.specs.Setting.{privateBytes, auxiliaryBytes}
 use Rattle.layout.specs.Rows.{Row}
 
--- sync_byte, TSMF_sync, and how many bytes of an extended header's private data are reserved, which are its last
+-- sync_byte
 abbrev pub syncByte : ℕ
 syncByte = 0x47
 
+-- TSMF_sync
 abbrev pub tsmfSync : ℕ
 tsmfSync = 0x1A86
 
+-- so many of an extended header's private bytes are reserved: the last ones
 abbrev pub reservedBytes : ℕ
 reservedBytes = 53
 
--- what a row can hold; `zeros` and `payload` are the bits 000 and 0001, `streams` is their availability
+-- what a row can hold. `zeros` and `payload` are the packet header's bits 000 and 0001, `streams` is the availability of the streams
 pub data Field : Type 0 where
   reserved : Field
   sync-byte zeros header-pid payload counter : Field
@@ -26,7 +28,7 @@ pub data Field : Type 0 where
   privates auxiliary group carriers sequence frames position : Field
   deriving Discrete as Field-discrete
 
--- a line of the table: what its row holds, and the row
+-- a line of the table: what the row holds, and the row: bits of a value, and how many values
 abbrev pub Line : Type 0
 Line = Field × Row
 
@@ -36,7 +38,7 @@ startTable =
     (sync-byte, (8, 1)) ∷ (zeros, (3, 1)) ∷ (header-pid, (13, 1)) ∷ (payload, (4, 1)) ∷ (counter, (4, 1))
     ∷ (reserved, (3, 1)) ∷ (tsmf-sync, (13, 1))
     ∷ (version, (3, 1)) ∷ (slot-type, (1, 1)) ∷ (frame-type, (4, 1))
-    -- stream 1 highest
+    -- stream 1 in the highest bit
     ∷ (streams, (lastStream, 1)) ∷ (reserved, (1, 1)) ∷ []
 
 -- identifiers_information, bytes 9 to 68: TS_id and original_network_id of each stream
@@ -69,7 +71,7 @@ rowsOf = map (λ (l : Line). l .1)
 abbrev pub layout : Kind → List Row
 layout kind = rowsOf (table kind)
 
--- the number of the row that holds a field: the first that does
+-- the number of the first row that holds the field
 unfoldable pub numberOf : Field → List Line → ℕ
 numberOf f [] = 0
 numberOf f (l ∷ ls) = cond (decide (Field-discrete f (l .0))) 0 (suc (numberOf f ls))
