@@ -10,7 +10,7 @@ use Rattle.slices.proofs.Any.{both}
 use Rattle.bits.specs.Fields.{bitsOf, number, run, cut}
 use Rattle.crc.specs.Crc.{registerFrom}
 use Rattle.layout.specs.Rows.{pack}
-use Rattle.layout.specs.Header.{paired, packed, body, header}
+use Rattle.layout.specs.Header.{paired, lineBits, body, header}
 use Rattle.layout.proofs.LaidOut.{laid-out}
 use Rattle.setting.specs.Setting.{blank}
 use Rattle.announced.specs.Announcing.{someDiffer, announced, differ}
@@ -46,7 +46,7 @@ each (x ∷ es) e zero = same-is (x .said) (x .written) (both (same (x .said) (x
 each (x ∷ es) e (suc k) = each es (both (same (x .said) (x .written)) (all-right es) e .1) k
 
 computed : all-right examples ≡ true
-unfolding all-right same examples header body packed laid-out pack paired run bitsOf cut number registerFrom blank someDiffer announced differ nextCounter nextVersion placeOfPair openRow rowOf
+unfolding all-right same examples header body lineBits laid-out pack paired run bitsOf cut number registerFrom blank someDiffer announced differ nextCounter nextVersion placeOfPair openRow rowOf
 computed = rw first-places refl
 
 pub examples-hold : ExamplesHold

@@ -12,7 +12,7 @@ use Rattle.crc.proofs.Laws.{own-bits-only}
 use Rattle.setting.specs.declared.Kind.{Kind}
 use Rattle.counters.specs.Counters.{lastStream}
 use Rattle.layout.specs.Layout.{Field, layout}
-use Rattle.layout.specs.Header.{headerLength, one, paired, firsts, seconds, allOnes, content, packed, body, header, row, reading}
+use Rattle.layout.specs.Header.{headerLength, one, paired, firsts, seconds, allOnes, content, lineBits, body, header, row, reading}
 use Rattle.header.specs.Demands.{fieldAt, SameButReserved, ReservedOnes, WrittenAgain}
 use Rattle.layout.proofs.Rows.{rowOf, Fills, Suits, Each, next, done, each-at, pack-rows}
 use Rattle.layout.proofs.LaidOut.{laid-out, bodyBits, size-layout, length-content}
@@ -105,7 +105,7 @@ module _ (kind : Kind) (pid : ℕ) (p : List ℕ) (a : Shown kind pid p) where
   same-rows k h free = row-header kind pid (reading kind p) filled k h ∙ as-read k h (λ r. absurd (free r))
 
   same-body : ReservedOnes kind p → body kind pid (reading kind p) ≡ take bodyBits (run 8 p)
-  unfolding body packed
+  unfolding body lineBits
   same-body ones =
       pack-rows (layout kind) (content kind pid (reading kind p)) (run 8 p) (fit-run 8 p) (long kind pid p a) (length-content kind pid (reading kind p))
       (λ k h. as-read k h (ones k h))

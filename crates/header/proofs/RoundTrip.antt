@@ -21,7 +21,7 @@ use Rattle.rules.proofs.Fields.{fit-some}
 use Rattle.refusal_table.proofs.Refusals.{first-none, none-at, none-append, none-behind}
 use Rattle.header_reader.specs.declared.Reading.{Reading}
 use Rattle.layout.specs.Rows.{place, rowAt}
-use Rattle.layout.specs.Layout.{Field, table, layout, numberOf}
+use Rattle.layout.specs.Layout.{Field, table, layout, rowWith}
 use Rattle.layout.specs.Header.{paired, firsts, seconds, content, headerLength, header, values, value, reading, packetChecks}
 use Rattle.header_writer.specs.Writing.{written}
 use Rattle.header_checks.specs.Checking.{readRefusal}
@@ -71,12 +71,12 @@ record SamePrivate (r s : Setting) : Type 0 where
 
 module _ (kind : Kind) (pid : ℕ) (s : Setting) (t : OfItsTypes s) (m : MeetsRules kind pid s) where
   -- the values in the row that holds a field, and the one value
-  row-back : (f : Field) → numberOf f (table kind) < length (layout kind)
-      → values kind (header kind pid s) f ≡ getD (content kind pid s) (numberOf f (table kind)) []
-  row-back f h = row-header kind pid s (suits kind pid s t m) (numberOf f (table kind)) h
+  row-back : (f : Field) → rowWith f (table kind) < length (layout kind)
+      → values kind (header kind pid s) f ≡ getD (content kind pid s) (rowWith f (table kind)) []
+  row-back f h = row-header kind pid s (suits kind pid s t m) (rowWith f (table kind)) h
 
-  value-back : (f : Field) → numberOf f (table kind) < length (layout kind)
-      → value kind (header kind pid s) f ≡ getD (getD (content kind pid s) (numberOf f (table kind)) []) 0 0
+  value-back : (f : Field) → rowWith f (table kind) < length (layout kind)
+      → value kind (header kind pid s) f ≡ getD (getD (content kind pid s) (rowWith f (table kind)) []) 0 0
   value-back f h = ap (λ (l : List ℕ). getD l 0 0) (row-back f h)
 
   reading-back : SamePrivate (reading kind (header kind pid s)) s → reading kind (header kind pid s) ≡ s
@@ -143,9 +143,9 @@ module _ (kind : Kind) (pid : ℕ) (s : Setting) (t : OfItsTypes s) (m : MeetsRu
       (more (ap not (shown Field.tsmf-sync (omega arith)))
       (more (ap not (eq-eqb (registerOf (drop 4 (header kind pid s))) 0 (register-header kind pid s (suits kind pid s t m)))) none))))
     where
-      shown : (f : Field) → numberOf f (table kind) < length (layout kind)
-          → eqb (value kind (header kind pid s) f) (getD (getD (content kind pid s) (numberOf f (table kind)) []) 0 0) ≡ true
-      shown f h = eq-eqb (value kind (header kind pid s) f) (getD (getD (content kind pid s) (numberOf f (table kind)) []) 0 0) (value-back kind pid s t m f h)
+      shown : (f : Field) → rowWith f (table kind) < length (layout kind)
+          → eqb (value kind (header kind pid s) f) (getD (getD (content kind pid s) (rowWith f (table kind)) []) 0 0) ≡ true
+      shown f h = eq-eqb (value kind (header kind pid s) f) (getD (getD (content kind pid s) (rowWith f (table kind)) []) 0 0) (value-back kind pid s t m f h)
 
   read-back : readRefusal kind pid (header kind pid s) ≡ 0
   unfolding readRefusal

@@ -19,7 +19,7 @@ use Rattle.rules.specs.Rules.{pidAllowed, absentChecks, absentOf, widthChecks, 
 use Rattle.rules.proofs.Fields.{some-fit}
 use Rattle.refusal_table.proofs.Refusals.{numbered, none-first, none-at, none-append, none-behind}
 use Rattle.layout.specs.Rows.{place, rowAt}
-use Rattle.layout.specs.Layout.{syncByte, tsmfSync, Field, table, layout, numberOf}
+use Rattle.layout.specs.Layout.{syncByte, tsmfSync, Field, table, layout, rowWith}
 use Rattle.layout.specs.Header.{headerLength, row, values, value, reading, callChecks, packetChecks}
 use Rattle.header_checks.specs.Checking.{readRefusal}
 use Rattle.layout.specs.Meets.{MeetsRules}
@@ -90,10 +90,10 @@ module _ (kind : Kind) (pid : ℕ) (p : List ℕ) (a : Shown kind pid p) where
             (more (some-fit 4 (values kind p Field.numbers) (filled Field.numbers (omega arith) .1)) (absent-none kind p))))))))) (a .rules);
       }
     where
-      filled : (f : Field) → numberOf f (table kind) < length (layout kind)
-          → Fills (rowOf (layout kind) (numberOf f (table kind))) (values kind p f)
-      filled f h = row-filled (numberOf f (table kind)) h
+      filled : (f : Field) → rowWith f (table kind) < length (layout kind)
+          → Fills (rowOf (layout kind) (rowWith f (table kind))) (values kind p f)
+      filled f h = row-filled (rowWith f (table kind)) h
 
-      narrow : (f : Field) → numberOf f (table kind) < length (layout kind)
-          → leb (2 ^ (rowOf (layout kind) (numberOf f (table kind)) .0)) (value kind p f) ≡ false
-      narrow f h = lt-leb (2 ^ (rowOf (layout kind) (numberOf f (table kind)) .0)) (value kind p f) (fit-getD (filled f h .1) 0)
+      narrow : (f : Field) → rowWith f (table kind) < length (layout kind)
+          → leb (2 ^ (rowOf (layout kind) (rowWith f (table kind)) .0)) (value kind p f) ≡ false
+      narrow f h = lt-leb (2 ^ (rowOf (layout kind) (rowWith f (table kind)) .0)) (value kind p f) (fit-getD (filled f h .1) 0)

@@ -13,13 +13,13 @@ ghost use Rattle.refusal_table.specs.Refusal.{firstOf};
 ghost use Rattle.rules.specs.Rules.{Narrow, bondingOf};
 ghost use Rattle.layout.specs.Layout.{startTable, controlTable, privateTable};
 ghost use Rattle.layout.specs.Bytes.{bondingBytes};
-ghost use Rattle.layout.specs.Header.{headerLength, paired, packed, body, header};
+ghost use Rattle.layout.specs.Header.{headerLength, paired, lineBits, body, header};
 
 // Bytes 0 to 8: packet header, sync, version, types and availability.
 fn write_start(part: &mut [u8], pid: u16, s: Setting)
     requires { ⌜ (length (now part) ≡ 9) × (pid < 2 ^ 13) ⌝ }
     requires { ⌜ Narrow s ⌝ }
-    ensures { λ _. ⌜ run 8 (now (part .exit)) ≡ packed pid s startTable ⌝ }
+    ensures { λ _. ⌜ run 8 (now (part .exit)) ≡ lineBits pid s startTable ⌝ }
 {
     let bytes = [
         0x47,
@@ -58,7 +58,7 @@ fn write_identifiers(part: &mut [u8], ts: &[u16], os: &[u16])
 fn write_control(part: &mut [u8], s: Setting)
     requires { ⌜ length (now part) ≡ 4 ⌝ }
     requires { ⌜ Narrow s ⌝ }
-    ensures { λ _. ⌜ ((pid : ℕ) → run 8 (now (part .exit)) ≡ packed pid s controlTable) ⌝ }
+    ensures { λ _. ⌜ ((pid : ℕ) → run 8 (now (part .exit)) ≡ lineBits pid s controlTable) ⌝ }
 {
     let receive_status = s.receive_status;
     let left = packed::write_run(&mut part[0..layout::CONTROL_LAST], &receive_status, 2);
@@ -82,7 +82,7 @@ fn write_bonding(part: &mut [u8], s: Setting)
 fn write_extended(part: &mut [u8], s: Setting)
     requires { ⌜ length (now part) ≡ privateBytes ⌝ }
     requires { ⌜ firstOf (bondingOf Kind.Extended s) ≡ 0 ⌝ }
-    ensures { λ _. ⌜ ((pid : ℕ) → run 8 (now (part .exit)) ≡ packed pid s (privateTable Kind.Extended)) ⌝ }
+    ensures { λ _. ⌜ ((pid : ℕ) → run 8 (now (part .exit)) ≡ lineBits pid s (privateTable Kind.Extended)) ⌝ }
 {
     let auxiliary = s.auxiliary;
     slices::copy(&mut part[0..AUXILIARY_BYTES], &auxiliary);
@@ -99,7 +99,7 @@ fn write_extended(part: &mut [u8], s: Setting)
 fn write_private(part: &mut [u8], kind: Kind, s: Setting)
     requires { ⌜ length (now part) ≡ privateBytes ⌝ }
     requires { ⌜ firstOf (bondingOf kind s) ≡ 0 ⌝ }
-    ensures { λ _. ⌜ ((pid : ℕ) → run 8 (now (part .exit)) ≡ packed pid s (privateTable kind)) ⌝ }
+    ensures { λ _. ⌜ ((pid : ℕ) → run 8 (now (part .exit)) ≡ lineBits pid s (privateTable kind)) ⌝ }
 {
     match kind {
         Kind::Plain => {

@@ -11,38 +11,38 @@ use Rattle.setting.specs.declared.Kind.{Kind}
 use Rattle.setting.specs.declared.Setting.{Setting}
 use Rattle.layout.specs.Rows.{pack}
 use Rattle.layout.specs.Layout.{Line, startTable, identifierTable, controlTable, numberTable, privateTable, table}
-use Rattle.layout.specs.Header.{paired, held, packed, body}
+use Rattle.layout.specs.Header.{paired, held, lineBits, body}
 
-packed-append : (pid : ℕ) (s : Setting) (ls ms : List Line) → packed pid s (ls ++ ms) ≡ packed pid s ls ++ packed pid s ms
-unfolding packed pack
-packed-append pid s [] ms = refl
-packed-append pid s (l ∷ ls) ms =
-    ap (λ (bs : List ℕ). run (l .1 .0) (held pid s l) ++ bs) (packed-append pid s ls ms)
-    ∙ sym (append-assoc (run (l .1 .0) (held pid s l)) (packed pid s ls) (packed pid s ms))
+lineBits-append : (pid : ℕ) (s : Setting) (ls ms : List Line) → lineBits pid s (ls ++ ms) ≡ lineBits pid s ls ++ lineBits pid s ms
+unfolding lineBits pack
+lineBits-append pid s [] ms = refl
+lineBits-append pid s (l ∷ ls) ms =
+    ap (λ (bs : List ℕ). run (l .1 .0) (held pid s l) ++ bs) (lineBits-append pid s ls ms)
+    ∙ sym (append-assoc (run (l .1 .0) (held pid s l)) (lineBits pid s ls) (lineBits pid s ms))
 
 -- the body is its five parts
 body-is : (kind : Kind) (pid : ℕ) (s : Setting)
-    → body kind pid s ≡ packed pid s startTable ++ (packed pid s identifierTable ++ (packed pid s controlTable
-    ++ (packed pid s numberTable ++ packed pid s (privateTable kind))))
+    → body kind pid s ≡ lineBits pid s startTable ++ (lineBits pid s identifierTable ++ (lineBits pid s controlTable
+    ++ (lineBits pid s numberTable ++ lineBits pid s (privateTable kind))))
 unfolding body table
 body-is kind pid s =
-    packed-append pid s startTable _
-    ∙ ap (λ (l : List ℕ). packed pid s startTable ++ l)
-    (packed-append pid s identifierTable _
-    ∙ ap (λ (l : List ℕ). packed pid s identifierTable ++ l)
-    (packed-append pid s controlTable _
-    ∙ ap (λ (l : List ℕ). packed pid s controlTable ++ l) (packed-append pid s numberTable (privateTable kind))))
+    lineBits-append pid s startTable _
+    ∙ ap (λ (l : List ℕ). lineBits pid s startTable ++ l)
+    (lineBits-append pid s identifierTable _
+    ∙ ap (λ (l : List ℕ). lineBits pid s identifierTable ++ l)
+    (lineBits-append pid s controlTable _
+    ∙ ap (λ (l : List ℕ). lineBits pid s controlTable ++ l) (lineBits-append pid s numberTable (privateTable kind))))
 
 -- the five parts of a list of 184 bytes, filled one after the other
 pub body-parts : (kind : Kind) (pid : ℕ) (s : Setting) (part a b c d e : List ℕ)
     → length part ≡ 184 → length a ≡ 9 → length b ≡ 60 → length c ≡ 4 → length d ≡ 26 → length e ≡ 85
-    → run 8 a ≡ packed pid s startTable
+    → run 8 a ≡ lineBits pid s startTable
     → run 8 b ≡ run 16 (paired (s .«ts_id») (s .«original_network_id»))
-    → run 8 c ≡ packed pid s controlTable
+    → run 8 c ≡ lineBits pid s controlTable
     → run 8 d ≡ run 4 (s .«relative_ts_number»)
-    → run 8 e ≡ packed pid s (privateTable kind)
+    → run 8 e ≡ lineBits pid s (privateTable kind)
     → run 8 (put 99 85 (put 73 26 (put 69 4 (put 9 60 (put 0 9 part a) b) c) d) e) ≡ body kind pid s
-unfolding identifierTable numberTable held packed pack
+unfolding identifierTable numberTable held lineBits pack
 body-parts kind pid s part a b c d e l la lb lc ld le pa pb pc pd pe =
     let f₁ = front-part part [] part a 0 9 (front-none part) la in
     let f₂ = front-part part a _ b 9 60 f₁ lb in

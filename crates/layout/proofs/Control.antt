@@ -12,7 +12,7 @@ use Rattle.bits.proofs.Laws.{run-append, run-one, bitsOf-join, bitsOf-mod}
 use Rattle.setting.specs.declared.Setting.{Setting}
 use Rattle.layout.specs.Rows.{pack}
 use Rattle.layout.specs.Layout.{controlTable}
-use Rattle.layout.specs.Header.{held, packed}
+use Rattle.layout.specs.Header.{held, lineBits}
 
 -- the last byte: six bits of statuses, a reserved bit and the emergency bit
 last-byte : (left e : ℕ) → e < 2 → bitsOf 8 ((left % 64 * 2 + 1) * 2 + e) ≡ bitsOf 6 left ++ (bitsOf 1 1 ++ bitsOf 1 e)
@@ -30,8 +30,8 @@ behind ys l b e f =
 
 pub control-bits : (pid : ℕ) (s : Setting) (ys l : List ℕ) (left : ℕ) → length ys ≡ 3 → length l ≡ 4 → s .«emergency_indicator» < 2
     → run 8 ys ++ bitsOf 6 left ≡ run 2 (s .«receive_status»)
-    → run 8 (set (ys ++ drop 3 l) 3 ((left % 64 * 2 + 1) * 2 + s .«emergency_indicator»)) ≡ packed pid s controlTable
-unfolding packed pack controlTable held
+    → run 8 (set (ys ++ drop 3 l) 3 ((left % 64 * 2 + 1) * 2 + s .«emergency_indicator»)) ≡ lineBits pid s controlTable
+unfolding lineBits pack controlTable held
 control-bits pid s ys l left e f h same =
     let em = s .«emergency_indicator» in
     let b = (left % 64 * 2 + 1) * 2 + em in

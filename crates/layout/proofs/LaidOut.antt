@@ -6,13 +6,13 @@ use lib.ListN.{length}
 use Rattle.setting.specs.declared.Kind.{Kind}
 use Rattle.setting.specs.declared.Setting.{Setting}
 use Rattle.layout.specs.Rows.{place}
-use Rattle.layout.specs.Layout.{startTable, identifierTable, controlTable, numberTable, privateTable, table, layout, numberOf}
+use Rattle.layout.specs.Layout.{startTable, identifierTable, controlTable, numberTable, privateTable, table, layout, rowWith}
 use Rattle.layout.specs.Header.{held, content}
 use Rattle.layout.proofs.Rows.{size}
 
 -- a proof that says `unfolding laid-out` sees each row, its number and what stands in it
 unfoldable pub laid-out : Unit {0}
-unfolding table startTable identifierTable controlTable numberTable privateTable numberOf decide held
+unfolding table startTable identifierTable controlTable numberTable privateTable rowWith decide held
 laid-out = tt
 
 -- the bits before the CRC, which both kinds fill

@@ -12,7 +12,7 @@ use Rattle.bits.proofs.Laws.{fit-getD}
 use Rattle.refusal_table.specs.Refusal.{firstOf, NoneHolds}
 use Rattle.refusal_table.proofs.Refusals.{none-first}
 use Rattle.layout.specs.Rows.{place, rowAt}
-use Rattle.layout.specs.Layout.{Field, startTable, numberOf}
+use Rattle.layout.specs.Layout.{Field, startTable, rowWith}
 use Rattle.layout.specs.Header.{headerLength, startValue, packetChecks}
 use Rattle.layout.proofs.Cut.{byte-field, word-field, wordAt}
 
@@ -35,23 +35,23 @@ both-agree {v} {w} m n e h f g = ap₂ (λ (a b : Bool). not (a && b)) (eq-eqb v
 
 module _ (p : List ℕ) (f : Fit 8 p) (l : length p ≡ headerLength) where
   pub sync-byte : startValue p Field.sync-byte ≡ getD p 0 0
-  unfolding startTable numberOf decide rowAt place cut
+  unfolding startTable rowWith decide rowAt place cut
   sync-byte = byte-field p 0 0 8 0 (omega arith) refl ∙ omega (arith, fit-getD f 0)
 
   pub zeros : startValue p Field.zeros ≡ getD p 1 0 / 32
-  unfolding startTable numberOf decide rowAt place cut
+  unfolding startTable rowWith decide rowAt place cut
   zeros = byte-field p 1 0 3 5 (omega arith) refl ∙ omega (arith, fit-getD f 1)
 
   pub header-pid : startValue p Field.header-pid ≡ wordAt p 1 % 8192
-  unfolding startTable numberOf decide rowAt place cut
+  unfolding startTable rowWith decide rowAt place cut
   header-pid = word-field p 1 3 13 0 f (omega arith) refl ∙ omega arith
 
   pub one : startValue p Field.payload ≡ getD p 3 0 / 16
-  unfolding startTable numberOf decide rowAt place cut
+  unfolding startTable rowWith decide rowAt place cut
   one = byte-field p 3 0 4 4 (omega arith) refl ∙ omega (arith, fit-getD f 3)
 
   pub tsmf-sync : startValue p Field.tsmf-sync ≡ wordAt p 4 % 8192
-  unfolding startTable numberOf decide rowAt place cut
+  unfolding startTable rowWith decide rowAt place cut
   tsmf-sync = word-field p 4 3 13 0 f (omega arith) refl ∙ omega arith
 
 pub packet-none : (pid : ℕ) (p : List ℕ) → firstOf (packetChecks pid p) ≡ 0 → NoneHolds (packetChecks pid p)

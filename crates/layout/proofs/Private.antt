@@ -17,7 +17,7 @@ use Rattle.rules.proofs.Fields.{bonded}
 use Rattle.layout.specs.Rows.{pack}
 use Rattle.layout.specs.Layout.{privateTable}
 use Rattle.layout.specs.Bytes.{bondingBytes}
-use Rattle.layout.specs.Header.{held, packed}
+use Rattle.layout.specs.Header.{held, lineBits}
 use Rattle.layout.proofs.Bytes.{joined}
 
 -- a copy over a list of the same length is what was copied
@@ -36,8 +36,8 @@ bonding-bits g c q f {p} h rest =
     simp (append-nil, append-assoc) (ap (λ (l : List ℕ). bitsOf 8 g ++ (bitsOf 8 c ++ (bitsOf 8 q ++ l))) (sym (joined 4 4 f h refl)))
 
 pub extended-bits : (pid : ℕ) (s : Setting) → NoneHolds (bondingOf Kind.Extended s)
-    → run 8 ((s .auxiliary ++ bondingBytes s) ++ replicate 53 0xFF) ≡ packed pid s (privateTable Kind.Extended)
-unfolding privateTable held packed pack
+    → run 8 ((s .auxiliary ++ bondingBytes s) ++ replicate 53 0xFF) ≡ lineBits pid s (privateTable Kind.Extended)
+unfolding privateTable held lineBits pack
 extended-bits pid s h =
     let aux = s .auxiliary in
     let bonding = bondingBytes s in
@@ -51,7 +51,7 @@ extended-bits pid s h =
 pub extended-parts : (pid : ℕ) (s : Setting) (part aux bonding ones : List ℕ) → length part ≡ 85 → length (s .auxiliary) ≡ 28
     → aux ≡ s .auxiliary → bonding ≡ bondingBytes s → ones ≡ replicate (length (take 53 (drop 32 (put 28 4 (put 0 28 part aux) bonding)))) 0xFF
     → NoneHolds (bondingOf Kind.Extended s)
-    → run 8 (put 32 53 (put 28 4 (put 0 28 part aux) bonding) ones) ≡ packed pid s (privateTable Kind.Extended)
+    → run 8 (put 32 53 (put 28 4 (put 0 28 part aux) bonding) ones) ≡ lineBits pid s (privateTable Kind.Extended)
 extended-parts pid s part aux bonding ones l a p q r h =
     let two = put 28 4 (put 0 28 part aux) bonding in
     let front = front-part part aux (put 0 28 part aux) bonding 28 4 (front-part part [] part aux 0 28 (front-none part) (ap length p ∙ a)) (ap length q) in

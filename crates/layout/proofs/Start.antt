@@ -10,7 +10,7 @@ use Rattle.setting.specs.declared.Setting.{Setting}
 use Rattle.rules.specs.Rules.{Narrow}
 use Rattle.layout.specs.Rows.{pack}
 use Rattle.layout.specs.Layout.{startTable}
-use Rattle.layout.specs.Header.{held, packed}
+use Rattle.layout.specs.Header.{held, lineBits}
 use Rattle.layout.proofs.Bytes.{two-bytes, joined, split}
 
 -- the nine bytes
@@ -20,8 +20,8 @@ startBytes pid s =
     ∷ (s .«version_number» * 32 + s .«slot_allocation_type» * 16 + s .«frame_type»)
     ∷ s .availability / 128 ∷ (s .availability % 128 * 2 + 1) ∷ []
 
-pub start-bits : (pid : ℕ) (s : Setting) → pid < 2 ^ 13 → Narrow s → run 8 (startBytes pid s) ≡ packed pid s startTable
-unfolding packed pack startTable held run
+pub start-bits : (pid : ℕ) (s : Setting) → pid < 2 ^ 13 → Narrow s → run 8 (startBytes pid s) ≡ lineBits pid s startTable
+unfolding lineBits pack startTable held run
 start-bits pid s h n =
     let a = s .availability in
     let v = s .«version_number» in

@@ -16,7 +16,7 @@ use Rattle.setting.specs.declared.Kind.{Kind}
 use Rattle.setting.specs.declared.Setting.{Setting}
 use Rattle.layout.specs.Rows.{rowAt}
 use Rattle.layout.specs.Layout.{layout}
-use Rattle.layout.specs.Header.{headerLength, content, packed, body, header, row}
+use Rattle.layout.specs.Header.{headerLength, content, lineBits, body, header, row}
 use Rattle.layout.proofs.LaidOut.{bodyBits, size-layout}
 use Rattle.layout.proofs.Rows.{Suits, fit-pack, length-pack, row-pack}
 
@@ -36,7 +36,7 @@ module _ (kind : Kind) (pid : ℕ) (s : Setting) where
       ap₂ (cut 8) (sym whole) (sym e ∙ sym (append-nil (run 8 p))) ∙ cut-run bytes []
 
   fit-body : Fit 1 (body kind pid s)
-  unfolding body packed
+  unfolding body lineBits
   fit-body = fit-pack (layout kind) (content kind pid s)
 
   pub crc-lt : crcOf kind pid s < 2 ^ 32
@@ -45,7 +45,7 @@ module _ (kind : Kind) (pid : ℕ) (s : Setting) where
 
 module _ (kind : Kind) (pid : ℕ) (s : Setting) (suits : Suits (layout kind) (content kind pid s)) where
   length-body : length (body kind pid s) ≡ bodyBits
-  unfolding body packed
+  unfolding body lineBits
   length-body = length-pack (layout kind) (content kind pid s) suits ∙ size-layout kind
 
   run-header : run 8 (header kind pid s) ≡ body kind pid s ++ bitsOf 32 (crcOf kind pid s)
@@ -59,7 +59,7 @@ module _ (kind : Kind) (pid : ℕ) (s : Setting) (suits : Suits (layout kind) (c
       long = length-append (body kind pid s) (bitsOf 32 (crcOf kind pid s)) ∙ ap₂ _+_ length-body (length-bitsOf 32 (crcOf kind pid s))
 
   pub row-header : (k : ℕ) → k < length (layout kind) → row kind (header kind pid s) k ≡ getD (content kind pid s) k []
-  unfolding body packed
+  unfolding body lineBits
   row-header k h =
       ap (rowAt (layout kind) k) run-header
       ∙ row-pack (layout kind) (content kind pid s) suits (bitsOf 32 (crcOf kind pid s)) k h

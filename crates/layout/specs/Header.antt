@@ -12,7 +12,7 @@ use Rattle.setting.specs.Setting.{privateBytes, auxiliaryBytes}
 use Rattle.refusal_table.specs.Refusal.{Check}
 use Rattle.rules.specs.Rules.{byKind, pidAllowed}
 use Rattle.layout.specs.Rows.{Row, pack, rowAt}
-use Rattle.layout.specs.Layout.{syncByte, tsmfSync, Field, Line, startTable, table, rowsOf, layout, numberOf}
+use Rattle.layout.specs.Layout.{syncByte, tsmfSync, Field, Line, startTable, table, rowsOf, layout, rowWith}
 
 -- a header is 188 bytes
 abbrev pub headerLength : ℕ
@@ -68,8 +68,8 @@ held pid s (Field.frames, r) = one (s .«number_of_frames»)
 held pid s (Field.position, r) = one (s .«frame_position» .0)
 
 -- the bits of some lines of the table, one row behind the other
-unfoldable pub packed : ℕ → Setting → List Line → List ℕ
-packed pid s lines = pack (rowsOf lines) (map (held pid s) lines)
+unfoldable pub lineBits : ℕ → Setting → List Line → List ℕ
+lineBits pid s lines = pack (rowsOf lines) (map (held pid s) lines)
 
 -- what stands in each row
 abbrev pub content : Kind → ℕ → Setting → List (List ℕ)
@@ -77,7 +77,7 @@ content kind pid s = map (held pid s) (table kind)
 
 -- the header's bits before the CRC
 unfoldable pub body : Kind → ℕ → Setting → List ℕ
-body kind pid s = packed pid s (table kind)
+body kind pid s = lineBits pid s (table kind)
 
 -- the header's 188 bytes. The CRC is the register that the bytes from byte 4 on leave
 unfoldable pub header : Kind → ℕ → Setting → List ℕ
@@ -90,7 +90,7 @@ row kind p k = rowAt (layout kind) k (run 8 p)
 
 -- the values in the row that holds a field
 abbrev pub values : Kind → List ℕ → Field → List ℕ
-values kind p f = row kind p (numberOf f (table kind))
+values kind p f = row kind p (rowWith f (table kind))
 
 -- the one value in the row that holds a field
 abbrev pub value : Kind → List ℕ → Field → ℕ
@@ -125,7 +125,7 @@ callChecks pid lent = (1, not (eqb lent headerLength)) ∷ (2, not (pidAllowed p
 
 -- the one value of a row that all kinds have in the same place
 abbrev pub startValue : List ℕ → Field → ℕ
-startValue p f = getD (rowAt (rowsOf startTable) (numberOf f startTable) (run 8 p)) 0 0
+startValue p f = getD (rowAt (rowsOf startTable) (rowWith f startTable) (run 8 p)) 0 0
 
 -- 3 to 7: what the packet itself shows
 unfoldable pub packetChecks : ℕ → List ℕ → List Check

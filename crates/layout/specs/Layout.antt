@@ -72,6 +72,6 @@ abbrev pub layout : Kind → List Row
 layout kind = rowsOf (table kind)
 
 -- the number of the first row that holds the field
-unfoldable pub numberOf : Field → List Line → ℕ
-numberOf f [] = 0
-numberOf f (l ∷ ls) = cond (decide (Field-discrete f (l .0))) 0 (suc (numberOf f ls))
+unfoldable pub rowWith : Field → List Line → ℕ
+rowWith f [] = 0
+rowWith f (l ∷ ls) = cond (decide (Field-discrete f (l .0))) 0 (suc (rowWith f ls))

@@ -19,7 +19,7 @@ use Rattle.refusal_table.proofs.Refusals.{first-none, none-append}
 use Rattle.rules.proofs.Checked.{width-none, rule-none}
 use Rattle.rules.proofs.Fields.{fit-some}
 use Rattle.layout.specs.Rows.{place, rowAt}
-use Rattle.layout.specs.Layout.{startTable, numberOf}
+use Rattle.layout.specs.Layout.{startTable, rowWith}
 use Rattle.composer_state.specs.declared.Composer.{Composer}
 use Rattle.packet.specs.Packets.{packetLength, frameLength, unfit}
 use Rattle.composer_state.specs.Slots.{marksAfter, someUnfit, someUnplanned}
@@ -125,7 +125,7 @@ unfolding someUnplanned anyBelow
 unplanned-one = refl
 
 fit-packet : unfit thePid thePacket ≡ false
-unfolding thePacket unfit startTable numberOf decide rowAt place cut run bitsOf number
+unfolding thePacket unfit startTable rowWith decide rowAt place cut run bitsOf number
 fit-packet = refl
 
 all-fit : someUnfit thePid 1 plan noMarks thePacket ≡ false

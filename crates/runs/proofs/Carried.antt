@@ -12,7 +12,7 @@ use lib.Seq.{take-at, drop-at, drop-drop, take-add, take-nil}
 use Rattle.slices.proofs.Any.{neither}
 use Rattle.bits.specs.Fields.{bitsOf, number, run, cut}
 use Rattle.layout.specs.Rows.{place, rowAt}
-use Rattle.layout.specs.Layout.{startTable, numberOf}
+use Rattle.layout.specs.Layout.{startTable, rowWith}
 use Rattle.packet.specs.Packets.{packetLength, nullPacket, slot, unfit}
 use Rattle.composer_state.specs.Slots.{nulls, numbersOf}
 use Rattle.receiver_in_place.specs.Store.{numbered, slotsFor}
@@ -165,7 +165,7 @@ slot-next p bytes i l =
     ∙ ap (take packetLength) (sym (drop-drop (packetLength * i) packetLength (p ++ bytes)) ∙ ap (drop (packetLength * i)) (drop-at p bytes packetLength l))
 
 pub null-fit : (pid : ℕ) → pid ≤ 8190 → unfit pid nullPacket ≡ false
-unfolding unfit nullPacket startTable numberOf decide rowAt place cut run bitsOf number
+unfolding unfit nullPacket startTable rowWith decide rowAt place cut run bitsOf number
 null-fit pid h = ne-eqb 8191 pid (λ e. omega arith)
 
 module _ (pid : ℕ) (h : pid ≤ 8190) where

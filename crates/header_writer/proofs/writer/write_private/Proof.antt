@@ -9,7 +9,7 @@ use Rattle.refusal_table.specs.Refusal.{firstOf}
 use Rattle.rules.specs.Rules.{bondingOf}
 use Rattle.layout.specs.Rows.{pack}
 use Rattle.layout.specs.Layout.{privateTable}
-use Rattle.layout.specs.Header.{held, packed}
+use Rattle.layout.specs.Header.{held, lineBits}
 use Rattle.layout.proofs.Private.{copied-all}
 use native.Mathlib.Omega.{arith}
 use borrow.Author.Needs.{needs}
@@ -40,14 +40,14 @@ same-length : tie.Need-same-length
 same-length c = omega arith
 
 returns : tie.Need-returns
-unfolding packed pack privateTable held
+unfolding lineBits pack privateTable held
 returns c pid =
     let copied = c .before .before in
     let told = copied .before .before .before .before in
     let start = told .before .before .before in
     let s = start .args .s in
     ap (run 8) (copied .copy .ensures ∙ copied-all (start .args .part .now) (s .«private_data») (start .pre .0 ∙ sym (privates start)))
-    ∙ sym (ap (λ (k : Kind). packed pid s (privateTable k)) (told .enum-told .given .1) ∙ append-nil (run 8 (s .«private_data»)))
+    ∙ sym (ap (λ (k : Kind). lineBits pid s (privateTable k)) (told .enum-told .given .1) ∙ append-nil (run 8 (s .«private_data»)))
 
 same-length-2 : tie.Need-same-length-2
 same-length-2 c = omega arith
@@ -57,7 +57,7 @@ returns-2 c pid =
     let call = c .before .before in
     let told = call .before .before in
     let s = told .before .before .before .args .s in
-    call .write-extended .ensures pid ∙ sym (ap (λ (k : Kind). packed pid s (privateTable k)) (told .enum-told2 .given .1))
+    call .write-extended .ensures pid ∙ sym (ap (λ (k : Kind). lineBits pid s (privateTable k)) (told .enum-told2 .given .1))
 
 pub write-private-spec : {M : Type 1} → statement M
 write-private-spec =
