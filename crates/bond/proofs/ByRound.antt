@@ -16,11 +16,11 @@ use lib.ListN.{length, getD, take, drop, set, length-append, length-drop, length
 use lib.Seq.{drop-cons, getD-set-same, getD-set-other, take-set-le, take-suc-set}
 use Rattle.slices.proofs.Any.{both}
 use Rattle.counters.specs.Counters.{lastPosition}
-use Rattle.places.specs.Order.{picked, framePackets}
-use Rattle.places.specs.Walk.{lastCarrier, mostFrames, twelfths, share, placeAt, framesBefore, packetAt, isStop, isMarked, stops, Walkable}
+use Rattle.bond_places.specs.Order.{picked, framePackets}
+use Rattle.bond_places.specs.Walk.{lastCarrier, mostFrames, twelfths, share, placeAt, framesBefore, packetAt, isStop, isMarked, stops, Walkable}
 use Rattle.bond.specs.Listing.{roundTwelfths, roundSteps, framesOf, isDue, due, Entry, Noted, packetIn, markedIn, placesFrom, Listable}
-use Rattle.places.proofs.Frames.{frames-next, frames-few}
-use Rattle.places.proofs.Sweep.{at-step}
+use Rattle.bond_places.proofs.Frames.{frames-next, frames-few}
+use Rattle.bond_places.proofs.Sweep.{at-step}
 
 -- ---- the packet at which a step looks
 

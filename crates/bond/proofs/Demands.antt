@@ -13,27 +13,27 @@ use Rattle.slices.proofs.Any.{any-no}
 use Rattle.setting.specs.declared.Kind.{Kind}
 use Rattle.setting.specs.declared.Setting.{Setting}
 use Rattle.counters.specs.Counters.{firstPosition}
-use Rattle.refusal_table.specs.Refusal.{Check, NoneHolds, none, more, firstOf}
-use Rattle.rules.specs.Rules.{ruleChecks}
-use Rattle.refusal_table.proofs.Refusals.{first-none, none-at, none-append, none-before, none-behind}
-use Rattle.layout.specs.Header.{reading, packetChecks}
+use Rattle.setting.specs.Refusal.{Check, NoneHolds, none, more, firstOf}
+use Rattle.setting.specs.Rules.{ruleChecks}
+use Rattle.setting.proofs.Refusals.{first-none, none-at, none-append, none-before, none-behind}
+use Rattle.header_layout.specs.Header.{reading, packetChecks}
 use Rattle.packet.specs.Packets.{packetLength, frameLength, slot, unfit}
-use Rattle.group.specs.declared.Bond.{Bond}
-use Rattle.group.specs.declared.headers.Shown.{Shown}
-use Rattle.places.specs.Order.{Rising, comesBefore, picked, sorted, framePackets}
-use Rattle.group.specs.Group.{framesIn, packetsIn, said, carries, bonded, bondedSlot, placeIn, earlier, order}
-use Rattle.group.specs.Standing.{shownBy, before, isEnd, standingChecks, callChecks, headerChecks, headersChecks, groupChecks, planChecks, someCarries}
+use Rattle.bond_group.specs.declared.Bond.{Bond}
+use Rattle.bond_group.specs.declared.headers.Shown.{Shown}
+use Rattle.bond_places.specs.Order.{Rising, comesBefore, picked, sorted, framePackets}
+use Rattle.bond_group.specs.Group.{framesIn, packetsIn, said, carries, bonded, bondedSlot, placeIn, earlier, order}
+use Rattle.bond_group.specs.Standing.{shownBy, before, isEnd, standingChecks, callChecks, headerChecks, headersChecks, groupChecks, planChecks, someCarries}
 use Rattle.bond.specs.Bonding.{someUnfitIn, spreadChecks, gatherChecks, spreadOver, gathered, spreadRefusal, spreadOf, spreadGroup, gatherRefusal, gatherOf, gatherBuffer}
-use Rattle.group.specs.Plan.{planAfter}
+use Rattle.bond_group.specs.Plan.{planAfter}
 use Rattle.bond.specs.Demands.{WellFormed, Fitting, ComesBack, InThisOrder, NothingElse, OrderHolds, RefusedByTable}
 use Rattle.bond.specs.Listing.{Within}
 use Rattle.bond.proofs.Placed.{Apart, apart, spread-other, length-spread, spread-gathered, spread-slot}
-use Rattle.places.proofs.Sorting.{among-sorted, sorted-among, among-picked, picked-among}
-use Rattle.places.proofs.Sweep.{sorted-rising}
-use Rattle.group.proofs.Standing.{whole}
-use Rattle.group.proofs.Grouping.{grouped}
-use Rattle.group.proofs.Planned.{no-header}
-use Rattle.group.proofs.Passing.{Called, called}
+use Rattle.bond_places.proofs.Sorting.{among-sorted, sorted-among, among-picked, picked-among}
+use Rattle.bond_places.proofs.Sweep.{sorted-rising}
+use Rattle.bond_group.proofs.Standing.{whole}
+use Rattle.bond_group.proofs.Grouping.{grouped}
+use Rattle.bond_group.proofs.Planned.{no-header}
+use Rattle.bond_group.proofs.Passing.{Called, called}
 use Rattle.bond.proofs.Passing.{spread-none, gather-none}
 
 -- ---- the order of a group

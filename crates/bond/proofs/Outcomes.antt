@@ -9,26 +9,26 @@ use borrow.Author.Tests.{ltb-false, eq-eqb, ne-eqb}
 use lib.Dec.{ltb, eqb}
 use lib.ListN.{length, getD}
 use Rattle.slices.specs.Slices.{copied}
-use Rattle.refusal_table.specs.Refusal.{Check, NoneHolds, firstOf}
-use Rattle.refusal_table.proofs.Refusals.{answers, passed, onward, at-once, none-first, none-at, none-before, none-behind}
+use Rattle.setting.specs.Refusal.{Check, NoneHolds, firstOf}
+use Rattle.setting.proofs.Refusals.{answers, passed, onward, at-once, none-first, none-at, none-before, none-behind}
 use Rattle.packet.specs.Packets.{packetLength}
-use Rattle.group.specs.declared.Bond.{Bond}
-use Rattle.group.specs.declared.headers.Plan.{Plan}
-use Rattle.group.specs.declared.headers.Planned.{Planned}
-use Rattle.group.specs.Group.{framesIn, order}
-use Rattle.group.specs.Standing.{callChecks, groupChecks, planChecks, someCarries}
+use Rattle.bond_group.specs.declared.Bond.{Bond}
+use Rattle.bond_group.specs.declared.headers.Plan.{Plan}
+use Rattle.bond_group.specs.declared.headers.Planned.{Planned}
+use Rattle.bond_group.specs.Group.{framesIn, order}
+use Rattle.bond_group.specs.Standing.{callChecks, groupChecks, planChecks, someCarries}
 use Rattle.bond.specs.Bonding.{someUnfitIn, spreadChecks, gatherChecks, spreadOver, gathered, spreadRefusal, spreadOf, spreadGroup, gatherRefusal, gatherOf, gatherBuffer}
-use Rattle.places.specs.Order.{framePackets}
-use Rattle.places.specs.Walk.{mostFrames, framesBefore, isMarked, Walkable}
+use Rattle.bond_places.specs.Order.{framePackets}
+use Rattle.bond_places.specs.Walk.{mostFrames, framesBefore, isMarked, Walkable}
 use Rattle.bond.specs.Listing.{Within, placesFrom, Listable}
-use Rattle.group.specs.Plan.{planAfter, plannedOf}
-use Rattle.group.proofs.Passing.{Called, called, numbered-plan}
+use Rattle.bond_group.specs.Plan.{planAfter, plannedOf}
+use Rattle.bond_group.proofs.Passing.{Called, called, numbered-plan}
 use Rattle.bond.proofs.Passing.{spread-none, gather-none}
-use Rattle.group.proofs.Standing.{Whole, whole}
-use Rattle.group.proofs.Grouping.{walkable, grouped}
-use Rattle.group.proofs.Planned.{carried, packets, packets-few, slots-long, marked-bonded, walked, no-header}
+use Rattle.bond_group.proofs.Standing.{Whole, whole}
+use Rattle.bond_group.proofs.Grouping.{walkable, grouped}
+use Rattle.bond_group.proofs.Planned.{carried, packets, packets-few, slots-long, marked-bonded, walked, no-header}
 use Rattle.bond.proofs.Demands.{exact, order-within}
-use Rattle.places.proofs.Frames.{frames-few, frames-within}
+use Rattle.bond_places.proofs.Frames.{frames-few, frames-within}
 
 -- ---- what the headers leave to know
 

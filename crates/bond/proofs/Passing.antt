@@ -2,11 +2,11 @@
 use Prim.Native.Nat.{ℕ}
 use mathlib.Core.Path.{_≡_, refl}
 use mathlib.Core.List.{List}
-use Rattle.refusal_table.specs.Refusal.{NoneHolds, firstOf}
-use Rattle.refusal_table.proofs.Refusals.{none-first, numbered-append}
-use Rattle.group.specs.declared.Bond.{Bond}
-use Rattle.group.specs.Standing.{planChecks}
-use Rattle.group.proofs.Passing.{numbered-plan}
+use Rattle.setting.specs.Refusal.{NoneHolds, firstOf}
+use Rattle.setting.proofs.Refusals.{none-first, numbered-append}
+use Rattle.bond_group.specs.declared.Bond.{Bond}
+use Rattle.bond_group.specs.Standing.{planChecks}
+use Rattle.bond_group.proofs.Passing.{numbered-plan}
 use Rattle.bond.specs.Bonding.{spreadChecks, gatherChecks}
 
 module _ (b : Bond) (group : List ℕ) where

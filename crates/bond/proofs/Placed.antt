@@ -8,11 +8,11 @@ use lib.ListN.{length, getD, take, drop, length-append, length-drop, take-append
 use lib.Seq.{take-append-le, drop-append-le, drop-append-add, take-append-seam, drop-append-seam, length-take-le, drop-drop}
 use Rattle.slices.specs.Slices.{over, Among, here, there}
 use Rattle.packet.specs.Packets.{packetLength, slot}
-use Rattle.places.specs.Order.{Rising, none, more}
-use Rattle.group.specs.Group.{placeIn, earlier}
+use Rattle.bond_places.specs.Order.{Rising, none, more}
+use Rattle.bond_group.specs.Group.{placeIn, earlier}
 use Rattle.bond.specs.Bonding.{spreadOver, gathered}
 use Rattle.bond.specs.Listing.{Within}
-use Rattle.places.proofs.Order.{strict-total}
+use Rattle.bond_places.proofs.Order.{strict-total}
 
 -- a packet that lies in the front of a buffer is one of the front
 pub slot-front : (m : ℕ) (xs ys : List ℕ) → packetLength * m + packetLength ≤ length xs → slot m (xs ++ ys) ≡ slot m xs

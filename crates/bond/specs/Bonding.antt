@@ -5,12 +5,12 @@ use mathlib.Core.List.{List, [], _∷_, _++_}
 use lib.Dec.{ltb, eqb}
 use lib.ListN.{length, take, drop}
 use Rattle.slices.specs.Slices.{copied, over, anyBelow}
-use Rattle.refusal_table.specs.Refusal.{Check, firstOf}
+use Rattle.setting.specs.Refusal.{Check, firstOf}
 use Rattle.packet.specs.Packets.{packetLength, slot, unfit}
-use Rattle.group.specs.declared.Bond.{Bond}
+use Rattle.bond_group.specs.declared.Bond.{Bond}
 use Rattle.bond.specs.declared.Moved.{Moved}
-use Rattle.group.specs.Group.{order}
-use Rattle.group.specs.Standing.{planChecks, someCarries}
+use Rattle.bond_group.specs.Group.{order}
+use Rattle.bond_group.specs.Standing.{planChecks, someCarries}
 
 -- whether some packet of a stream lacks 0x47 or bears the header PID
 unfoldable pub someUnfitIn : ℕ → List ℕ → Bool

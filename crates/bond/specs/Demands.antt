@@ -4,13 +4,13 @@ use mathlib.Core.Path.{_≡_}
 use mathlib.Core.Bool.{true, false}
 use mathlib.Core.List.{List, _++_}
 use lib.ListN.{length, getD, drop}
-use Rattle.refusal_table.specs.Refusal.{NoneHolds}
+use Rattle.setting.specs.Refusal.{NoneHolds}
 use Rattle.slices.specs.Slices.{Among}
 use Rattle.packet.specs.Packets.{packetLength, slot, unfit}
-use Rattle.group.specs.declared.Bond.{Bond}
-use Rattle.places.specs.Order.{Rising, framePackets}
-use Rattle.group.specs.Group.{packetsIn, bonded, earlier, order}
-use Rattle.group.specs.Standing.{callChecks, groupChecks, someCarries}
+use Rattle.bond_group.specs.declared.Bond.{Bond}
+use Rattle.bond_places.specs.Order.{Rising, framePackets}
+use Rattle.bond_group.specs.Group.{packetsIn, bonded, earlier, order}
+use Rattle.bond_group.specs.Standing.{callChecks, groupChecks, someCarries}
 use Rattle.bond.specs.Bonding.{spreadChecks, gatherChecks, spreadOf, spreadGroup, gatherOf, gatherBuffer}
 
 -- a group of well-formed super frames for a bond: no check of the call or of the headers refuses it, and some header carries the stream

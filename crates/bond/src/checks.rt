@@ -6,7 +6,7 @@ ghost use mathlib.Core.List.{[], _∷_};
 ghost use Prim.Native.Nat.{_*_, _%_};
 ghost use lib.Dec.{ltb, eqb};
 ghost use lib.ListN.{length};
-ghost use Rattle.refusal_table.specs.Refusal.{firstOf};
+ghost use Rattle.setting.specs.Refusal.{firstOf};
 ghost use Rattle.packet.specs.Packets.{packetLength};
 ghost use Rattle.bond.specs.Bonding.{someUnfitIn};
 

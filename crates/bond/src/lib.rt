@@ -3,7 +3,7 @@ mod checks;
 mod moving;
 mod rounds;
 
-use group::Bond;
+use bond_group::Bond;
 use packet::PACKET_BYTES;
 ghost use mathlib.Core.Path.{_≡_};
 ghost use lib.ListN.{length};
@@ -26,7 +26,7 @@ pub fn spread(group: &mut [u8], stream: &[u8], b: Bond) -> Moved
             packets: 0,
         };
     }
-    let planned = group::read_headers(group, b);
+    let planned = bond_group::read_headers(group, b);
     if planned.refusal != 0 {
         return Moved {
             refusal: planned.refusal,
@@ -55,7 +55,7 @@ pub fn gather(group: &[u8], out: &mut [u8], b: Bond) -> Moved
     ensures { λ r. ⌜ r ≡ gatherOf b (now (group .entry)) (length (now (out .entry))) ⌝ }
     ensures { λ _. ⌜ now (out .exit) ≡ gatherBuffer b (now (group .entry)) (now (out .entry)) ⌝ }
 {
-    let planned = group::read_headers(group, b);
+    let planned = bond_group::read_headers(group, b);
     if planned.refusal != 0 {
         return Moved {
             refusal: planned.refusal,

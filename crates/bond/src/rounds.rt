@@ -1,14 +1,14 @@
 // The marked places of a group as a list, in order. A round is twelve twelfths of the super frame. A carrier with F frames has F places in
 // it, in each round the same ones and F further on: so those of one round are noted, and gone through once for each round.
-use group::headers::CARRIERS;
-use group::headers::FRAMES;
+use bond_group::headers::CARRIERS;
+use bond_group::headers::FRAMES;
 use setting::SLOTS;
 ghost use mathlib.Core.Path.{_≡_};
 ghost use mathlib.Core.List.{_++_};
 ghost use Prim.Native.Nat.{ℕ, _+_, _*_, _≤_, _<_};
 ghost use lib.ListN.{length, take};
-ghost use Rattle.places.specs.Order.{framePackets};
-ghost use Rattle.places.specs.Walk.{lastCarrier, mostFrames, isMarked, Walkable};
+ghost use Rattle.bond_places.specs.Order.{framePackets};
+ghost use Rattle.bond_places.specs.Walk.{lastCarrier, mostFrames, isMarked, Walkable};
 ghost use Rattle.bond.specs.Listing.{roundTwelfths, roundSteps, Noted, packetIn, markedIn, placesFrom, Listable};
 
 // The packets of a frame, and so the rounds of a super frame.

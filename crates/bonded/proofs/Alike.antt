@@ -8,11 +8,11 @@ use lib.ListN.{length, take, drop, length-append, length-drop, take-append-drop}
 use lib.Seq.{length-take-le, drop-at, drop-drop}
 use Rattle.setting.specs.declared.Kind.{Kind}
 use Rattle.counters.specs.Counters.{lastSlot}
-use Rattle.header_reader.specs.Reader.{readOf}
+use Rattle.header_read.specs.Reader.{readOf}
 use Rattle.packet.specs.Packets.{packetLength, frameLength, slot, unfit}
 use Rattle.runs.proofs.Vouched.{GoodFrame}
 use Rattle.runs.proofs.Lost.{slot-behind, Counted, and-then}
-use Rattle.places.specs.Order.{framePackets}
+use Rattle.bond_places.specs.Order.{framePackets}
 use Rattle.bond.proofs.Placed.{slot-front}
 use Rattle.bonded.specs.Carriers.{framesFrom}
 

@@ -7,17 +7,17 @@ use native.Mathlib.Omega.{arith}
 use lib.ListN.{length, getD, take, drop, take-append-drop}
 use lib.Seq.{drop-drop}
 use Rattle.setting.specs.declared.Kind.{Kind}
-use Rattle.rules.specs.Rules.{pidAllowed}
+use Rattle.setting.specs.Rules.{pidAllowed}
 use Rattle.slices.specs.Slices.{Among, here, there}
 use Rattle.packet.specs.Packets.{packetLength, frameLength, slot, unfit}
-use Rattle.receiver_in_place.specs.Store.{storeLength}
+use Rattle.receiver.specs.Store.{storeLength}
 use Rattle.runs.specs.Runs.{Each, none, more}
 use Rattle.runs.proofs.Demands.{From, stretch}
-use Rattle.group.specs.declared.Bond.{Bond}
-use Rattle.group.specs.Group.{packetsIn, bonded, order}
+use Rattle.bond_group.specs.declared.Bond.{Bond}
+use Rattle.bond_group.specs.Group.{packetsIn, bonded, order}
 use Rattle.bond.specs.Bonding.{spreadGroup, gatherOf, gatherBuffer}
 use Rattle.bond.specs.Demands.{WellFormed, Fitting}
-use Rattle.group.proofs.Passing.{Called, called}
+use Rattle.bond_group.proofs.Passing.{Called, called}
 use Rattle.bond.proofs.Demands.{comes-back, in-this-order, nothing-else, order-holds}
 use Rattle.bonded.specs.Carriers.{Carrier, Composed, groupOf, framesFrom, sentBy, receivedFrom}
 use Rattle.bonded.specs.Demands.{groupAgain, BackFromItsCarriers}

@@ -8,17 +8,17 @@ use borrow.Author.Tests.{lt-ltb}
 use lib.ListN.{length, take, drop, replicate, length-drop, drop-of-length-le, take-append-drop}
 use Rattle.setting.specs.declared.Kind.{Kind}
 use Rattle.counters.specs.Counters.{lastSlot}
-use Rattle.rules.specs.Rules.{pidAllowed}
-use Rattle.layout.specs.Header.{reading}
+use Rattle.setting.specs.Rules.{pidAllowed}
+use Rattle.header_layout.specs.Header.{reading}
 use Rattle.packet.specs.Packets.{packetLength, slot, unfit}
-use Rattle.receiver_table.specs.declared.Stage.{Stage}
-use Rattle.receiver_table.specs.declared.Event.{Event}
-use Rattle.receiver_table.specs.declared.Row.{Row}
-use Rattle.receiver_in_place.specs.declared.Receiver.{Receiver}
-use Rattle.receiver_in_place.specs.Store.{storeLength}
-use Rattle.receiver_table.specs.Table.{makesReady, good, broken, other, row, openRow, rowOf}
-use Rattle.receiver_in_place.specs.Receiving.{receiveOf}
-use Rattle.receiver_in_place.proofs.Sorts.{not-good}
+use Rattle.receiver.specs.declared.Stage.{Stage}
+use Rattle.receiver.specs.declared.Event.{Event}
+use Rattle.receiver.specs.declared.Row.{Row}
+use Rattle.receiver.specs.declared.Receiver.{Receiver}
+use Rattle.receiver.specs.Store.{storeLength}
+use Rattle.receiver.specs.Table.{makesReady, good, broken, other, row, openRow, rowOf}
+use Rattle.receiver.specs.Receiving.{receiveOf}
+use Rattle.receiver.proofs.Sorts.{not-good}
 use Rattle.runs.specs.Runs.{Each, none, more}
 use Rattle.runs.specs.Losses.{headerArrives, packetsArrive, arriving, Reception, freshWith, afterPacket}
 use Rattle.runs.specs.Demands.{whole, headerAlone}

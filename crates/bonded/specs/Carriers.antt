@@ -6,9 +6,9 @@ use mathlib.Core.List.{List, [], _∷_, _++_, map, flatten}
 use lib.ListN.{length, take, drop}
 use Rattle.setting.specs.declared.Kind.{Kind}
 use Rattle.packet.specs.Packets.{frameLength}
-use Rattle.receiver_table.specs.declared.Event.{Event}
-use Rattle.receiver_table.specs.Table.{makesReady}
-use Rattle.receiver_in_place.specs.Receiving.{receiveOf}
+use Rattle.receiver.specs.declared.Event.{Event}
+use Rattle.receiver.specs.Table.{makesReady}
+use Rattle.receiver.specs.Receiving.{receiveOf}
 use Rattle.runs.specs.Runs.{Call, Each, OfTypes, started, framesOf}
 use Rattle.runs.specs.Losses.{Sent, arriving, Reception, freshWith, afterPacket}
 use Rattle.runs.specs.Demands.{whole, headerAlone}

@@ -3,10 +3,10 @@ use Prim.Native.Nat.{ℕ, _≤_}
 use mathlib.Core.Path.{_≡_}
 use mathlib.Core.List.{List, _++_, map, flatten}
 use lib.ListN.{length, drop}
-use Rattle.receiver_in_place.specs.Store.{storeLength}
+use Rattle.receiver.specs.Store.{storeLength}
 use Rattle.runs.specs.Runs.{Each}
-use Rattle.group.specs.declared.Bond.{Bond}
-use Rattle.group.specs.Group.{order}
+use Rattle.bond_group.specs.declared.Bond.{Bond}
+use Rattle.bond_group.specs.Group.{order}
 use Rattle.bond.specs.Bonding.{spreadGroup, gatherOf, gatherBuffer}
 use Rattle.bond.specs.Demands.{WellFormed, Fitting}
 use Rattle.bonded.specs.Carriers.{Carrier, Composed, groupOf, sentBy, receivedFrom}

@@ -6,7 +6,7 @@ use native.Mathlib.Omega.{arith}
 use lib.ListN.{length, drop, drop-of-length-le}
 use Rattle.counters.specs.Counters.{lastSlot}
 use Rattle.packet.specs.Packets.{nullPacket}
-use Rattle.composer_state.specs.Slots.{nulls}
+use Rattle.composer.specs.Slots.{nulls}
 
 -- null packets from slot i on, and behind the last
 pub nulls-from : (i : ℕ) → i ≤ lastSlot → nulls (lastSlot + 1 - i) ≡ nullPacket ++ nulls (lastSlot + 1 - (i + 1))

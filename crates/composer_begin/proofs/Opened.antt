@@ -5,8 +5,8 @@ use mathlib.Core.List.{List, [], _∷_, _++_, append-assoc}
 use native.Mathlib.Omega.{arith}
 use lib.ListN.{length, set, take}
 use Rattle.slices.proofs.Front.{Front, put, front-none, front-kept, front-part, front-more, front-length, front-all}
-use Rattle.coding.specs.Settings.{settingLength}
-use Rattle.composer_bytes.specs.States.{composerLength}
+use Rattle.setting_bytes.specs.Settings.{settingLength}
+use Rattle.composer.specs.States.{composerLength}
 
 in-order : (a s m : List ℕ) → a ++ (1 ∷ []) ++ s ++ m ≡ a ++ (1 ∷ (s ++ m))
 in-order a s m = simp append-assoc refl

@@ -5,14 +5,14 @@ use mathlib.Core.Bool.{not}
 use mathlib.Core.List.{List, _++_}
 use native.Mathlib.Decide.{ℕ-discrete}
 use borrow.Author.Tests.{eq-eqb, leb-false}
-use Rattle.refusal_table.specs.Refusal.{Check, firstOf}
-use Rattle.refusal_table.proofs.Refusals.{passed, at-once, none-at}
+use Rattle.setting.specs.Refusal.{Check, firstOf}
+use Rattle.setting.proofs.Refusals.{passed, at-once, none-at}
 use Rattle.setting.specs.declared.Setting.{Setting}
-use Rattle.composer_state.specs.declared.Composer.{Composer}
+use Rattle.composer.specs.declared.Composer.{Composer}
 use Rattle.packet.specs.Packets.{frameLength}
-use Rattle.composer_state.specs.Composing.{stateChecks, beginRefusal}
-use Rattle.composer_state.proofs.Answers.{frame-lent}
-use Rattle.composer_state.proofs.Refusals.{state-none}
+use Rattle.composer.specs.Composing.{stateChecks, beginRefusal}
+use Rattle.composer.proofs.Answers.{frame-lent}
+use Rattle.composer.proofs.Refusals.{state-none}
 
 pub begin-passed : (c : Composer) (s : Setting) (lent : ℕ) → beginRefusal c s lent ≡ 0 → lent ≡ frameLength
 unfolding beginRefusal

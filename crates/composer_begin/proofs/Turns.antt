@@ -11,12 +11,12 @@ use lib.Dec.{leb, eqb, ltb}
 use Rattle.slices.proofs.Any.{both}
 use Rattle.setting.specs.declared.Kind.{Kind}
 use Rattle.setting.specs.declared.Setting.{Setting}
-use Rattle.refusal_table.specs.Refusal.{Check, firstOf, NoneHolds}
-use Rattle.rules.specs.Rules.{bondingChecks, ruleChecks}
-use Rattle.refusal_table.proofs.Refusals.{numbered, none-first}
-use Rattle.composer_state.specs.declared.Composer.{Composer}
-use Rattle.composer_state.specs.Composing.{asked, inTurn, openRuleChecks}
-use Rattle.composer_state.proofs.Refusals.{rules-numbered, open-rules-numbered}
+use Rattle.setting.specs.Refusal.{Check, firstOf, NoneHolds}
+use Rattle.setting.specs.Rules.{bondingChecks, ruleChecks}
+use Rattle.setting.proofs.Refusals.{numbered, none-first}
+use Rattle.composer.specs.declared.Composer.{Composer}
+use Rattle.composer.specs.Composing.{asked, inTurn, openRuleChecks}
+use Rattle.composer.proofs.Refusals.{rules-numbered, open-rules-numbered}
 
 -- two lists with the same numbers, which rise from n on
 pub data Rising : ℕ → List Check → List Check → Type 0 where

@@ -2,11 +2,11 @@
 use packet::FRAME_BYTES;
 ghost use mathlib.Core.Path.{_≡_};
 ghost use lib.ListN.{length};
-ghost use Rattle.refusal_table.specs.Refusal.{firstOf};
-ghost use Rattle.rules.specs.Rules.{ruleChecks};
-ghost use Rattle.coding.specs.Settings.{settingOf};
-ghost use Rattle.composer_state.specs.Composing.{openRuleChecks, inTurn, beginRefusal};
-ghost use Rattle.composer_bytes.specs.States.{composerLength, composerOf};
+ghost use Rattle.setting.specs.Refusal.{firstOf};
+ghost use Rattle.setting.specs.Rules.{ruleChecks};
+ghost use Rattle.setting_bytes.specs.Settings.{settingOf};
+ghost use Rattle.composer.specs.Composing.{openRuleChecks, inTurn, beginRefusal};
+ghost use Rattle.composer.specs.States.{composerLength, composerOf};
 
 // 8 to 11 of the state's setting while a frame is open and of a new one: under one number the state's comes first, so the
 // smaller number answers.
@@ -14,8 +14,8 @@ fn both_rules_refusal(state: &[u8], setting: &[u8]) -> u8
     requires { ⌜ length (now state) ≡ composerLength ⌝ }
     ensures { λ r. ⌜ r ≡ firstOf (inTurn (openRuleChecks (composerOf (now (state .entry)))) (ruleChecks (composerOf (now (state .entry)) .kind) (settingOf (now (setting .entry))))) ⌝ }
 {
-    let old = composer_in_place::open_rule_refusal(state);
-    let new = setting_in_place::rule_refusal(words::kind_of(state[2]), setting);
+    let old = composer_checks::open_rule_refusal(state);
+    let new = setting_checks::rule_refusal(setting_bytes::kind_of(state[2]), setting);
     if old == 0 {
         return new;
     }
@@ -35,11 +35,11 @@ pub(crate) fn begin_refusal(state: &[u8], setting: &[u8], lent: usize) -> u8
     if lent != FRAME_BYTES {
         return 1;
     }
-    let refused = composer_in_place::state_refusal(state);
+    let refused = composer_checks::state_refusal(state);
     if refused != 0 {
         return refused;
     }
-    let width = setting_in_place::width_refusal(words::kind_of(state[2]), setting);
+    let width = setting_checks::width_refusal(setting_bytes::kind_of(state[2]), setting);
     if width != 0 {
         return width;
     }
@@ -47,5 +47,5 @@ pub(crate) fn begin_refusal(state: &[u8], setting: &[u8], lent: usize) -> u8
     if rule != 0 {
         return rule;
     }
-    composer_in_place::mark_refusal(state)
+    composer_checks::mark_refusal(state)
 }

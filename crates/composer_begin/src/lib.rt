@@ -2,18 +2,18 @@
 mod checks;
 mod slots;
 
-use coding::SETTING_BYTES;
-use composer_bytes::COMPOSER_BYTES;
-use composer_bytes::FILLED;
-use composer_bytes::OPEN;
-use composer_bytes::SETTING;
+use setting_bytes::SETTING_BYTES;
+use composer::COMPOSER_BYTES;
+use composer::FILLED;
+use composer::OPEN;
+use composer::SETTING;
 ghost use mathlib.Core.Path.{_≡_};
 ghost use mathlib.Core.List.{_∷_, _++_};
 ghost use lib.ListN.{length, take, replicate};
 ghost use Rattle.counters.specs.Counters.{lastSlot};
-ghost use Rattle.coding.specs.Settings.{settingLength};
-ghost use Rattle.composer_bytes.specs.States.{composerLength};
-ghost use Rattle.board_frame.specs.Calls.{beginRefused, beginState, beginMemory};
+ghost use Rattle.setting_bytes.specs.Settings.{settingLength};
+ghost use Rattle.composer.specs.States.{composerLength};
+ghost use Rattle.composer.specs.Calls.{beginRefused, beginState, beginMemory};
 
 // The state with a frame open: the setting's bytes, and no slot filled.
 fn open(state: &mut [u8], setting: &[u8])

@@ -4,7 +4,7 @@ use setting::SLOTS;
 ghost use mathlib.Core.Path.{_≡_};
 ghost use lib.ListN.{length};
 ghost use Rattle.packet.specs.Packets.{packetLength, frameLength, nullPacket};
-ghost use Rattle.composer_state.specs.Slots.{cleared};
+ghost use Rattle.composer.specs.Slots.{cleared};
 
 // Writes a null packet into a slot.
 fn write_null(slot: &mut [u8])

@@ -12,19 +12,19 @@ use Rattle.slices.specs.Slices.{someAtLeast}
 use Rattle.setting.specs.declared.Kind.{Kind}
 use Rattle.setting.specs.declared.Setting.{Setting}
 use Rattle.packet.specs.Packets.{packetLength, frameLength}
-use Rattle.coding.specs.Settings.{part, settingLength, settingOf}
-use Rattle.coding.proofs.Parts.{length-part}
-use Rattle.layout.specs.Header.{headerLength, header}
-use Rattle.header_writer.specs.Writing.{writeRefusal, written}
-use Rattle.layout.specs.Meets.{MeetsRules}
-use Rattle.header_writer.proofs.Calls.{made, not-refused}
-use Rattle.composer_state.specs.declared.Composer.{Composer}
-use Rattle.announced.specs.Announcing.{differ, announced}
-use Rattle.composer_state.specs.Composing.{nextCounter, nextVersion, saying, closing, closedWith, closed}
+use Rattle.setting_bytes.specs.Settings.{part, settingLength, settingOf}
+use Rattle.setting_bytes.proofs.Parts.{length-part}
+use Rattle.header_layout.specs.Header.{headerLength, header}
+use Rattle.header_write.specs.Writing.{writeRefusal, written}
+use Rattle.header_layout.specs.Meets.{MeetsRules}
+use Rattle.header_write.proofs.Calls.{made, not-refused}
+use Rattle.composer.specs.declared.Composer.{Composer}
+use Rattle.setting.specs.Announcing.{differ, announced}
+use Rattle.composer.specs.Composing.{nextCounter, nextVersion, saying, closing, closedWith, closed}
 use Rattle.composer_close.proofs.Said.{version-narrow, said-meets}
-use Rattle.composer_state.proofs.Passed.{Passes}
-use Rattle.composer_bytes.specs.States.{composerLength, composerBytes, composerOf}
-use Rattle.composer_bytes.proofs.Same.{all-bytes, coded-by-counter, closed-bytes}
+use Rattle.composer.proofs.Passed.{Passes}
+use Rattle.composer.specs.States.{composerLength, composerBytes, composerOf}
+use Rattle.composer.proofs.Same.{all-bytes, coded-by-counter, closed-bytes}
 
 module _ (c : Composer) (l : length (c .filled) ≡ length (c .setting .«relative_ts_number»)) (p : Passes c) where
   closing-meets : MeetsRules (c .kind) (c .pid) (closing c)

@@ -5,13 +5,13 @@ use mathlib.Core.Bool.{cond}
 use mathlib.Core.List.{List}
 use lib.ListN.{getD}
 use Rattle.setting.specs.declared.Setting.{Setting}
-use Rattle.announced.specs.declared.Announced.{Announced}
-use Rattle.announced.specs.Announcing.{announced, differ}
-use Rattle.coding.specs.Settings.{part, announcedOf, settingOf}
-use Rattle.composer_state.specs.Slots.{numbersOf}
-use Rattle.composer_state.specs.Composing.{nextCounter, nextVersion, saying, closing}
-use Rattle.composer_bytes.specs.States.{composerOf, marksOf}
-use Rattle.composer_bytes.proofs.Same.{coded-by-counter}
+use Rattle.setting.specs.declared.Announced.{Announced}
+use Rattle.setting.specs.Announcing.{announced, differ}
+use Rattle.setting_bytes.specs.Settings.{part, announcedOf, settingOf}
+use Rattle.composer.specs.Slots.{numbersOf}
+use Rattle.composer.specs.Composing.{nextCounter, nextVersion, saying, closing}
+use Rattle.composer.specs.States.{composerOf, marksOf}
+use Rattle.composer.proofs.Same.{coded-by-counter}
 
 module _ (b : List ℕ) (low : composerOf b .counter < 16) where
   pub closing-read : (s : Setting) (last : Announced) (version : ℕ) (numbers : List ℕ) → s ≡ settingOf (part 86 252 b) → last ≡ announcedOf (part 5 80 b)

@@ -7,9 +7,9 @@ use borrow.Rule.Slice.PartMut.{same-len-mid}
 use lib.ListN.{length, take, set, replicate, length-set, length-replicate}
 use Rattle.slices.specs.Slices.{copied}
 use Rattle.slices.proofs.Front.{put, front-none, front-kept, front-more, front-part, front-all, copied-over}
-use Rattle.coding.specs.Settings.{part}
-use Rattle.coding.proofs.Parts.{length-part, copied-part}
-use Rattle.composer_bytes.specs.States.{composerLength}
+use Rattle.setting_bytes.specs.Settings.{part}
+use Rattle.setting_bytes.proofs.Parts.{length-part, copied-part}
+use Rattle.composer.specs.States.{composerLength}
 
 -- the state b with another counter and version
 abbrev pub numbered : List ℕ → ℕ → ℕ → List ℕ

@@ -7,8 +7,8 @@ use native.Mathlib.Numerals.{add-one}
 use lib.Dec.{eqb}
 use lib.ListN.{length, getD, drop, drop-of-length-le, length-map, List·getD-map}
 use lib.Seq.{drop-cons}
-use Rattle.composer_state.specs.Slots.{numbersOf}
-use Rattle.composer_bytes.specs.States.{marksOf}
+use Rattle.composer.specs.Slots.{numbersOf}
+use Rattle.composer.specs.States.{marksOf}
 
 -- the numbers from slot i on, by the byte that marks it, and behind the last
 pub numbers-from : (ns filled : List ℕ) (i : ℕ) {m : Bool} → eqb (getD filled i 0) 1 ≡ m → i < length ns → i < length filled

@@ -2,13 +2,13 @@
 use Prim.Native.Nat.{ℕ}
 use mathlib.Core.Path.{_≡_}
 use mathlib.Core.List.{_∷_, _++_}
-use Rattle.refusal_table.proofs.Refusals.{none-first, none-before, none-behind, numbered-append}
-use Rattle.composer_state.specs.declared.Composer.{Composer}
+use Rattle.setting.proofs.Refusals.{none-first, none-before, none-behind, numbered-append}
+use Rattle.composer.specs.declared.Composer.{Composer}
 use Rattle.packet.specs.Packets.{frameLength}
-use Rattle.composer_state.specs.Composing.{stateChecks, lengthCheck, openChecks, closeRefusal}
-use Rattle.composer_state.proofs.Answers.{frame-lent}
-use Rattle.composer_state.proofs.Refusals.{state-numbered, open-numbered}
-use Rattle.composer_state.proofs.Passed.{none-drop, Passes, passes}
+use Rattle.composer.specs.Composing.{stateChecks, lengthCheck, openChecks, closeRefusal}
+use Rattle.composer.proofs.Answers.{frame-lent}
+use Rattle.composer.proofs.Refusals.{state-numbered, open-numbered}
+use Rattle.composer.proofs.Passed.{none-drop, Passes, passes}
 
 pub record ClosePassed (c : Composer) (lent : ℕ) : Type 0 where
   pub long : lent ≡ frameLength

@@ -13,13 +13,13 @@ use Rattle.bits.proofs.Laws.{fit-of, fit-getD}
 use Rattle.slices.proofs.Any.{any-no, any-each}
 use Rattle.setting.specs.declared.Kind.{Kind}
 use Rattle.setting.specs.declared.Setting.{Setting}
-use Rattle.refusal_table.specs.Refusal.{NoneHolds, more}
-use Rattle.rules.specs.Rules.{pidAllowed, unavailable, someUnavailable, widthChecks, ruleChecks}
-use Rattle.refusal_table.proofs.Refusals.{none-at, none-append}
-use Rattle.rules.proofs.Fields.{some-fit, fit-some}
-use Rattle.layout.specs.Meets.{MeetsRules}
-use Rattle.composer_state.specs.Slots.{numbersOf}
-use Rattle.composer_state.specs.Composing.{saying}
+use Rattle.setting.specs.Refusal.{NoneHolds, more}
+use Rattle.setting.specs.Rules.{pidAllowed, unavailable, someUnavailable, widthChecks, ruleChecks}
+use Rattle.setting.proofs.Refusals.{none-at, none-append}
+use Rattle.setting.proofs.Fields.{some-fit, fit-some}
+use Rattle.header_layout.specs.Meets.{MeetsRules}
+use Rattle.composer.specs.Slots.{numbersOf}
+use Rattle.composer.specs.Composing.{saying}
 
 -- ---- the filled slots' numbers: the plan's, or 0
 

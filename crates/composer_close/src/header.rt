@@ -1,10 +1,10 @@
 // What the header of an open frame says: its setting, with the run's counter and version, and with the slots that were filled.
-use announced::Announced;
-use composer_bytes::COMPOSER_BYTES;
-use composer_bytes::FILLED;
-use composer_bytes::LAST;
-use composer_bytes::OPEN;
-use composer_bytes::SETTING;
+use setting::Announced;
+use composer::COMPOSER_BYTES;
+use composer::FILLED;
+use composer::LAST;
+use composer::OPEN;
+use composer::SETTING;
 use setting::SLOTS;
 use setting::Setting;
 ghost use mathlib.Core.Path.{_≡_};
@@ -12,10 +12,10 @@ ghost use mathlib.Core.Bool.{cond};
 ghost use Prim.Native.Nat.{_+_, _%_, _<_};
 ghost use lib.ListN.{length};
 ghost use Rattle.counters.specs.Counters.{lastSlot};
-ghost use Rattle.announced.specs.Announcing.{announced, differ};
-ghost use Rattle.composer_state.specs.Slots.{numbersOf};
-ghost use Rattle.composer_state.specs.Composing.{closing};
-ghost use Rattle.composer_bytes.specs.States.{composerLength, composerOf, marksOf};
+ghost use Rattle.setting.specs.Announcing.{announced, differ};
+ghost use Rattle.composer.specs.Slots.{numbersOf};
+ghost use Rattle.composer.specs.Composing.{closing};
+ghost use Rattle.composer.specs.States.{composerLength, composerOf, marksOf};
 
 // Where the last closed header's counter and version stand in the state.
 pub(crate) const COUNTER: usize = 3;
@@ -41,7 +41,7 @@ fn next_version(version: u8, s: Setting, last: Announced) -> u8
     requires { ⌜ version < 8 ⌝ }
     ensures { λ r. ⌜ r ≡ cond (differ (announced s) last) ((version + 1) % 8) version ⌝ }
 {
-    if announced_change::differs(announced::announce(s), last) {
+    if setting_changes::differs(setting::announce(s), last) {
         return (version + 1) % 8;
     }
     version
@@ -53,8 +53,8 @@ pub(crate) fn header_setting(state: &[u8]) -> Setting
     requires { ⌜ (composerOf (now state) .counter < 16) × (composerOf (now state) .version < 8) ⌝ }
     ensures { λ r. ⌜ r ≡ closing (composerOf (now (state .entry))) ⌝ }
 {
-    let mut said = setting_reader::setting_of(&state[SETTING..FILLED]);
-    let last = announced_reader::announced_of(&state[LAST..OPEN]);
+    let mut said = setting_read::setting_of(&state[SETTING..FILLED]);
+    let last = setting_read::announced_of(&state[LAST..OPEN]);
     let version = next_version(state[VERSION], said, last);
     let mut numbers = said.relative_ts_number;
     number(&mut numbers, &state[FILLED..COMPOSER_BYTES]);

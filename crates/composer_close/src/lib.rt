@@ -1,22 +1,22 @@
 // The call for C that closes an open frame: its header says the slots that were filled. The run's state is lent bytes.
 mod header;
 
-use coding::ANNOUNCED;
-use coding::ANNOUNCED_BYTES;
-use composer_bytes::COMPOSER_BYTES;
-use composer_bytes::LAST;
-use composer_bytes::OPEN;
-use composer_bytes::PLAN;
-use composer_bytes::SETTING;
+use setting_bytes::ANNOUNCED;
+use setting_bytes::ANNOUNCED_BYTES;
+use composer::COMPOSER_BYTES;
+use composer::LAST;
+use composer::OPEN;
+use composer::PLAN;
+use composer::SETTING;
 use packet::FRAME_BYTES;
 use packet::PACKET_BYTES;
 ghost use mathlib.Core.Path.{_≡_};
 ghost use mathlib.Core.List.{_∷_, _++_};
 ghost use lib.ListN.{length, take, replicate};
-ghost use Rattle.coding.specs.Settings.{part};
-ghost use Rattle.composer_state.specs.Composing.{closeRefusal};
-ghost use Rattle.composer_bytes.specs.States.{composerLength, composerOf};
-ghost use Rattle.board_frame.specs.Calls.{closeRefused, closeState, closeMemory};
+ghost use Rattle.setting_bytes.specs.Settings.{part};
+ghost use Rattle.composer.specs.Composing.{closeRefusal};
+ghost use Rattle.composer.specs.States.{composerLength, composerOf};
+ghost use Rattle.composer.specs.Calls.{closeRefused, closeState, closeMemory};
 
 // Where what the open frame's setting announces stands, up to its plan.
 const SAID: usize = SETTING + ANNOUNCED;
@@ -28,11 +28,11 @@ fn close_refusal(state: &[u8], lent: usize) -> u8
     if lent != FRAME_BYTES {
         return 1;
     }
-    let refused = composer_in_place::state_refusal(state);
+    let refused = composer_checks::state_refusal(state);
     if refused != 0 {
         return refused;
     }
-    composer_in_place::open_refusal(state)
+    composer_checks::open_refusal(state)
 }
 
 // Leaves no frame open: what its setting announced is now what the last header announced, and zeros stand behind it.
@@ -64,10 +64,10 @@ pub extern "C" fn niranbok_composer_close(state: &mut [u8], frame: &mut [u8]) ->
     }
     slices::look(state);
     let said = header::header_setting(state);
-    let pid = words::word(state[0], state[1]);
-    let kind = words::kind_of(state[2]);
+    let pid = setting_bytes::word(state[0], state[1]);
+    let kind = setting_bytes::kind_of(state[2]);
     // What passed the checks is not refused here.
-    header_writer::write(&mut frame[0..PACKET_BYTES], pid, kind, said);
+    header_write::write(&mut frame[0..PACKET_BYTES], pid, kind, said);
     end_frame(state, said.continuity_counter, said.version_number);
     0
 }

@@ -9,15 +9,15 @@ use lib.Dec.{leb, eqb}
 use lib.ListN.{length}
 use Rattle.slices.proofs.Any.{both}
 use Rattle.counters.specs.Counters.{firstStream, lastStream, within}
-use Rattle.refusal_table.specs.Refusal.{Check, NoneHolds}
-use Rattle.refusal_table.proofs.Refusals.{none-first, none-at, none-before, none-behind, numbered-append}
-use Rattle.composer_state.specs.declared.Composer.{Composer}
+use Rattle.setting.specs.Refusal.{Check, NoneHolds}
+use Rattle.setting.proofs.Refusals.{none-first, none-at, none-before, none-behind, numbered-append}
+use Rattle.composer.specs.declared.Composer.{Composer}
 use Rattle.packet.specs.Packets.{packetLength, frameLength}
-use Rattle.composer_state.specs.Slots.{someUnfit}
-use Rattle.composer_state.specs.Composing.{stateChecks, lengthCheck, openChecks, streamChecks, putRefusal}
-use Rattle.composer_state.proofs.Answers.{frame-lent}
-use Rattle.composer_state.proofs.Refusals.{state-numbered, open-numbered}
-use Rattle.composer_state.proofs.Passed.{none-drop, Passes, passes}
+use Rattle.composer.specs.Slots.{someUnfit}
+use Rattle.composer.specs.Composing.{stateChecks, lengthCheck, openChecks, streamChecks, putRefusal}
+use Rattle.composer.proofs.Answers.{frame-lent}
+use Rattle.composer.proofs.Refusals.{state-numbered, open-numbered}
+use Rattle.composer.proofs.Passed.{none-drop, Passes, passes}
 
 within-not-0 : (r : ℕ) → within firstStream lastStream r ≡ true → r ≡ 0 → ⊥
 within-not-0 r e z =

@@ -12,7 +12,7 @@ use lib.ListN.{length, take, drop, length-drop}
 use lib.Seq.{drop-drop}
 use Rattle.slices.specs.Slices.{anyBelow}
 use Rattle.packet.specs.Packets.{packetLength, slot, unfit}
-use Rattle.composer_state.specs.Slots.{takes, placedBy, someUnfit}
+use Rattle.composer.specs.Slots.{takes, placedBy, someUnfit}
 use Rattle.slot_bits.specs.Bits.{slotBits}
 use Rattle.composer_put.specs.Bits.{emptyFor, emptySlots, placeable}
 use Rattle.slot_bits.proofs.NextBit.{ones-from}

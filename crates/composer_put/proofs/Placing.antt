@@ -16,9 +16,9 @@ use Rattle.slices.proofs.Front.{put}
 use Rattle.slices.proofs.Toward.{Toward, toward-none, toward-more, toward-kept, toward-same, toward-part, toward-all}
 use Rattle.counters.specs.Counters.{lastSlot}
 use Rattle.packet.specs.Packets.{packetLength, frameLength}
-use Rattle.composer_state.specs.Slots.{takes, frameAfter, slotsAfter, marksAfter, restAfter}
-use Rattle.composer_bytes.specs.States.{markByte, marksOf}
-use Rattle.composer_bytes.proofs.Same.{marks-same}
+use Rattle.composer.specs.Slots.{takes, frameAfter, slotsAfter, marksAfter, restAfter}
+use Rattle.composer.specs.States.{markByte, marksOf}
+use Rattle.composer.proofs.Same.{marks-same}
 use Rattle.composer_put.specs.Bits.{emptySlots}
 use Rattle.slot_bits.proofs.NextBit.{lowest, next}
 use Rattle.composer_put.proofs.Bits.{emptyAt, bit-from, bits-none}

@@ -7,7 +7,7 @@ use native.Mathlib.Omega.{arith}
 use lib.ListN.{length, drop, length-drop}
 use lib.Seq.{drop-drop}
 use Rattle.packet.specs.Packets.{packetLength}
-use Rattle.composer_state.specs.Slots.{takes, restAfter, placedBy}
+use Rattle.composer.specs.Slots.{takes, restAfter, placedBy}
 use Rattle.composer_put.specs.Bits.{emptySlots}
 use Rattle.composer_put.proofs.Placed.{placeable-is, placed-is}
 

@@ -7,7 +7,7 @@ use native.Mathlib.Numerals.{add-one}
 use lib.ListN.{length, getD, take, drop, length-drop, drop-of-length-le}
 use lib.Seq.{drop-cons, drop-drop}
 use Rattle.packet.specs.Packets.{packetLength}
-use Rattle.composer_state.specs.Slots.{takes, slotsAfter, marksAfter, restAfter}
+use Rattle.composer.specs.Slots.{takes, slotsAfter, marksAfter, restAfter}
 
 module _ (plan : List ℕ) (marks : List Bool) (i : ℕ) (h : i < length plan) (g : i < length marks) where
   abbrev plan′ : List ℕ

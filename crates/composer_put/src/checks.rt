@@ -1,15 +1,15 @@
 // What put asks of its state and of what it is lent, in the table's order.
 use crate::slots;
-use composer_bytes::AVAILABILITY;
+use composer::AVAILABILITY;
 use counters::RelativeNumber;
 use packet::FRAME_BYTES;
 use packet::PACKET_BYTES;
 ghost use mathlib.Core.Path.{_≡_};
 ghost use lib.ListN.{length};
-ghost use Rattle.refusal_table.specs.Refusal.{firstOf};
-ghost use Rattle.composer_state.specs.Composing.{streamChecks, putRefusal};
-ghost use Rattle.coding.specs.Settings.{part};
-ghost use Rattle.composer_bytes.specs.States.{composerLength, composerOf, marksOf};
+ghost use Rattle.setting.specs.Refusal.{firstOf};
+ghost use Rattle.composer.specs.Composing.{streamChecks, putRefusal};
+ghost use Rattle.setting_bytes.specs.Settings.{part};
+ghost use Rattle.composer.specs.States.{composerLength, composerOf, marksOf};
 ghost use Rattle.composer_put.specs.Bits.{emptySlots};
 
 // 13 and 12: what is asked of the packets that would be placed.
@@ -18,10 +18,10 @@ fn stream_refusal(state: &[u8], stream: &[u8], r: RelativeNumber, empty: u64) ->
     requires { ⌜ empty ≡ emptySlots (r .0) (part 168 52 (now state)) (marksOf (part 338 52 (now state))) ⌝ }
     ensures { λ t. ⌜ t ≡ firstOf (streamChecks (composerOf (now (state .entry))) (r .0) (now (stream .entry))) ⌝ }
 {
-    if !r.is_available(words::word(state[AVAILABILITY], state[AVAILABILITY + 1])) {
+    if !r.is_available(setting_bytes::word(state[AVAILABILITY], state[AVAILABILITY + 1])) {
         return 13;
     }
-    let pid = words::word(state[0], state[1]);
+    let pid = setting_bytes::word(state[0], state[1]);
     if slots::has_unfit(stream, slots::packets_for(empty, stream.len()), pid) {
         return 12;
     }
@@ -46,7 +46,7 @@ pub(crate) fn put_refusal(
     if stream.len() % PACKET_BYTES != 0 {
         return 1;
     }
-    let refused = composer_in_place::state_refusal(state);
+    let refused = composer_checks::state_refusal(state);
     if refused != 0 {
         return refused;
     }
@@ -56,7 +56,7 @@ pub(crate) fn put_refusal(
     if RelativeNumber::LAST < r.0 {
         return 17;
     }
-    let not_open = composer_in_place::open_refusal(state);
+    let not_open = composer_checks::open_refusal(state);
     if not_open != 0 {
         return not_open;
     }

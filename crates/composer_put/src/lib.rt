@@ -2,14 +2,14 @@
 mod checks;
 mod slots;
 
-use composer_bytes::COMPOSER_BYTES;
-use composer_bytes::FILLED;
-use composer_bytes::PLAN;
+use composer::COMPOSER_BYTES;
+use composer::FILLED;
+use composer::PLAN;
 use counters::RelativeNumber;
 use packet::PACKET_BYTES;
 use setting::SLOTS;
 ghost use mathlib.Core.Path.{_≡_};
-ghost use Rattle.board_frame.specs.Calls.{putRefused, putPlaced, putState, putMemory};
+ghost use Rattle.composer.specs.Calls.{putRefused, putPlaced, putState, putMemory};
 
 // Fills the still empty slots planned for stream r, in rising order, from the front of the lent stream, until slots or
 // packets run out. `rest` answers what is left of the stream.

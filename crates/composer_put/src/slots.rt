@@ -9,8 +9,8 @@ ghost use lib.ListN.{length};
 ghost use Rattle.slices.specs.Slices.{anyBelow, someAtLeast};
 ghost use Rattle.counters.specs.Counters.{lastSlot};
 ghost use Rattle.packet.specs.Packets.{packetLength, frameLength, slot, unfit};
-ghost use Rattle.composer_state.specs.Slots.{frameAfter, marksAfter, restAfter};
-ghost use Rattle.composer_bytes.specs.States.{markByte, marksOf};
+ghost use Rattle.composer.specs.Slots.{frameAfter, marksAfter, restAfter};
+ghost use Rattle.composer.specs.States.{markByte, marksOf};
 ghost use Rattle.composer_put.specs.Bits.{emptySlots, placeable};
 
 // The still empty slots planned for stream r. Each is asked alike and none stops it, so that many are compared at a time.

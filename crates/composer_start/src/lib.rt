@@ -1,13 +1,13 @@
 // A run of frames started: its state as a value of bytes, or written into lent ones.
-use composer_bytes::COMPOSER_BYTES;
+use composer::COMPOSER_BYTES;
 use setting::Kind;
 ghost use mathlib.Core.Path.{_≡_};
 ghost use Prim.Native.Nat.{_<_};
 ghost use lib.ListN.{length};
-ghost use Rattle.words.specs.Kinds.{kindOf};
-ghost use Rattle.composer_state.specs.Composing.{fresh, startOf};
-ghost use Rattle.composer_bytes.specs.States.{composerLength, composerBytes};
-ghost use Rattle.board_frame.specs.Calls.{startRefused, startState};
+ghost use Rattle.setting_bytes.specs.Kinds.{kindOf};
+ghost use Rattle.composer.specs.Composing.{fresh, startOf};
+ghost use Rattle.composer.specs.States.{composerLength, composerBytes};
+ghost use Rattle.composer.specs.Calls.{startRefused, startState};
 
 // What a start answers: refusal 0 and the state, or the refusal's number and the fresh plain state of PID 0.
 pub struct Started {
@@ -34,11 +34,11 @@ pub fn start(pid: u16, kind: Kind) -> Started
     ensures { λ r. ⌜ r .state ≡ composerBytes (startOf kind pid .state) ⌝ }
 {
     let mut state = [0u8; COMPOSER_BYTES];
-    if !rules::pid_allowed(pid) {
+    if !setting::pid_allowed(pid) {
         write_fresh(&mut state, 0, 0);
         return Started { refusal: 2, state };
     }
-    write_fresh(&mut state, pid, words::kind_number(kind));
+    write_fresh(&mut state, pid, setting_bytes::kind_number(kind));
     Started { refusal: 0, state }
 }
 
@@ -51,7 +51,7 @@ pub extern "C" fn niranbok_composer_start(state: &mut [u8], pid: u16, kind: u8) 
     if state.len() != COMPOSER_BYTES {
         return 1;
     }
-    if !rules::pid_allowed(pid) {
+    if !setting::pid_allowed(pid) {
         return 2;
     }
     if 1 < kind {

@@ -1,3 +1,4 @@
 mod Checked
 mod Streams
 pub mod Within
+mod Numbers

@@ -1,5 +1,6 @@
 // The three counters of J.183, each with its first and last value, and which streams are available. The counts stand here and nowhere
 // else in the code.
+// The checked constructors of slots, streams and positions for callers in other languages.
 ghost use mathlib.Core.Path.{_≡_};
 ghost use Rattle.counters.specs.Counters.{firstSlot, lastSlot, firstStream, lastStream, firstPosition, lastPosition, checked, slotAnswer, relativeNumberAnswer, framePositionAnswer, available, countAvailable};
 
@@ -104,4 +105,53 @@ pub fn count_available(availability: u16) -> u32
     ensures { λ r. ⌜ r ≡ countAvailable availability ⌝ }
 {
     u16::count_ones(availability % AVAILABILITIES)
+}
+
+// Whether a number is a slot's.
+#[no_mangle]
+pub extern "C" fn niranbok_slot(n: u8) -> u8
+    ensures { λ r. ⌜ r ≡ checked firstSlot lastSlot n .0 ⌝ }
+{
+    match Slot::new(n) {
+        SlotAnswer::Is(_) => 0,
+        SlotAnswer::Refused(refusal) => refusal,
+    }
+}
+
+// Whether a number is a stream's.
+#[no_mangle]
+pub extern "C" fn niranbok_relative_number(n: u8) -> u8
+    ensures { λ r. ⌜ r ≡ checked firstStream lastStream n .0 ⌝ }
+{
+    match RelativeNumber::new(n) {
+        RelativeNumberAnswer::Is(_) => 0,
+        RelativeNumberAnswer::Refused(refusal) => refusal,
+    }
+}
+
+// Whether a number is a frame's position.
+#[no_mangle]
+pub extern "C" fn niranbok_frame_position(n: u8) -> u8
+    ensures { λ r. ⌜ r ≡ checked firstPosition lastPosition n .0 ⌝ }
+{
+    match FramePosition::new(n) {
+        FramePositionAnswer::Is(_) => 0,
+        FramePositionAnswer::Refused(refusal) => refusal,
+    }
+}
+
+// Whether stream r is available.
+#[no_mangle]
+pub extern "C" fn niranbok_is_available(r: u8, availability: u16) -> bool
+    ensures { λ t. ⌜ t ≡ available availability r ⌝ }
+{
+    RelativeNumber(r).is_available(availability)
+}
+
+// How many of the fifteen streams are available.
+#[no_mangle]
+pub extern "C" fn niranbok_count_available(availability: u16) -> u32
+    ensures { λ r. ⌜ r ≡ countAvailable availability ⌝ }
+{
+    count_available(availability)
 }

@@ -1,4 +1,5 @@
 // The CRC of H.222.0 over bytes.
+// The call for C that answers with a CRC register.
 ghost use Prim.Native.Nat.{_+_, _/_, _%_, _^_, _≤_, _<_};
 ghost use mathlib.Core.Path.{_≡_};
 ghost use lib.ListN.{length};
@@ -241,4 +242,12 @@ pub fn register(message: &[u8]) -> u32
     let longs = n - n % 8;
     let r = longs_in(&message[0..longs]);
     bytes_in(r, &message[longs..])
+}
+
+// The CRC register that the bytes leave.
+#[no_mangle]
+pub extern "C" fn niranbok_crc(bytes: &[u8]) -> u32
+    ensures { λ r. ⌜ r ≡ registerOf (now (bytes .entry)) ⌝ }
+{
+    register(bytes)
 }

@@ -9,13 +9,13 @@ use borrow.Author.Tests.{eqb-true}
 use Rattle.slices.proofs.Any.{both}
 use Rattle.bits.specs.Fields.{bitsOf, number, run, cut}
 use Rattle.crc.specs.Crc.{registerFrom}
-use Rattle.layout.specs.Rows.{pack}
-use Rattle.layout.specs.Header.{paired, lineBits, body, header}
-use Rattle.layout.proofs.LaidOut.{laid-out}
+use Rattle.header_layout.specs.Rows.{pack}
+use Rattle.header_layout.specs.Header.{paired, lineBits, body, header}
+use Rattle.header_layout.proofs.LaidOut.{laid-out}
 use Rattle.setting.specs.Setting.{blank}
-use Rattle.announced.specs.Announcing.{someDiffer, announced, differ}
-use Rattle.composer_state.specs.Composing.{nextCounter, nextVersion}
-use Rattle.receiver_table.specs.Table.{openRow, rowOf}
+use Rattle.setting.specs.Announcing.{someDiffer, announced, differ}
+use Rattle.composer.specs.Composing.{nextCounter, nextVersion}
+use Rattle.receiver.specs.Table.{openRow, rowOf}
 use Rattle.examples.specs.Examples.{Example, beyond, placeOfPair, examples, ExamplesHold}
 use Rattle.examples.proofs.Pair.{first-places}
 

@@ -7,10 +7,10 @@ use mathlib.Core.List.{List, [], _∷_, _++_, map, map-append}
 use native.Mathlib.Omega.{arith}
 use borrow.Author.Tests.{lt-ltb, le-ltb, eq-eqb}
 use lib.ListN.{getD, take}
-use Rattle.places.specs.Order.{framePackets, picked}
-use Rattle.places.specs.Walk.{lastCarrier, twelfths, placeAt, framesBefore, packetAt, isStop}
-use Rattle.places.proofs.Sorting.{picked-append}
-use Rattle.places.proofs.Sweep.{Grouped, NoHeader, swept}
+use Rattle.bond_places.specs.Order.{framePackets, picked}
+use Rattle.bond_places.specs.Walk.{lastCarrier, twelfths, placeAt, framesBefore, packetAt, isStop}
+use Rattle.bond_places.proofs.Sorting.{picked-append}
+use Rattle.bond_places.proofs.Sweep.{Grouped, NoHeader, swept}
 use Rattle.examples.specs.Examples.{placeOfPair, notHeader, shown, firstPlaces}
 
 -- how many frames each has

@@ -9,14 +9,14 @@ use Rattle.setting.specs.declared.Kind.{Kind}
 use Rattle.setting.specs.declared.Setting.{Setting}
 use Rattle.counters.specs.Counters.{lastSlot, lastStream}
 use Rattle.setting.specs.Setting.{blank}
-use Rattle.layout.specs.Header.{header}
-use Rattle.composer_state.specs.declared.Composer.{Composer}
-use Rattle.announced.specs.Announcing.{announced}
-use Rattle.composer_state.specs.Composing.{nextCounter, nextVersion}
-use Rattle.receiver_table.specs.declared.Stage.{Stage}
-use Rattle.receiver_table.specs.declared.Row.{Row}
-use Rattle.places.specs.Order.{framePackets, Place, comesBefore, picked, sorted}
-use Rattle.receiver_table.specs.Table.{good, other, rowOf, makesReady, droppedBy}
+use Rattle.header_layout.specs.Header.{header}
+use Rattle.composer.specs.declared.Composer.{Composer}
+use Rattle.setting.specs.Announcing.{announced}
+use Rattle.composer.specs.Composing.{nextCounter, nextVersion}
+use Rattle.receiver.specs.declared.Stage.{Stage}
+use Rattle.receiver.specs.declared.Row.{Row}
+use Rattle.bond_places.specs.Order.{framePackets, Place, comesBefore, picked, sorted}
+use Rattle.receiver.specs.Table.{good, other, rowOf, makesReady, droppedBy}
 
 -- an example: its number in the document, what the definitions say, and what the document says
 pub record Example : Type 0 where

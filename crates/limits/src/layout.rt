@@ -26,60 +26,60 @@ fn print_place(name: &[u8], at: u64, bytes: u64) {
 pub(crate) fn print_lengths() {
     print_length(b"packet", packet::PACKET_BYTES as u64);
     print_length(b"frame", packet::FRAME_BYTES as u64);
-    print_length(b"store", receiver_in_place::STORE_BYTES as u64);
-    print_length(b"setting", coding::SETTING_BYTES as u64);
-    print_length(b"composer", board_frame::COMPOSER_BYTES as u64);
-    print_length(b"receiver", board_receiver::RECEIVER_BYTES as u64);
+    print_length(b"store", receiver::STORE_BYTES as u64);
+    print_length(b"setting", setting_bytes::SETTING_BYTES as u64);
+    print_length(b"composer", composer::COMPOSER_BYTES as u64);
+    print_length(b"receiver", receiver::RECEIVER_BYTES as u64);
 }
 
 pub(crate) fn print_places() {
     print_place(b"continuity_counter", 0, 1);
     print_place(b"version_number", 1, 1);
-    print_place(b"slot_allocation_type", coding::ANNOUNCED as u64, 1);
-    print_place(b"frame_type", coding::ANNOUNCED as u64 + 1, 1);
-    print_place(b"availability", coding::ANNOUNCED as u64 + 2, 2);
+    print_place(b"slot_allocation_type", setting_bytes::ANNOUNCED as u64, 1);
+    print_place(b"frame_type", setting_bytes::ANNOUNCED as u64 + 1, 1);
+    print_place(b"availability", setting_bytes::ANNOUNCED as u64 + 2, 2);
 }
 
 // What a setting has for each stream and for each slot.
 pub(crate) fn print_stream_places() {
     print_place(
         b"ts_id",
-        (coding::ANNOUNCED + coding::TS_ID) as u64,
+        (setting_bytes::ANNOUNCED + setting_bytes::TS_ID) as u64,
         2 * STREAMS as u64,
     );
     print_place(
         b"original_network_id",
-        (coding::ANNOUNCED + coding::ORIGINAL_NETWORK_ID) as u64,
+        (setting_bytes::ANNOUNCED + setting_bytes::ORIGINAL_NETWORK_ID) as u64,
         2 * STREAMS as u64,
     );
     print_place(
         b"receive_status",
-        (coding::ANNOUNCED + coding::RECEIVE_STATUS) as u64,
+        (setting_bytes::ANNOUNCED + setting_bytes::RECEIVE_STATUS) as u64,
         STREAMS as u64,
     );
     print_place(
         b"emergency_indicator",
-        (coding::ANNOUNCED + coding::EMERGENCY) as u64,
+        (setting_bytes::ANNOUNCED + setting_bytes::EMERGENCY) as u64,
         1,
     );
-    print_place(b"relative_ts_number", coding::NUMBERS as u64, SLOTS as u64);
+    print_place(b"relative_ts_number", setting_bytes::NUMBERS as u64, SLOTS as u64);
 }
 
 // The private data, and the fields of an extended header.
 pub(crate) fn print_extended_places() {
     print_place(
         b"private_data",
-        coding::PRIVATE as u64,
+        setting_bytes::PRIVATE as u64,
         PRIVATE_BYTES as u64,
     );
     print_place(
         b"auxiliary",
-        coding::AUXILIARY as u64,
+        setting_bytes::AUXILIARY as u64,
         AUXILIARY_BYTES as u64,
     );
-    print_place(b"group_id", coding::BONDING as u64, 1);
-    print_place(b"number_of_carriers", coding::BONDING as u64 + 1, 1);
-    print_place(b"carrier_sequence", coding::BONDING as u64 + 2, 1);
-    print_place(b"number_of_frames", coding::BONDING as u64 + 3, 1);
-    print_place(b"frame_position", coding::BONDING as u64 + 4, 1);
+    print_place(b"group_id", setting_bytes::BONDING as u64, 1);
+    print_place(b"number_of_carriers", setting_bytes::BONDING as u64 + 1, 1);
+    print_place(b"carrier_sequence", setting_bytes::BONDING as u64 + 2, 1);
+    print_place(b"number_of_frames", setting_bytes::BONDING as u64 + 3, 1);
+    print_place(b"frame_position", setting_bytes::BONDING as u64 + 4, 1);
 }

@@ -10,8 +10,8 @@ use lib.ListN.{length}
 use borrow.Author.Tests.{ltb-false, lt-ltb, le-ltb, ne-eqb}
 use Rattle.io.specs.Counts.{Counts}
 use Rattle.io.proofs.Counting.{counts}
-use Rattle.refusal_table.specs.Refusal.{firstOf}
-use Rattle.refusal_table.proofs.Refusals.{none-first, none-at}
+use Rattle.setting.specs.Refusal.{firstOf}
+use Rattle.setting.proofs.Refusals.{none-first, none-at}
 use Rattle.listing.specs.declared.Listed.{Listed}
 use Rattle.listing.specs.Text.{Puts}
 use Rattle.listing.specs.Listing.{packetsIn, roomFor, listing, listChecks, listRefusal, listed, overFront, listedOver}

@@ -6,10 +6,10 @@ use mathlib.Core.List.{List, [], _∷_, _++_}
 use lib.Dec.{eqb, ltb}
 use lib.ListN.{length, take, drop}
 use Rattle.setting.specs.declared.Kind.{Kind}
-use Rattle.refusal_table.specs.Refusal.{Check, firstOf}
+use Rattle.setting.specs.Refusal.{Check, firstOf}
 use Rattle.counters.specs.Counters.{countAvailable}
-use Rattle.header_reader.specs.declared.Reading.{Reading}
-use Rattle.header_reader.specs.Reader.{readOf}
+use Rattle.header_read.specs.declared.Reading.{Reading}
+use Rattle.header_read.specs.Reader.{readOf}
 use Rattle.listing.specs.declared.Listed.{Listed}
 use Rattle.listing.specs.Text.{space, lineFeed, decimal, field}
 

@@ -37,7 +37,7 @@ fn put_line(out: &mut [u8], at: usize, number: u64, packet: &[u8]) -> usize
     ensures { λ r. ⌜ Puts (now (out .entry)) at (line number (now (packet .entry))) (now (out .exit)) r ⌝ }
     ensures { λ r. ⌜ r ≤ at + lineRoom ⌝ }
 {
-    let reading = header_reader::read(packet, PID, Kind::Plain);
+    let reading = header_read::read(packet, PID, Kind::Plain);
     let next = put_number(out, at, number, b' ');
     if reading.refusal != 0 {
         return put_refused(out, next, reading.refusal);

@@ -6,8 +6,8 @@ use mathlib.Core.List.{List, [], _∷_}
 use borrow.Author.Tests.{eq-eqb}
 use lib.Dec.{eqb}
 use lib.ListN.{length}
-use Rattle.refusal_table.specs.Refusal.{none, more}
-use Rattle.refusal_table.proofs.Refusals.{first-none, none-first, none-at}
+use Rattle.setting.specs.Refusal.{none, more}
+use Rattle.setting.proofs.Refusals.{first-none, none-first, none-at}
 use Rattle.packet.specs.Packets.{packetLength, unfit, placeRefusal}
 
 pub may-stand : (pid : ℕ) (p : List ℕ) → placeRefusal pid p ≡ 0 → unfit pid p ≡ false

@@ -4,9 +4,9 @@ use mathlib.Core.Bool.{Bool, not, _||_}
 use mathlib.Core.List.{List, [], _∷_}
 use lib.Dec.{eqb}
 use lib.ListN.{length, take, drop, replicate}
-use Rattle.refusal_table.specs.Refusal.{firstOf}
-use Rattle.layout.specs.Layout.{syncByte, Field}
-use Rattle.layout.specs.Header.{startValue}
+use Rattle.setting.specs.Refusal.{firstOf}
+use Rattle.header_layout.specs.Layout.{syncByte, Field}
+use Rattle.header_layout.specs.Header.{startValue}
 
 abbrev pub packetLength : ℕ
 packetLength = 188

@@ -1,7 +1,9 @@
 // Packets of 188 bytes, of which a frame has a header and one for each slot, and what is left of a stream of them.
+// Packets for callers in other languages: whether one may stand in a slot, and what is left of a stream of them.
 use setting::SLOTS;
 ghost use mathlib.Core.Path.{_≡_};
 ghost use Rattle.packet.specs.Packets.{placeRefusal, restOf};
+ghost use lib.ListN.{length};
 
 pub const PACKET_BYTES: usize = 188;
 
@@ -32,4 +34,20 @@ pub fn rest<'a>(stream: &'a [u8], placed: usize) -> &'a [u8]
         return &stream[end..];
     }
     &stream[PACKET_BYTES * placed..]
+}
+
+// Whether a packet may stand in a slot.
+#[no_mangle]
+pub extern "C" fn niranbok_place_refusal(packet: &[u8], pid: u16) -> u8
+    ensures { λ r. ⌜ r ≡ placeRefusal pid (now (packet .entry)) ⌝ }
+{
+    place_refusal(packet, pid)
+}
+
+// How many bytes of a stream are left behind so many placed packets.
+#[no_mangle]
+pub extern "C" fn niranbok_composer_rest(stream: &[u8], placed: usize) -> usize
+    ensures { λ r. ⌜ r ≡ length (restOf (now (stream .entry)) placed) ⌝ }
+{
+    rest(stream, placed).len()
 }

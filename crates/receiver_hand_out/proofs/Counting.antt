@@ -9,7 +9,7 @@ use lib.Arith.{digits-lt}
 use lib.Count.{ones, ones-cat}
 use lib.Dec.{eqb, lit<}
 use lib.ListN.{length, getD, drop}
-use Rattle.receiver_in_place.specs.Store.{slotsFor}
+use Rattle.receiver.specs.Store.{slotsFor}
 use Rattle.receiver_hand_out.specs.Halves.{halvesOf, marked}
 use Rattle.receiver_hand_out.proofs.Joined.{joined, wider, length-marked, length-halves, joined-halves}
 

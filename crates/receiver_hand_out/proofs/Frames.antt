@@ -12,20 +12,20 @@ use lib.Seq.{take-all}
 use Rattle.slices.specs.Slices.{over}
 use Rattle.slices.proofs.Any.{both}
 use Rattle.setting.specs.declared.Kind.{Kind}
-use Rattle.slot_numbers.specs.Packed.{packedLength, unpacked}
+use Rattle.receiver.specs.Packed.{packedLength, unpacked}
 use Rattle.counters.specs.Counters.{firstStream, lastStream, within}
-use Rattle.refusal_table.specs.Refusal.{Check, firstOf, NoneHolds, leaves}
-use Rattle.refusal_table.proofs.Refusals.{none-first, none-at, none-behind, numbered-append, onward, at-once, kept}
+use Rattle.setting.specs.Refusal.{Check, firstOf, NoneHolds, leaves}
+use Rattle.setting.proofs.Refusals.{none-first, none-at, none-behind, numbered-append, onward, at-once, kept}
 use Rattle.packet.specs.Packets.{packetLength}
-use Rattle.receiver_table.specs.declared.Stage.{Stage}
-use Rattle.receiver_table.specs.Table.{isReady}
-use Rattle.receiver_in_place.specs.declared.Receiver.{Receiver}
-use Rattle.receiver_in_place.specs.declared.HandedOut.{HandedOut}
-use Rattle.receiver_in_place.specs.Store.{storeLength, numbered, slotsFor}
-use Rattle.receiver_in_place.specs.Receiving.{receiverChecks, handOutRefusal, handOutOf, handOutBuffer}
-use Rattle.receiver_in_place.specs.InPlace.{numbersLength, receiverWith, lentRefusal, handOutWith, handOutInto}
-use Rattle.receiver_in_place.proofs.ReceiverChecks.{receiver-numbered}
-use Rattle.receiver_in_place.proofs.LentRefusal.{own-refusal, other-refusal}
+use Rattle.receiver.specs.declared.Stage.{Stage}
+use Rattle.receiver.specs.Table.{isReady}
+use Rattle.receiver.specs.declared.Receiver.{Receiver}
+use Rattle.receiver.specs.declared.HandedOut.{HandedOut}
+use Rattle.receiver.specs.Store.{storeLength, numbered, slotsFor}
+use Rattle.receiver.specs.Receiving.{receiverChecks, handOutRefusal, handOutOf, handOutBuffer}
+use Rattle.receiver.specs.InPlace.{numbersLength, receiverWith, lentRefusal, handOutWith, handOutInto}
+use Rattle.receiver.proofs.ReceiverChecks.{receiver-numbered}
+use Rattle.receiver.proofs.LentRefusal.{own-refusal, other-refusal}
 use Rattle.receiver_hand_out.specs.Ready.{readyChecks}
 
 -- the second part is all that is behind the first

@@ -13,8 +13,8 @@ use Rattle.slices.proofs.Front.{put}
 use Rattle.slices.proofs.Toward.{Toward, toward-none, toward-kept, toward-part, toward-all}
 use Rattle.packet.specs.Packets.{packetLength}
 use Rattle.slices.specs.Slices.{over}
-use Rattle.receiver_in_place.specs.Store.{numbered, slotsFor}
-use Rattle.receiver_in_place.proofs.Store.{length-numbered}
+use Rattle.receiver.specs.Store.{numbered, slotsFor}
+use Rattle.receiver.proofs.Store.{length-numbered}
 
 -- no slot, no packet
 none-numbered : (r : ℕ) (ns bytes : List ℕ) → slotsFor r ns ≡ 0 → numbered r ns bytes ≡ []

@@ -17,8 +17,8 @@ use Rattle.slices.specs.Slices.{anyBelow}
 use Rattle.slices.proofs.Any.{any-each}
 use Rattle.bits.specs.Fields.{Fit, none, more, bitsOf, number, run, cut}
 use Rattle.bits.proofs.Laws.{length-bitsOf, number-bitsOf, bitsOf-split, bitsOf-mod, bitsOf-join, bits-bitsOf, length-cut, fit-drop, fit-cut, cut-run, run-cut}
-use Rattle.slot_numbers.specs.Packed.{packedLength, unpacked}
-use Rattle.slot_numbers.proofs.Packing.{unpacked-part}
+use Rattle.receiver.specs.Packed.{packedLength, unpacked}
+use Rattle.receiver.proofs.Packing.{unpacked-part}
 use Rattle.receiver_hand_out.specs.Halves.{halvesOf, marked}
 
 -- the number that values of w bits make, the first of them the highest

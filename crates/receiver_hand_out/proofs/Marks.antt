@@ -12,7 +12,7 @@ use lib.ListN.{length, getD, take, drop, length-drop}
 use lib.Pow.{pow-add, pow-pos, shl-shr}
 use Rattle.bits.proofs.Laws.{fit-drop}
 use Rattle.packet.specs.Packets.{packetLength}
-use Rattle.receiver_in_place.specs.Store.{numbered, slotsFor}
+use Rattle.receiver.specs.Store.{numbered, slotsFor}
 use Rattle.receiver_hand_out.specs.Halves.{halvesOf, marked}
 use Rattle.receiver_hand_out.proofs.Joined.{joined, joined-lt, joined-from, joined-none, marked-fit, length-halves, halves-fit}
 use Rattle.receiver_hand_out.proofs.Handing.{HandingOut, handing-passed}

@@ -11,8 +11,8 @@ use lib.Seq.{take-all, take-at, drop-drop, drop-append-add, take-add, length-tak
 use Rattle.slices.specs.Slices.{over}
 use Rattle.counters.specs.Counters.{lastSlot}
 use Rattle.packet.specs.Packets.{packetLength}
-use Rattle.receiver_in_place.specs.Store.{storeLength, numbered, slotsFor}
-use Rattle.receiver_in_place.proofs.Store.{length-numbered}
+use Rattle.receiver.specs.Store.{storeLength, numbered, slotsFor}
+use Rattle.receiver.proofs.Store.{length-numbered}
 use Rattle.receiver_hand_out.specs.Halves.{halvesOf, marked}
 use Rattle.receiver_hand_out.proofs.Marks.{marked-again, marked-slots, marked-numbered}
 

@@ -4,11 +4,11 @@ use mathlib.Core.Bool.{not}
 use mathlib.Core.List.{List, [], _∷_, _++_}
 use lib.Dec.{eqb}
 use Rattle.counters.specs.Counters.{firstStream, lastStream, within}
-use Rattle.refusal_table.specs.Refusal.{Check}
-use Rattle.receiver_table.specs.Table.{isReady}
-use Rattle.receiver_in_place.specs.declared.Receiver.{Receiver}
-use Rattle.receiver_in_place.specs.Store.{storeLength}
-use Rattle.receiver_in_place.specs.Receiving.{receiverChecks}
+use Rattle.setting.specs.Refusal.{Check}
+use Rattle.receiver.specs.Table.{isReady}
+use Rattle.receiver.specs.declared.Receiver.{Receiver}
+use Rattle.receiver.specs.Store.{storeLength}
+use Rattle.receiver.specs.Receiving.{receiverChecks}
 
 -- all but 15, in the table's order
 unfoldable pub readyChecks : Receiver → ℕ → ℕ → List Check

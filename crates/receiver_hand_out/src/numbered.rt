@@ -1,6 +1,6 @@
 // The slots with one number: marked sixteen at a time, counted, and their packets one behind the other.
 use packet::PACKET_BYTES;
-use receiver_in_place::HandedOut;
+use receiver::HandedOut;
 ghost use mathlib.Core.Path.{_≡_};
 ghost use mathlib.Core.Bool.{cond};
 ghost use mathlib.Core.List.{_++_};
@@ -10,8 +10,8 @@ ghost use lib.ListN.{length, take, drop, replicate};
 ghost use Rattle.bits.specs.Fields.{run, cut};
 ghost use Rattle.packet.specs.Packets.{packetLength};
 ghost use Rattle.slices.specs.Slices.{over};
-ghost use Rattle.slot_numbers.specs.Packed.{packedLength, unpacked};
-ghost use Rattle.receiver_in_place.specs.Store.{storeLength, numbered, slotsFor};
+ghost use Rattle.receiver.specs.Packed.{packedLength, unpacked};
+ghost use Rattle.receiver.specs.Store.{storeLength, numbered, slotsFor};
 ghost use Rattle.receiver_hand_out.specs.Halves.{halvesOf, marked};
 
 // A byte as a wider number, of which it is known that it was a byte.

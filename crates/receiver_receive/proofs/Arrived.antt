@@ -6,9 +6,9 @@ use borrow.Author.Tests.{lt-ltb, le-ltb}
 use Rattle.slices.specs.Slices.{over}
 use Rattle.counters.specs.Counters.{lastSlot}
 use Rattle.packet.specs.Packets.{packetLength}
-use Rattle.receiver_table.specs.declared.Stage.{Stage}
-use Rattle.receiver_table.specs.Table.{other, storedOf}
-use Rattle.receiver_in_place.specs.Arriving.{storeAfter}
+use Rattle.receiver.specs.declared.Stage.{Stage}
+use Rattle.receiver.specs.Table.{other, storedOf}
+use Rattle.receiver.specs.Arriving.{storeAfter}
 
 module _ (stage : Stage) (p store : List ℕ) {k : ℕ} (e : k ≡ storedOf stage) where
   pub stored-behind : k < lastSlot → storeAfter stage other p store ≡ over (packetLength * k) p store

@@ -9,15 +9,15 @@ use lib.Seq.{length-take-le}
 use Rattle.slices.specs.Slices.{copied, someAtLeast}
 use Rattle.slices.proofs.Front.{put, front-none, front-part, front-length, front-all, copied-over}
 use Rattle.setting.specs.declared.Kind.{Kind}
-use Rattle.rules.proofs.Fields.{fit-some}
-use Rattle.layout.specs.Rows.{place, rowAt}
-use Rattle.layout.specs.Header.{reading}
-use Rattle.layout.proofs.Cut.{part-row}
-use Rattle.layout.proofs.LaidOut.{laid-out}
+use Rattle.setting.proofs.Fields.{fit-some}
+use Rattle.header_layout.specs.Rows.{place, rowAt}
+use Rattle.header_layout.specs.Header.{reading}
+use Rattle.header_layout.proofs.Cut.{part-row}
+use Rattle.header_layout.proofs.LaidOut.{laid-out}
 use Rattle.packet.specs.Packets.{packetLength}
-use Rattle.slot_numbers.specs.Packed.{packedLength, packed, unpacked}
-use Rattle.slot_numbers.proofs.Packing.{packed-unpacked}
-use Rattle.receiver_in_place.specs.InPlace.{numbersLength}
+use Rattle.receiver.specs.Packed.{packedLength, packed, unpacked}
+use Rattle.receiver.proofs.Packing.{packed-unpacked}
+use Rattle.receiver.specs.InPlace.{numbersLength}
 
 -- a part of the numbers copied over as many zeros
 pub copied-part : (b : List ℕ) (i k : ℕ) → i + packedLength ≤ length b → k ≡ packedLength → copied (replicate packedLength 0) (take k (drop i b)) ≡ take packedLength (drop i b)

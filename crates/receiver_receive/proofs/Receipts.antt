@@ -7,20 +7,20 @@ use borrow.Author.Tests.{eq-eqb, ne-eqb, eqb-true, not-false}
 use lib.Dec.{eqb}
 use lib.ListN.{length}
 use Rattle.setting.specs.declared.Setting.{Setting}
-use Rattle.refusal_table.specs.Refusal.{NoneHolds}
-use Rattle.refusal_table.proofs.Refusals.{none-first, none-at, kept, written}
-use Rattle.layout.specs.Header.{reading}
+use Rattle.setting.specs.Refusal.{NoneHolds}
+use Rattle.setting.proofs.Refusals.{none-first, none-at, kept, written}
+use Rattle.header_layout.specs.Header.{reading}
 use Rattle.packet.specs.Packets.{packetLength, unfit}
-use Rattle.receiver_table.specs.declared.Event.{Event}
-use Rattle.receiver_table.specs.declared.Row.{Row}
-use Rattle.receiver_table.specs.Table.{Sort, good, broken, other, rowOf}
-use Rattle.receiver_table.proofs.Rows.{other-counter, broken-counter}
-use Rattle.receiver_in_place.specs.declared.Received.{Received}
-use Rattle.receiver_in_place.specs.declared.Receiver.{Receiver}
-use Rattle.receiver_in_place.specs.Store.{storeLength}
-use Rattle.receiver_in_place.specs.Arriving.{sortOf, storeAfter}
-use Rattle.receiver_in_place.specs.Receiving.{rowFor, moved, renumbered, receiverAfter, receiverChecks, receiveRefusal, receiveOf, receiveStore}
-use Rattle.receiver_in_place.proofs.ReceiverChecks.{receiver-numbered}
+use Rattle.receiver.specs.declared.Event.{Event}
+use Rattle.receiver.specs.declared.Row.{Row}
+use Rattle.receiver.specs.Table.{Sort, good, broken, other, rowOf}
+use Rattle.receiver.proofs.Rows.{other-counter, broken-counter}
+use Rattle.receiver.specs.declared.Received.{Received}
+use Rattle.receiver.specs.declared.Receiver.{Receiver}
+use Rattle.receiver.specs.Store.{storeLength}
+use Rattle.receiver.specs.Arriving.{sortOf, storeAfter}
+use Rattle.receiver.specs.Receiving.{rowFor, moved, renumbered, receiverAfter, receiverChecks, receiveRefusal, receiveOf, receiveStore}
+use Rattle.receiver.proofs.ReceiverChecks.{receiver-numbered}
 use Rattle.receiver_receive.proofs.Sorts.{not-stored}
 
 -- what was given

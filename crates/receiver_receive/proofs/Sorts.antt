@@ -6,14 +6,14 @@ use mathlib.Core.List.{List}
 use borrow.Author.Tests.{eq-eqb, ne-eqb}
 use lib.Dec.{eqb}
 use Rattle.setting.specs.declared.Kind.{Kind}
-use Rattle.header_checks.specs.declared.Checked.{Checked}
-use Rattle.layout.specs.Header.{reading}
-use Rattle.header_checks.specs.Checking.{readRefusal, partsOf, partsBeside, checkedOf}
+use Rattle.header_check.specs.declared.Checked.{Checked}
+use Rattle.header_layout.specs.Header.{reading}
+use Rattle.header_check.specs.Checking.{readRefusal, partsOf, partsBeside, checkedOf}
 use Rattle.packet.specs.Packets.{unfit}
-use Rattle.receiver_table.specs.Table.{good, broken, other}
-use Rattle.receiver_table.specs.declared.Stage.{Stage}
-use Rattle.receiver_in_place.specs.Arriving.{sortOf, storeAfter}
-use Rattle.receiver_in_place.proofs.Sorts.{not-good}
+use Rattle.receiver.specs.Table.{good, broken, other}
+use Rattle.receiver.specs.declared.Stage.{Stage}
+use Rattle.receiver.specs.Arriving.{sortOf, storeAfter}
+use Rattle.receiver.proofs.Sorts.{not-good}
 
 no-other : (b : Bool) (stage : Stage) (p store : List ℕ) → storeAfter stage (cond b good broken) p store ≡ store
 unfolding storeAfter

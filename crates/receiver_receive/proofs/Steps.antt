@@ -9,17 +9,17 @@ use lib.ListN.{length, take}
 use Rattle.slices.specs.Slices.{someAtLeast}
 use Rattle.setting.specs.declared.Kind.{Kind}
 use Rattle.setting.specs.declared.Setting.{Setting}
-use Rattle.slot_numbers.specs.Packed.{packedLength, packed}
-use Rattle.receiver_table.specs.declared.Stage.{Stage}
-use Rattle.receiver_table.specs.declared.Event.{Event}
-use Rattle.receiver_table.specs.declared.Row.{Row}
-use Rattle.receiver_in_place.specs.declared.Receiver.{Receiver}
-use Rattle.receiver_in_place.specs.declared.Received.{Received}
-use Rattle.receiver_in_place.specs.declared.Step.{Step}
-use Rattle.receiver_in_place.specs.Receiving.{moved, renumbered, receiveRefusal, receiveOf, receiveStore}
-use Rattle.receiver_in_place.specs.InPlace.{numbersLength, receiverWith, numbersOf, stepOf, lentRefusal, receiveStep, receiveNumbers, receiveInto}
-use Rattle.receiver_in_place.proofs.Lent.{first-back, numbers-with}
-use Rattle.receiver_in_place.proofs.LentRefusal.{own-refusal, other-refusal}
+use Rattle.receiver.specs.Packed.{packedLength, packed}
+use Rattle.receiver.specs.declared.Stage.{Stage}
+use Rattle.receiver.specs.declared.Event.{Event}
+use Rattle.receiver.specs.declared.Row.{Row}
+use Rattle.receiver.specs.declared.Receiver.{Receiver}
+use Rattle.receiver.specs.declared.Received.{Received}
+use Rattle.receiver.specs.declared.Step.{Step}
+use Rattle.receiver.specs.Receiving.{moved, renumbered, receiveRefusal, receiveOf, receiveStore}
+use Rattle.receiver.specs.InPlace.{numbersLength, receiverWith, numbersOf, stepOf, lentRefusal, receiveStep, receiveNumbers, receiveInto}
+use Rattle.receiver.proofs.Lent.{first-back, numbers-with}
+use Rattle.receiver.proofs.LentRefusal.{own-refusal, other-refusal}
 use Rattle.receiver_receive.proofs.Receipts.{keeping, renumbering, refused-receipt, refused-store}
 
 module _ (pid : ℕ) (kind : Kind) (stage : Stage) (numbers p : List ℕ) (b : someAtLeast (2 ^ 8) numbers ≡ false) where

@@ -1,7 +1,7 @@
 // The receiver's table: where a receiver stands, what a packet does to it, and where it stands then.
 use setting::SLOTS;
 ghost use mathlib.Core.Path.{_≡_};
-ghost use Rattle.receiver_table.specs.Table.{good, broken, other, openRow, rowOf};
+ghost use Rattle.receiver.specs.Table.{good, broken, other, openRow, rowOf};
 
 // Where a receiver stands.
 pub enum Stage {

@@ -13,19 +13,19 @@ use Rattle.setting.specs.declared.Kind.{Kind}
 use Rattle.setting.specs.declared.Setting.{Setting}
 use Rattle.counters.specs.Counters.{lastStream, lastSlot, available}
 use Rattle.setting.specs.Setting.{privateBytes, auxiliaryBytes, blank, OfItsTypes}
-use Rattle.refusal_table.specs.Refusal.{Check, firstOf, NoneHolds, none, more}
-use Rattle.rules.specs.Rules.{pidAllowed, someUnavailable, pairTwice, absentChecks, widthChecks, bondingChecks, ruleChecks}
-use Rattle.refusal_table.proofs.Refusals.{first-none, none-append}
-use Rattle.rules.proofs.Checked.{width-none, rule-none}
-use Rattle.rules.proofs.Fields.{fit-some}
-use Rattle.layout.specs.Rows.{place, rowAt}
-use Rattle.layout.specs.Layout.{startTable, rowWith}
-use Rattle.composer_state.specs.declared.Composer.{Composer}
+use Rattle.setting.specs.Refusal.{Check, firstOf, NoneHolds, none, more}
+use Rattle.setting.specs.Rules.{pidAllowed, someUnavailable, pairTwice, absentChecks, widthChecks, bondingChecks, ruleChecks}
+use Rattle.setting.proofs.Refusals.{first-none, none-append}
+use Rattle.setting.proofs.Checked.{width-none, rule-none}
+use Rattle.setting.proofs.Fields.{fit-some}
+use Rattle.header_layout.specs.Rows.{place, rowAt}
+use Rattle.header_layout.specs.Layout.{startTable, rowWith}
+use Rattle.composer.specs.declared.Composer.{Composer}
 use Rattle.packet.specs.Packets.{packetLength, frameLength, unfit}
-use Rattle.composer_state.specs.Slots.{marksAfter, someUnfit, someUnplanned}
-use Rattle.announced.specs.Announcing.{announced, differ, announcedChecks}
-use Rattle.composer_state.specs.Composing.{fresh, opened, marked, nextCounter, nextVersion, closedWith, closed, asked, inTurn, stateChecks, openRuleChecks, markChecks, openChecks, streamChecks, beginRefusal, putRefusal, closeRefusal}
-use Rattle.composer_state.proofs.Refusals.{ask-all, ask-none}
+use Rattle.composer.specs.Slots.{marksAfter, someUnfit, someUnplanned}
+use Rattle.setting.specs.Announcing.{announced, differ, announcedChecks}
+use Rattle.composer.specs.Composing.{fresh, opened, marked, nextCounter, nextVersion, closedWith, closed, asked, inTurn, stateChecks, openRuleChecks, markChecks, openChecks, streamChecks, beginRefusal, putRefusal, closeRefusal}
+use Rattle.composer.proofs.Refusals.{ask-all, ask-none}
 use Rattle.composer_close.proofs.Said.{version-narrow}
 use Rattle.runs.specs.Runs.{Call, begin, put, close, Each, none, more, OfTypes, Run, started, refusalOf, after}
 use Rattle.runs.specs.Work.{Work, added, workAfter, doneBy, worksOf, noWork, numbersFilled}

@@ -11,11 +11,11 @@ use lib.ListN.{length, take, drop, replicate, length-append}
 use lib.Seq.{take-at, drop-at, drop-drop, take-add, take-nil}
 use Rattle.slices.proofs.Any.{neither}
 use Rattle.bits.specs.Fields.{bitsOf, number, run, cut}
-use Rattle.layout.specs.Rows.{place, rowAt}
-use Rattle.layout.specs.Layout.{startTable, rowWith}
+use Rattle.header_layout.specs.Rows.{place, rowAt}
+use Rattle.header_layout.specs.Layout.{startTable, rowWith}
 use Rattle.packet.specs.Packets.{packetLength, nullPacket, slot, unfit}
-use Rattle.composer_state.specs.Slots.{nulls, numbersOf}
-use Rattle.receiver_in_place.specs.Store.{numbered, slotsFor}
+use Rattle.composer.specs.Slots.{nulls, numbersOf}
+use Rattle.receiver.specs.Store.{numbered, slotsFor}
 use Rattle.runs.specs.Work.{carries, taken, slotsFilled, numbersFilled}
 use Rattle.runs.proofs.Filled.{marksFilled, unfitFilled, EachWhole, whole-none, whole-taken, Slot, carried, idle}
 

@@ -12,28 +12,28 @@ use Rattle.setting.specs.declared.Kind.{Kind}
 use Rattle.setting.specs.declared.Setting.{Setting}
 use Rattle.counters.specs.Counters.{firstStream, firstSlot, lastSlot}
 use Rattle.setting.specs.Setting.{blank, OfItsTypes}
-use Rattle.refusal_table.specs.Refusal.{firstOf}
-use Rattle.rules.specs.Rules.{pidAllowed, ruleChecks}
-use Rattle.refusal_table.proofs.Refusals.{none-at}
-use Rattle.rules.proofs.Fields.{at-most}
-use Rattle.layout.specs.Header.{header}
-use Rattle.header_reader.specs.Reader.{readOf}
-use Rattle.layout.specs.Meets.{MeetsRules}
-use Rattle.header.proofs.RoundTrip.{written-and-read-back}
-use Rattle.header_writer.proofs.Calls.{made}
-use Rattle.layout.proofs.Whole.{length-header}
-use Rattle.announced.specs.declared.Announced.{Announced}
+use Rattle.setting.specs.Refusal.{firstOf}
+use Rattle.setting.specs.Rules.{pidAllowed, ruleChecks}
+use Rattle.setting.proofs.Refusals.{none-at}
+use Rattle.setting.proofs.Fields.{at-most}
+use Rattle.header_layout.specs.Header.{header}
+use Rattle.header_read.specs.Reader.{readOf}
+use Rattle.header_layout.specs.Meets.{MeetsRules}
+use Rattle.header_codec.proofs.RoundTrip.{written-and-read-back}
+use Rattle.header_write.proofs.Calls.{made}
+use Rattle.header_layout.proofs.Whole.{length-header}
+use Rattle.setting.specs.declared.Announced.{Announced}
 use Rattle.packet.specs.Packets.{packetLength, frameLength, nullPacket, slot, unfit}
-use Rattle.announced.specs.Announcing.{announced, differ}
-use Rattle.composer_state.specs.Composing.{saying, fresh, answer, startOf}
-use Rattle.receiver_in_place.specs.Store.{numbered, slotsFor}
+use Rattle.setting.specs.Announcing.{announced, differ}
+use Rattle.composer.specs.Composing.{saying, fresh, answer, startOf}
+use Rattle.receiver.specs.Store.{numbered, slotsFor}
 use Rattle.runs.specs.Runs.{Call, Each, none, more, OfTypes, started, framesOf}
 use Rattle.runs.specs.Work.{Work, noWork, worksOf, slotsFilled, numbersFilled, said, versionBehind, headedBehind, headed, frameOf}
 use Rattle.runs.specs.Composed.{headedBy, FramesHold, HeadersRead, FrontsPlaced, PacketsFit}
 use Rattle.runs.proofs.Filled.{marksFilled, length-null}
 use Rattle.runs.proofs.Carried.{numbers-filled, length-slots, length-marks, front-lent, slot-first, slot-next, each-fit}
 use Rattle.composer_close.proofs.Said.{version-narrow, said-meets}
-use Rattle.frame.proofs.Said.{said-types}
+use Rattle.runs.proofs.Said.{said-types}
 use Rattle.runs.proofs.Held.{Sound, Done, holds, all-done}
 
 -- ---- the start

@@ -12,19 +12,19 @@ use Rattle.slices.specs.Slices.{anyBelow, someAtLeast}
 use Rattle.setting.specs.declared.Kind.{Kind}
 use Rattle.setting.specs.declared.Setting.{Setting}
 use Rattle.counters.specs.Counters.{lastSlot}
-use Rattle.rules.specs.Rules.{pidAllowed, widthChecks}
-use Rattle.refusal_table.proofs.Refusals.{none-at}
-use Rattle.rules.proofs.Fields.{fit-some}
-use Rattle.header_reader.specs.declared.Reading.{Reading}
-use Rattle.layout.specs.Header.{header}
-use Rattle.layout.proofs.Whole.{length-header}
-use Rattle.announced.specs.declared.Announced.{Announced}
+use Rattle.setting.specs.Rules.{pidAllowed, widthChecks}
+use Rattle.setting.proofs.Refusals.{none-at}
+use Rattle.setting.proofs.Fields.{fit-some}
+use Rattle.header_read.specs.declared.Reading.{Reading}
+use Rattle.header_layout.specs.Header.{header}
+use Rattle.header_layout.proofs.Whole.{length-header}
+use Rattle.setting.specs.declared.Announced.{Announced}
 use Rattle.packet.specs.Packets.{packetLength, unfit}
-use Rattle.announced.specs.Announcing.{announced}
-use Rattle.composer_state.specs.Composing.{saying}
-use Rattle.receiver_table.specs.declared.Stage.{Stage}
-use Rattle.receiver_in_place.specs.Store.{storeLength, numbered, slotsFor}
-use Rattle.receiver_in_place.specs.Receiving.{waiting, startReceiverOf}
+use Rattle.setting.specs.Announcing.{announced}
+use Rattle.composer.specs.Composing.{saying}
+use Rattle.receiver.specs.declared.Stage.{Stage}
+use Rattle.receiver.specs.Store.{storeLength, numbered, slotsFor}
+use Rattle.receiver.specs.Receiving.{waiting, startReceiverOf}
 use Rattle.runs.specs.Runs.{Call, Each, none, more, OfTypes, started, framesOf}
 use Rattle.runs.specs.Work.{Work, noWork, worksOf, slotsFilled, said, versionBehind, headedBehind, headed, frameOf}
 use Rattle.runs.specs.Composed.{headedBy}

@@ -11,7 +11,7 @@ use lib.ListN.{length, take, drop, length-append, length-drop}
 use lib.Seq.{take-at, drop-at, take-append-le, drop-append-le, length-take-le}
 use Rattle.slices.proofs.Any.{neither}
 use Rattle.packet.specs.Packets.{packetLength, nullPacket, unfit}
-use Rattle.composer_state.specs.Slots.{takes, slotsAfter, marksAfter, someUnfit}
+use Rattle.composer.specs.Slots.{takes, slotsAfter, marksAfter, someUnfit}
 use Rattle.runs.specs.Work.{added, carries, taken, slotsFilled, numbersFilled}
 
 -- which slots carry a packet, and whether one of those packets is unfit

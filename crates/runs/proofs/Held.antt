@@ -12,15 +12,15 @@ use Rattle.setting.specs.declared.Kind.{Kind}
 use Rattle.setting.specs.declared.Setting.{Setting}
 use Rattle.counters.specs.Counters.{lastSlot}
 use Rattle.setting.specs.Setting.{OfItsTypes}
-use Rattle.refusal_table.specs.Refusal.{NoneHolds, leaves}
-use Rattle.rules.specs.Rules.{widthChecks, ruleChecks}
-use Rattle.layout.specs.Header.{header}
-use Rattle.announced.specs.declared.Announced.{Announced}
-use Rattle.composer_state.specs.declared.Composer.{Composer}
+use Rattle.setting.specs.Refusal.{NoneHolds, leaves}
+use Rattle.setting.specs.Rules.{widthChecks, ruleChecks}
+use Rattle.header_layout.specs.Header.{header}
+use Rattle.setting.specs.declared.Announced.{Announced}
+use Rattle.composer.specs.declared.Composer.{Composer}
 use Rattle.packet.specs.Packets.{packetLength, frameLength}
-use Rattle.composer_state.specs.Slots.{nulls, cleared, slotsAfter, marksAfter, someUnfit, frameAfter}
-use Rattle.announced.specs.Announcing.{announced}
-use Rattle.composer_state.specs.Composing.{opened, marked, nextCounter, nextVersion, closing, closedWith, closed, answer, beginOf, begunFrame, putOf, putFrame, closeOf, closedFrame}
+use Rattle.composer.specs.Slots.{nulls, cleared, slotsAfter, marksAfter, someUnfit, frameAfter}
+use Rattle.setting.specs.Announcing.{announced}
+use Rattle.composer.specs.Composing.{opened, marked, nextCounter, nextVersion, closing, closedWith, closed, answer, beginOf, begunFrame, putOf, putFrame, closeOf, closedFrame}
 use Rattle.composer_begin.proofs.Passed.{begin-passed}
 use Rattle.composer_put.proofs.Passed.{PutPassed, put-passed}
 use Rattle.composer_close.proofs.Passed.{ClosePassed, close-passed}

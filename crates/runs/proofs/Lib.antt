@@ -4,6 +4,7 @@ pub mod Composed
 pub mod Demands
 mod Filled
 mod Held
+pub mod Said
 pub mod Lost
 pub mod Sixteen
 pub mod Table

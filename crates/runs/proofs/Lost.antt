@@ -10,11 +10,11 @@ use lib.ListN.{length, take, drop, length-drop, drop-of-length-le, take-append-d
 use lib.Seq.{length-take-le, drop-drop}
 use Rattle.setting.specs.declared.Kind.{Kind}
 use Rattle.counters.specs.Counters.{lastSlot}
-use Rattle.header_reader.specs.declared.Reading.{Reading}
+use Rattle.header_read.specs.declared.Reading.{Reading}
 use Rattle.packet.specs.Packets.{packetLength, slot, unfit}
-use Rattle.receiver_table.specs.declared.Stage.{Stage}
-use Rattle.receiver_in_place.specs.Store.{storeLength, numbered}
-use Rattle.receiver_in_place.proofs.Sorts.{not-good}
+use Rattle.receiver.specs.declared.Stage.{Stage}
+use Rattle.receiver.specs.Store.{storeLength, numbered}
+use Rattle.receiver.proofs.Sorts.{not-good}
 use Rattle.runs.specs.Runs.{Each, none, more}
 use Rattle.runs.specs.Losses.{Fate, kept, lost, spoiled, isKept, Sent, MayHappen, Refused, headerArrives, packetsArrive, arriving, Reception, afterPacket, handedOut, numbersIn, entire, wanted}
 use Rattle.runs.specs.Demands.{Asked}

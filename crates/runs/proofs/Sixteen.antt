@@ -12,15 +12,15 @@ use lib.Seq.{length-take-le}
 use Rattle.setting.specs.declared.Kind.{Kind}
 use Rattle.setting.specs.declared.Setting.{Setting}
 use Rattle.counters.specs.Counters.{lastSlot}
-use Rattle.header_reader.specs.declared.Reading.{Reading}
-use Rattle.announced.specs.declared.Announced.{Announced}
+use Rattle.header_read.specs.declared.Reading.{Reading}
+use Rattle.setting.specs.declared.Announced.{Announced}
 use Rattle.packet.specs.Packets.{packetLength, slot, unfit}
-use Rattle.announced.specs.Announcing.{announced}
-use Rattle.composer_state.specs.Composing.{saying}
-use Rattle.receiver_in_place.specs.declared.Receiver.{Receiver}
-use Rattle.receiver_in_place.specs.Store.{storeLength, numbered, slotsFor}
-use Rattle.receiver_in_place.specs.Receiving.{waiting}
-use Rattle.receiver_in_place.proofs.Store.{length-numbered}
+use Rattle.setting.specs.Announcing.{announced}
+use Rattle.composer.specs.Composing.{saying}
+use Rattle.receiver.specs.declared.Receiver.{Receiver}
+use Rattle.receiver.specs.Store.{storeLength, numbered, slotsFor}
+use Rattle.receiver.specs.Receiving.{waiting}
+use Rattle.receiver.proofs.Store.{length-numbered}
 use Rattle.runs.specs.Runs.{Call, Each, none, more, started, framesOf}
 use Rattle.runs.specs.Work.{Work, numbersFilled, said, headedBehind, headed, frameOf, added, taken}
 use Rattle.runs.specs.Composed.{headedBy}

@@ -12,23 +12,23 @@ use lib.Seq.{length-take-le, take-at, drop-append-add, drop-drop}
 use Rattle.bits.specs.Fields.{Fit}
 use Rattle.setting.specs.declared.Kind.{Kind}
 use Rattle.counters.specs.Counters.{lastSlot}
-use Rattle.refusal_table.specs.Refusal.{NoneHolds, none, more, leaves}
-use Rattle.rules.specs.Rules.{pidAllowed}
-use Rattle.refusal_table.proofs.Refusals.{first-none, none-append}
-use Rattle.rules.proofs.Fields.{some-fit}
-use Rattle.layout.specs.Header.{reading}
-use Rattle.header_checks.specs.Checking.{readRefusal}
+use Rattle.setting.specs.Refusal.{NoneHolds, none, more, leaves}
+use Rattle.setting.specs.Rules.{pidAllowed}
+use Rattle.setting.proofs.Refusals.{first-none, none-append}
+use Rattle.setting.proofs.Fields.{some-fit}
+use Rattle.header_layout.specs.Header.{reading}
+use Rattle.header_check.specs.Checking.{readRefusal}
 use Rattle.packet.specs.Packets.{packetLength, unfit}
-use Rattle.receiver_table.specs.declared.Stage.{Stage}
-use Rattle.receiver_table.specs.declared.Event.{Event}
-use Rattle.receiver_table.specs.declared.Row.{Row}
-use Rattle.receiver_in_place.specs.declared.Receiver.{Receiver}
+use Rattle.receiver.specs.declared.Stage.{Stage}
+use Rattle.receiver.specs.declared.Event.{Event}
+use Rattle.receiver.specs.declared.Row.{Row}
+use Rattle.receiver.specs.declared.Receiver.{Receiver}
 use Rattle.slices.specs.Slices.{over}
-use Rattle.receiver_in_place.specs.Store.{storeLength}
-use Rattle.receiver_table.specs.Table.{makesReady, Sort, good, broken, other, row, openRow, rowOf, stageChecks, storedOf}
-use Rattle.receiver_in_place.specs.Arriving.{sortOf, storeAfter}
-use Rattle.receiver_in_place.specs.Receiving.{moved, receiverAfter, receiverChecks, receiveRefusal, rowFor, receiveOf, receiveStore}
-use Rattle.receiver_in_place.proofs.Sorts.{not-good}
+use Rattle.receiver.specs.Store.{storeLength}
+use Rattle.receiver.specs.Table.{makesReady, Sort, good, broken, other, row, openRow, rowOf, stageChecks, storedOf}
+use Rattle.receiver.specs.Arriving.{sortOf, storeAfter}
+use Rattle.receiver.specs.Receiving.{moved, receiverAfter, receiverChecks, receiveRefusal, rowFor, receiveOf, receiveStore}
+use Rattle.receiver.proofs.Sorts.{not-good}
 use Rattle.runs.specs.Runs.{Each, none, more}
 use Rattle.runs.specs.Losses.{Reception, afterPacket, handed, handedOut}
 

@@ -13,22 +13,22 @@ use Rattle.bits.specs.Fields.{Fit}
 use Rattle.setting.specs.declared.Kind.{Kind}
 use Rattle.setting.specs.declared.Setting.{Setting}
 use Rattle.counters.specs.Counters.{firstStream, lastStream, lastSlot}
-use Rattle.refusal_table.specs.Refusal.{none, more, leaves}
-use Rattle.refusal_table.proofs.Refusals.{first-none, none-append}
-use Rattle.header_reader.specs.declared.Reading.{Reading}
-use Rattle.layout.specs.Header.{reading}
-use Rattle.header_checks.specs.Checking.{readRefusal}
-use Rattle.header_reader.specs.Reader.{readOf}
+use Rattle.setting.specs.Refusal.{none, more, leaves}
+use Rattle.setting.proofs.Refusals.{first-none, none-append}
+use Rattle.header_read.specs.declared.Reading.{Reading}
+use Rattle.header_layout.specs.Header.{reading}
+use Rattle.header_check.specs.Checking.{readRefusal}
+use Rattle.header_read.specs.Reader.{readOf}
 use Rattle.packet.specs.Packets.{packetLength, frameLength, slot, unfit}
-use Rattle.receiver_table.specs.declared.Stage.{Stage}
-use Rattle.receiver_table.specs.declared.Event.{Event}
-use Rattle.receiver_table.specs.declared.Row.{Row}
+use Rattle.receiver.specs.declared.Stage.{Stage}
+use Rattle.receiver.specs.declared.Event.{Event}
+use Rattle.receiver.specs.declared.Row.{Row}
 use Rattle.slices.specs.Slices.{over}
-use Rattle.receiver_in_place.specs.Store.{storeLength, numbered, slotsFor}
-use Rattle.receiver_table.specs.Table.{makesReady, Sort, good, broken, other, counterStep, row, openRow, rowOf, isReady}
-use Rattle.receiver_in_place.specs.Arriving.{sortOf, storeAfter}
-use Rattle.receiver_in_place.specs.Receiving.{renumbered, receiverAfter, rowFor, receiveOf, handOutRefusal, handOutOf, handOutBuffer}
-use Rattle.receiver_in_place.proofs.Store.{length-numbered}
+use Rattle.receiver.specs.Store.{storeLength, numbered, slotsFor}
+use Rattle.receiver.specs.Table.{makesReady, Sort, good, broken, other, counterStep, row, openRow, rowOf, isReady}
+use Rattle.receiver.specs.Arriving.{sortOf, storeAfter}
+use Rattle.receiver.specs.Receiving.{renumbered, receiverAfter, rowFor, receiveOf, handOutRefusal, handOutOf, handOutBuffer}
+use Rattle.receiver.proofs.Store.{length-numbered}
 use Rattle.runs.specs.Losses.{Reception, afterPacket, handed, handedOut}
 use Rattle.runs.specs.Demands.{Asked}
 use Rattle.runs.proofs.Table.{Opens, open-at, ready-at, InRange, waits, opens, Set, state-none, event-is, after-is, row-opens}

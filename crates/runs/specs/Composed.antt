@@ -7,10 +7,10 @@ use lib.ListN.{length, take}
 use Rattle.setting.specs.declared.Kind.{Kind}
 use Rattle.setting.specs.declared.Setting.{Setting}
 use Rattle.counters.specs.Counters.{firstStream, firstSlot, lastSlot}
-use Rattle.rules.specs.Rules.{pidAllowed}
-use Rattle.header_reader.specs.Reader.{readOf}
+use Rattle.setting.specs.Rules.{pidAllowed}
+use Rattle.header_read.specs.Reader.{readOf}
 use Rattle.packet.specs.Packets.{packetLength, frameLength, slot, unfit}
-use Rattle.receiver_in_place.specs.Store.{numbered, slotsFor}
+use Rattle.receiver.specs.Store.{numbered, slotsFor}
 use Rattle.runs.specs.Runs.{Call, Each, OfTypes, started, framesOf}
 use Rattle.runs.specs.Work.{Work, noWork, worksOf, slotsFilled, headed, frameOf}
 

@@ -7,9 +7,9 @@ use lib.ListN.{length, take, replicate}
 use Rattle.setting.specs.declared.Kind.{Kind}
 use Rattle.setting.specs.declared.Setting.{Setting}
 use Rattle.counters.specs.Counters.{firstStream, lastStream, lastSlot}
-use Rattle.rules.specs.Rules.{pidAllowed}
+use Rattle.setting.specs.Rules.{pidAllowed}
 use Rattle.packet.specs.Packets.{packetLength}
-use Rattle.receiver_in_place.specs.Store.{storeLength, slotsFor}
+use Rattle.receiver.specs.Store.{storeLength, slotsFor}
 use Rattle.runs.specs.Runs.{Call, Each, OfTypes, started, framesOf}
 use Rattle.runs.specs.Work.{Work, frameOf}
 use Rattle.runs.specs.Composed.{headedBy}

@@ -6,13 +6,13 @@ use mathlib.Core.List.{List, [], _∷_, _++_}
 use lib.ListN.{length, take, drop}
 use Rattle.setting.specs.declared.Kind.{Kind}
 use Rattle.counters.specs.Counters.{lastSlot}
-use Rattle.header_checks.specs.Checking.{readRefusal}
-use Rattle.header_reader.specs.Reader.{readOf}
+use Rattle.header_check.specs.Checking.{readRefusal}
+use Rattle.header_read.specs.Reader.{readOf}
 use Rattle.packet.specs.Packets.{packetLength, slot}
-use Rattle.receiver_in_place.specs.declared.Receiver.{Receiver}
-use Rattle.receiver_in_place.specs.Store.{numbered}
-use Rattle.receiver_table.specs.Table.{makesReady}
-use Rattle.receiver_in_place.specs.Receiving.{startReceiverOf, receiveOf, receiveStore, handOutOf, handOutBuffer}
+use Rattle.receiver.specs.declared.Receiver.{Receiver}
+use Rattle.receiver.specs.Store.{numbered}
+use Rattle.receiver.specs.Table.{makesReady}
+use Rattle.receiver.specs.Receiving.{startReceiverOf, receiveOf, receiveStore, handOutOf, handOutBuffer}
 use Rattle.runs.specs.Runs.{Each}
 
 -- ---- on the way

@@ -7,8 +7,8 @@ use lib.ListN.{length}
 use Rattle.setting.specs.declared.Kind.{Kind}
 use Rattle.setting.specs.declared.Setting.{Setting}
 use Rattle.setting.specs.Setting.{OfItsTypes}
-use Rattle.composer_state.specs.declared.Composer.{Composer}
-use Rattle.composer_state.specs.Composing.{beginRefusal, putRefusal, closeRefusal, startOf, beginOf, begunFrame, putOf, putFrame, closeOf, closedFrame}
+use Rattle.composer.specs.declared.Composer.{Composer}
+use Rattle.composer.specs.Composing.{beginRefusal, putRefusal, closeRefusal, startOf, beginOf, begunFrame, putOf, putFrame, closeOf, closedFrame}
 
 -- a call of a run. A begin lends a buffer and a setting, a put a stream and its number. Put and close lend the buffer of the
 -- frame that was begun last, as the calls before left it

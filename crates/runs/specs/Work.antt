@@ -7,11 +7,11 @@ use lib.ListN.{length, take, drop}
 use Rattle.setting.specs.declared.Kind.{Kind}
 use Rattle.setting.specs.declared.Setting.{Setting}
 use Rattle.setting.specs.Setting.{blank}
-use Rattle.layout.specs.Header.{header}
-use Rattle.announced.specs.declared.Announced.{Announced}
+use Rattle.header_layout.specs.Header.{header}
+use Rattle.setting.specs.declared.Announced.{Announced}
 use Rattle.packet.specs.Packets.{packetLength, nullPacket}
-use Rattle.announced.specs.Announcing.{announced, differ}
-use Rattle.composer_state.specs.Composing.{saying}
+use Rattle.setting.specs.Announcing.{announced, differ}
+use Rattle.composer.specs.Composing.{saying}
 use Rattle.runs.specs.Runs.{Call, begin, put, close, Run, refusalOf, after}
 
 -- what was asked of a frame: its setting with the plan, and for each stream number the packets that were lent, one behind the other

@@ -1,9 +1,15 @@
 // What a header of J.183 says: its setting, and the range of each field.
+// Refusals by number: definitions in specs/, laws in proofs/. No code.
+// What a setting has to obey, each rule with its refusal's number, in the table's order: the definitions in specs/. The code of each
+// number stands in a crate of its own: 2 here, 17 in widths, 8 to 11 in setting_rules.
+// What of a header decides on the next header's version: taken from its setting.
 use counters::FramePosition;
 use counters::RelativeNumber;
 use counters::Slot;
 ghost use mathlib.Core.Path.{_≡_};
 ghost use Rattle.setting.specs.Setting.{blank};
+ghost use Rattle.setting.specs.Rules.{pidAllowed};
+ghost use Rattle.setting.specs.Announcing.{announced};
 
 pub mod limits;
 
@@ -73,4 +79,51 @@ impl Setting {
             frame_position: FramePosition(0),
         }
     }
+}
+
+// Whether a header PID may be used.
+pub fn pid_allowed(pid: u16) -> bool
+    ensures { λ r. ⌜ r ≡ pidAllowed pid ⌝ }
+{
+    if pid < limits::FIRST_PID {
+        return false;
+    }
+    pid <= limits::LAST_PID
+}
+
+// What of the last closed header decides on the next version: slot information, identifiers and control information.
+pub struct Announced {
+    pub slot_allocation_type: u8,
+    pub frame_type: u8,
+    pub availability: u16,
+    pub ts_id: [u16; STREAMS],
+    pub original_network_id: [u16; STREAMS],
+    pub receive_status: [u8; STREAMS],
+    pub emergency_indicator: u8,
+}
+
+// What a header with this setting announces.
+pub fn announce(s: Setting) -> Announced
+    ensures { λ r. ⌜ r ≡ announced s ⌝ }
+{
+    let ts_id = s.ts_id;
+    let original_network_id = s.original_network_id;
+    let receive_status = s.receive_status;
+    Announced {
+        slot_allocation_type: s.slot_allocation_type,
+        frame_type: s.frame_type,
+        availability: s.availability,
+        ts_id,
+        original_network_id,
+        receive_status,
+        emergency_indicator: s.emergency_indicator,
+    }
+}
+
+// Whether a number is a header PID.
+#[no_mangle]
+pub extern "C" fn niranbok_pid_allowed(pid: u16) -> bool
+    ensures { λ r. ⌜ r ≡ pidAllowed pid ⌝ }
+{
+    pid_allowed(pid)
 }

@@ -6,8 +6,8 @@ use setting::limits;
 ghost use mathlib.Core.Path.{_≡_};
 ghost use lib.Dec.{eqb};
 ghost use Rattle.counters.specs.Counters.{within};
-ghost use Rattle.refusal_table.specs.Refusal.{firstOf};
-ghost use Rattle.rules.specs.Rules.{byKind, bondingChecks, ruleChecks};
+ghost use Rattle.setting.specs.Refusal.{firstOf};
+ghost use Rattle.setting.specs.Rules.{byKind, bondingChecks, ruleChecks};
 
 // 11: the bonding fields of an extended header.
 pub fn bonding_refusal(
@@ -74,12 +74,12 @@ pub fn rule_refusal(kind: Kind, s: Setting) -> u8
         return 8;
     }
     let relative_ts_number = s.relative_ts_number;
-    if available_slots::has_unavailable(s.availability, &relative_ts_number) {
+    if setting_slots::has_unavailable(s.availability, &relative_ts_number) {
         return 9;
     }
     let ts_id = s.ts_id;
     let original_network_id = s.original_network_id;
-    if identifier_pairs::has_pair_twice(s.availability, &ts_id, &original_network_id) {
+    if setting_pairs::has_pair_twice(s.availability, &ts_id, &original_network_id) {
         return 10;
     }
     bonding_refusal(

@@ -11,7 +11,7 @@ use crate::input;
 use crate::nulls;
 use crate::says;
 use counters::Slot;
-use group::Bond;
+use bond_group::Bond;
 use packet::PACKET_BYTES;
 use setting::limits;
 ghost use mathlib.Core.Path.{_≡_};

@@ -5,10 +5,10 @@ use crate::input;
 use crate::says;
 use crate::tally;
 use crate::tally::Tally;
-use board_receiver::RECEIVER_BYTES;
+use receiver::RECEIVER_BYTES;
 use packet::FRAME_BYTES;
 use packet::PACKET_BYTES;
-use receiver_table::Event;
+use receiver::Event;
 use setting::Kind;
 use setting::SLOTS;
 use setting::limits;
@@ -134,7 +134,7 @@ fn lost(c: Carrier) -> Carrier {
 
 // What a good header tells.
 fn with_header(c: Carrier, packet: &[u8], pid: u16) -> Carrier {
-    let said = header::read(packet, pid, Kind::Extended).setting;
+    let said = header_codec::read(packet, pid, Kind::Extended).setting;
     if is_repeated(c, said.continuity_counter) {
         return lost(c);
     }
@@ -200,7 +200,7 @@ fn receive(frame: &mut [u8], part: &mut [u8], packet: &[u8]) -> Event
     requires { ⌜ (length (now frame) ≡ 9964) × (length (now part) ≡ 49878) ⌝ }
 {
     let mut event = 0u8;
-    board_receiver_receive::niranbok_receiver_receive(
+    receiver_receive::niranbok_receiver_receive(
         &mut part[0..BLOCK_AT],
         packet,
         &mut frame[PACKET_BYTES..],

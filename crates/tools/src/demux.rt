@@ -11,8 +11,8 @@ use libc::STDOUT_FILENO;
 use packet::PACKET_BYTES;
 use receiver::NUMBERS_BYTES;
 use receiver::STORE_BYTES;
-use receiver_table::Event;
-use receiver_table::Stage;
+use receiver::Event;
+use receiver::Stage;
 use setting::Kind;
 use setting::SLOTS;
 use setting::STREAMS;
@@ -164,7 +164,7 @@ fn number_after(event: Event, packet: &[u8], pid: u16, choice: Choice, number: u
     if !tally::opens(event) {
         return number;
     }
-    let said = header::read(packet, pid, Kind::Plain).setting;
+    let said = header_codec::read(packet, pid, Kind::Plain).setting;
     number_in(said, choice.ts_id, choice.network_id)
 }
 

@@ -10,7 +10,7 @@ use crate::carriers::STREAM_BYTES;
 use crate::carriers::SUPER_BYTES;
 use crate::says;
 use bond::Moved;
-use group::Bond;
+use bond_group::Bond;
 use libc::STDOUT_FILENO;
 use packet::FRAME_BYTES;
 use packet::PACKET_BYTES;

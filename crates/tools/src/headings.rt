@@ -6,7 +6,7 @@ use crate::plan::SHARES;
 use crate::says;
 use crate::settings;
 use counters::FramePosition;
-use group::Bond;
+use bond_group::Bond;
 use packet::FRAME_BYTES;
 use packet::PACKET_BYTES;
 use setting::Kind;
@@ -78,7 +78,7 @@ fn write_header(
     let numbers = plan_of(slots);
     s.relative_ts_number = numbers;
     let bond = b.bond;
-    let refusal = header::write(packet, bond.pid, Kind::Extended, s);
+    let refusal = header_codec::write(packet, bond.pid, Kind::Extended, s);
     if refusal != 0 {
         says::refusal(b"header", refusal);
         return false;

@@ -1,6 +1,6 @@
 // What happened to the frames of an input, and the summary of it.
 use crate::says;
-use receiver_table::Event;
+use receiver::Event;
 
 // Counts, each of which would wrap at 2^64.
 pub(crate) struct Tally {

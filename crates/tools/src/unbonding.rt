@@ -14,8 +14,8 @@ use crate::gathering::Group;
 use crate::gathering::PARTS_BYTES;
 use crate::says;
 use crate::tally;
-use board_receiver::RECEIVER_BYTES;
-use group::Bond;
+use receiver::RECEIVER_BYTES;
+use bond_group::Bond;
 use packet::FRAME_BYTES;
 ghost use mathlib.Core.Path.{_≡_};
 ghost use Prim.Native.Nat.{_≤_, _<_};
@@ -50,7 +50,7 @@ fn start_receivers(parts: &mut [u8], pid: u16)
     let mut c = 0;
     while c < CARRIERS {
         let at = STREAM_BYTES + PART_BYTES * c;
-        board_receiver_start::niranbok_receiver_start(&mut parts[at..at + RECEIVER_BYTES], pid, 1);
+        receiver_start::niranbok_receiver_start(&mut parts[at..at + RECEIVER_BYTES], pid, 1);
         c += 1;
     }
 }

@@ -4,13 +4,13 @@ use mathlib.Core.Bool.{true}
 use borrow.Author.Needs.{needs}
 use borrow.Author.Tests.{eq-eqb, ne-eqb}
 use lib.ListN.{length}
-use Rattle.refusal_table.specs.Refusal.{leaves}
-use Rattle.coding.specs.Settings.{settingLength, settingOf}
-use Rattle.composer_state.specs.Composing.{beginRefusal}
-use Rattle.composer_bytes.specs.States.{composerLength, isCoded, composerOf}
-use Rattle.composer_bytes.proofs.Same.{opened-bytes, all-bytes, coded-by-counter}
-use Rattle.board_frame.specs.Calls.{beginRefused, beginState, beginMemory}
-use Rattle.board_frame.proofs.Calls.{begin-refused, begin-done}
+use Rattle.setting.specs.Refusal.{leaves}
+use Rattle.setting_bytes.specs.Settings.{settingLength, settingOf}
+use Rattle.composer.specs.Composing.{beginRefusal}
+use Rattle.composer.specs.States.{composerLength, isCoded, composerOf}
+use Rattle.composer.proofs.Same.{opened-bytes, all-bytes, coded-by-counter}
+use Rattle.composer.specs.Calls.{beginRefused, beginState, beginMemory}
+use Rattle.composer.proofs.Calls.{begin-refused, begin-done}
 use Rattle.composer_begin.proofs.Passed.{begin-passed, begin-counter}
 use Rattle.composer_begin.proofs.niranbok_composer_begin.Statement.{statement}
 use Rattle.composer_begin.proofs.niranbok_composer_begin.Tie as tie

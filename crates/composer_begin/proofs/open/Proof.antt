@@ -7,9 +7,9 @@ use borrow.Author.Needs.{needs}
 use lib.ListN.{length, set, take, replicate, length-set, length-replicate}
 use Rattle.counters.specs.Counters.{lastSlot}
 use Rattle.slices.proofs.Front.{put, copied-over}
-use Rattle.coding.specs.Settings.{part, settingLength}
-use Rattle.coding.proofs.Parts.{length-part}
-use Rattle.composer_bytes.specs.States.{composerLength}
+use Rattle.setting_bytes.specs.Settings.{part, settingLength}
+use Rattle.setting_bytes.proofs.Parts.{length-part}
+use Rattle.composer.specs.States.{composerLength}
 use Rattle.composer_begin.proofs.Opened.{still-long, as-long, opened-parts}
 use Rattle.composer_begin.proofs.open.Statement.{statement}
 use Rattle.composer_begin.proofs.open.Tie as tie

@@ -5,13 +5,13 @@ use mathlib.Core.Bool.{not}
 use mathlib.Core.List.{List, _++_}
 use borrow.Author.Needs.{needs}
 use borrow.Author.Tests.{eq-eqb, ne-eqb}
-use Rattle.refusal_table.specs.Refusal.{firstOf}
-use Rattle.refusal_table.proofs.Refusals.{answers, passed, onward, at-once}
-use Rattle.composer_state.specs.declared.Composer.{Composer}
-use Rattle.composer_state.specs.Composing.{stateChecks, openChecks, closeRefusal}
-use Rattle.composer_state.proofs.Refusals.{state-none}
-use Rattle.composer_bytes.specs.States.{composerOf}
-use Rattle.composer_bytes.proofs.Parts.{whole-same}
+use Rattle.setting.specs.Refusal.{firstOf}
+use Rattle.setting.proofs.Refusals.{answers, passed, onward, at-once}
+use Rattle.composer.specs.declared.Composer.{Composer}
+use Rattle.composer.specs.Composing.{stateChecks, openChecks, closeRefusal}
+use Rattle.composer.proofs.Refusals.{state-none}
+use Rattle.composer.specs.States.{composerOf}
+use Rattle.composer.proofs.Parts.{whole-same}
 use Rattle.composer_close.proofs.close_refusal.Statement.{statement}
 use Rattle.composer_close.proofs.close_refusal.Tie as tie
 

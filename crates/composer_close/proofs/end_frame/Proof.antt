@@ -7,7 +7,7 @@ use borrow.Author.Needs.{needs}
 use borrow.Rule.Slice.PartMut.{same-len-mid}
 use lib.ListN.{length, length-set}
 use Rattle.slices.proofs.Front.{put}
-use Rattle.composer_bytes.specs.States.{composerLength}
+use Rattle.composer.specs.States.{composerLength}
 use Rattle.composer_close.proofs.Ending.{numbered, length-numbered, length-announced, ended}
 use Rattle.composer_close.proofs.end_frame.Statement.{statement}
 use Rattle.composer_close.proofs.end_frame.Tie as tie

@@ -4,10 +4,10 @@ use native.Mathlib.Omega.{arith}
 use borrow.Author.Needs.{needs}
 use borrow.Author.Tests.{ne-eqb}
 use lib.ListN.{length}
-use Rattle.refusal_table.specs.Refusal.{leaves}
-use Rattle.composer_bytes.specs.States.{composerLength, composerOf}
-use Rattle.board_frame.specs.Calls.{closeRefused, closeState, closeMemory}
-use Rattle.board_frame.proofs.Calls.{close-refused, close-done}
+use Rattle.setting.specs.Refusal.{leaves}
+use Rattle.composer.specs.States.{composerLength, composerOf}
+use Rattle.composer.specs.Calls.{closeRefused, closeState, closeMemory}
+use Rattle.composer.proofs.Calls.{close-refused, close-done}
 use Rattle.composer_close.proofs.Passed.{ClosePassed, close-passed}
 use Rattle.composer_close.proofs.Closing.{closed-memory, closed-state}
 use Rattle.composer_close.proofs.niranbok_composer_close.Statement.{statement}

@@ -8,16 +8,16 @@ use borrow.Author.Needs.{needs}
 use borrow.Author.Tests.{ne-eqb}
 use denote.Ref.{now}
 use lib.ListN.{length, take}
-use Rattle.refusal_table.specs.Refusal.{leaves}
+use Rattle.setting.specs.Refusal.{leaves}
 use Rattle.counters.specs.Counters.{lastSlot}
-use Rattle.coding.specs.Settings.{part}
-use Rattle.coding.proofs.Parts.{length-part}
-use Rattle.composer_state.specs.Slots.{placedBy, marksAfter, restAfter, frameAfter}
-use Rattle.composer_bytes.specs.States.{composerLength, markByte, marksOf, isCoded, composerOf}
-use Rattle.composer_bytes.proofs.Same.{marked-bytes, marks-low, all-bytes, coded-by-counter}
-use Rattle.composer_bytes.proofs.There.{put-end, plan-there, marks-there}
-use Rattle.board_frame.specs.Calls.{putRefused, putPlaced, putState, putMemory}
-use Rattle.board_frame.proofs.Calls.{put-refused, put-done}
+use Rattle.setting_bytes.specs.Settings.{part}
+use Rattle.setting_bytes.proofs.Parts.{length-part}
+use Rattle.composer.specs.Slots.{placedBy, marksAfter, restAfter, frameAfter}
+use Rattle.composer.specs.States.{composerLength, markByte, marksOf, isCoded, composerOf}
+use Rattle.composer.proofs.Same.{marked-bytes, marks-low, all-bytes, coded-by-counter}
+use Rattle.composer.proofs.There.{put-end, plan-there, marks-there}
+use Rattle.composer.specs.Calls.{putRefused, putPlaced, putState, putMemory}
+use Rattle.composer.proofs.Calls.{put-refused, put-done}
 use Rattle.composer_put.specs.Bits.{emptySlots}
 use Rattle.composer_put.proofs.Rest.{left-within, counted}
 use Rattle.composer_put.proofs.Passed.{PutPassed, put-passed}

@@ -4,10 +4,10 @@ use native.Mathlib.Omega.{arith}
 use borrow.Author.Needs.{needs}
 use borrow.Author.Tests.{eq-eqb, ne-eqb, lt-ltb, le-ltb, not-true, not-false}
 use lib.ListN.{length}
-use Rattle.refusal_table.specs.Refusal.{firstOf, leaves}
-use Rattle.composer_state.specs.Composing.{answer, startOf}
-use Rattle.composer_bytes.specs.States.{composerLength}
-use Rattle.board_frame.specs.Calls.{startRefused, startState}
+use Rattle.setting.specs.Refusal.{firstOf, leaves}
+use Rattle.composer.specs.Composing.{answer, startOf}
+use Rattle.composer.specs.States.{composerLength}
+use Rattle.composer.specs.Calls.{startRefused, startState}
 use Rattle.composer_start.proofs.niranbok_composer_start.Statement.{statement}
 use Rattle.composer_start.proofs.niranbok_composer_start.Tie as tie
 

@@ -4,11 +4,11 @@ use mathlib.Core.Bool.{not}
 use borrow.Author.Needs.{needs}
 use borrow.Author.Tests.{not-true, not-false}
 use Rattle.setting.specs.declared.Kind.{Kind}
-use Rattle.refusal_table.specs.Refusal.{firstOf}
-use Rattle.words.specs.Kinds.{kindOf}
-use Rattle.composer_state.specs.Composing.{fresh, answer, startOf}
-use Rattle.composer_bytes.specs.States.{composerBytes}
-use Rattle.words.proofs.KindsBack.{kind-back, kind-low}
+use Rattle.setting.specs.Refusal.{firstOf}
+use Rattle.setting_bytes.specs.Kinds.{kindOf}
+use Rattle.composer.specs.Composing.{fresh, answer, startOf}
+use Rattle.composer.specs.States.{composerBytes}
+use Rattle.setting_bytes.proofs.KindsBack.{kind-back, kind-low}
 use Rattle.composer_start.proofs.start.Statement.{statement}
 use Rattle.composer_start.proofs.start.Tie as tie
 

@@ -4,11 +4,11 @@ use mathlib.Core.Path.{_≡_, refl, ap, _∙_}
 use borrow.Author.Needs.{needs}
 use lib.Dec.{lit<}
 use lib.ListN.{replicate}
-use Rattle.words.specs.Kinds.{kindOf}
-use Rattle.words.specs.Words.{wordBytes}
-use Rattle.composer_bytes.specs.States.{composerLength}
-use Rattle.words.proofs.KindsBack.{kind-same}
-use Rattle.composer_bytes.proofs.Same.{fresh-bytes}
+use Rattle.setting_bytes.specs.Kinds.{kindOf}
+use Rattle.setting_bytes.specs.Words.{wordBytes}
+use Rattle.composer.specs.States.{composerLength}
+use Rattle.setting_bytes.proofs.KindsBack.{kind-same}
+use Rattle.composer.proofs.Same.{fresh-bytes}
 use Rattle.composer_start.proofs.write_fresh.Statement.{statement}
 use Rattle.composer_start.proofs.write_fresh.Tie as tie
 

@@ -10,11 +10,11 @@ use lib.Dec.{eqb}
 use lib.ListN.{getD}
 use Rattle.bits.specs.Fields.{Fit}
 use Rattle.bits.proofs.Laws.{fit-of}
-use Rattle.refusal_table.specs.Refusal.{firstOf}
-use Rattle.refusal_table.proofs.Refusals.{answers, passed}
-use Rattle.layout.specs.Layout.{syncByte, Field}
-use Rattle.layout.specs.Header.{startValue}
-use Rattle.layout.proofs.Packet.{differs, agrees, sync-byte, header-pid}
+use Rattle.setting.specs.Refusal.{firstOf}
+use Rattle.setting.proofs.Refusals.{answers, passed}
+use Rattle.header_layout.specs.Layout.{syncByte, Field}
+use Rattle.header_layout.specs.Header.{startValue}
+use Rattle.header_layout.proofs.Packet.{differs, agrees, sync-byte, header-pid}
 use Rattle.packet.specs.Packets.{unfit, placeRefusal}
 use Rattle.packet.proofs.place_refusal.Statement.{statement}
 use Rattle.packet.proofs.place_refusal.Tie as tie

@@ -3,11 +3,11 @@ use mathlib.Core.Path.{_≡_}
 use borrow.Author.Needs.{needs}
 use lib.ListN.{length, take, drop}
 use Rattle.setting.specs.declared.Kind.{Kind}
-use Rattle.slot_numbers.specs.Packed.{packedLength, unpacked}
-use Rattle.refusal_table.specs.Refusal.{firstOf}
-use Rattle.receiver_in_place.specs.declared.Receiver.{Receiver}
-use Rattle.receiver_in_place.specs.InPlace.{numbersLength, receiverWith}
-use Rattle.receiver_in_place.proofs.LentRefusal.{lent-accepted}
+use Rattle.receiver.specs.Packed.{packedLength, unpacked}
+use Rattle.setting.specs.Refusal.{firstOf}
+use Rattle.receiver.specs.declared.Receiver.{Receiver}
+use Rattle.receiver.specs.InPlace.{numbersLength, receiverWith}
+use Rattle.receiver.proofs.LentRefusal.{lent-accepted}
 use Rattle.receiver_hand_out.specs.Ready.{readyChecks}
 use Rattle.receiver_hand_out.proofs.Frames.{behind-first, state-first, refused-before, handed-store, handed-number, handed-frame, handed-buffer, hands, refuses-frame}
 use Rattle.receiver_hand_out.proofs.hand_out_in_place.Statement.{statement}

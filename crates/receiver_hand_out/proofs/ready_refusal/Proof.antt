@@ -7,15 +7,15 @@ use borrow.Author.Needs.{needs}
 use borrow.Author.Tests.{eq-eqb, ne-eqb}
 use lib.ListN.{length, drop}
 use Rattle.counters.specs.Counters.{firstStream, lastStream, within}
-use Rattle.refusal_table.specs.Refusal.{Check, firstOf}
-use Rattle.refusal_table.proofs.Refusals.{answers, passed, onward, at-once}
+use Rattle.setting.specs.Refusal.{Check, firstOf}
+use Rattle.setting.proofs.Refusals.{answers, passed, onward, at-once}
 use Rattle.counters.proofs.Within.{under, past, between}
 use Rattle.setting.specs.declared.Kind.{Kind}
-use Rattle.receiver_in_place.specs.declared.Receiver.{Receiver}
-use Rattle.receiver_table.specs.Table.{isReady}
-use Rattle.receiver_in_place.specs.Receiving.{receiverChecks}
-use Rattle.receiver_in_place.specs.InPlace.{numbersLength, receiverWith, lentRefusal}
-use Rattle.receiver_in_place.proofs.LentRefusal.{own-refusal, lent-accepted, one-anyway}
+use Rattle.receiver.specs.declared.Receiver.{Receiver}
+use Rattle.receiver.specs.Table.{isReady}
+use Rattle.receiver.specs.Receiving.{receiverChecks}
+use Rattle.receiver.specs.InPlace.{numbersLength, receiverWith, lentRefusal}
+use Rattle.receiver.proofs.LentRefusal.{own-refusal, lent-accepted, one-anyway}
 use Rattle.receiver_hand_out.specs.Ready.{readyChecks}
 use Rattle.receiver_hand_out.proofs.Frames.{receiver-none, state-first}
 use Rattle.receiver_hand_out.proofs.ready_refusal.Statement.{statement}

@@ -5,10 +5,10 @@ use borrow.Author.Needs.{needs}
 use lib.ListN.{length}
 use Rattle.packet.specs.Packets.{unfit}
 use Rattle.packet.proofs.Fit.{may-stand, may-not-stand}
-use Rattle.receiver_in_place.specs.declared.Receiver.{Receiver}
-use Rattle.receiver_in_place.specs.Receiving.{receiveRefusal}
-use Rattle.receiver_in_place.specs.InPlace.{numbersLength, receiverWith}
-use Rattle.receiver_in_place.proofs.LentRefusal.{lent-accepted}
+use Rattle.receiver.specs.declared.Receiver.{Receiver}
+use Rattle.receiver.specs.Receiving.{receiveRefusal}
+use Rattle.receiver.specs.InPlace.{numbersLength, receiverWith}
+use Rattle.receiver.proofs.LentRefusal.{lent-accepted}
 use Rattle.receiver_receive.proofs.Sorts.{other-sort}
 use Rattle.receiver_receive.proofs.Receipts.{whole-packet, whole-store, other-receipt, other-store, unfit-store}
 use Rattle.receiver_receive.proofs.Steps.{kept-step, receives, refuses}

@@ -3,10 +3,10 @@ use mathlib.Core.Path.{sym, ap, _∙_}
 use mathlib.Core.Bool.{not}
 use borrow.Author.Needs.{needs}
 use borrow.Author.Tests.{eq-eqb, ne-eqb}
-use Rattle.refusal_table.proofs.Refusals.{answers, passed}
-use Rattle.receiver_in_place.specs.Receiving.{receiveRefusal}
-use Rattle.receiver_in_place.specs.InPlace.{lentRefusal}
-use Rattle.receiver_in_place.proofs.LentRefusal.{one-anyway}
+use Rattle.setting.proofs.Refusals.{answers, passed}
+use Rattle.receiver.specs.Receiving.{receiveRefusal}
+use Rattle.receiver.specs.InPlace.{lentRefusal}
+use Rattle.receiver.proofs.LentRefusal.{one-anyway}
 use Rattle.receiver_receive.proofs.receive_refusal.Statement.{statement}
 use Rattle.receiver_receive.proofs.receive_refusal.Tie as tie
 

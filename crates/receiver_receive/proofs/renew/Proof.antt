@@ -5,7 +5,7 @@ use mathlib.Core.List.{List, _++_}
 use native.Mathlib.Omega.{arith}
 use borrow.Author.Needs.{needs}
 use lib.ListN.{take, drop}
-use Rattle.slot_numbers.specs.Packed.{packedLength}
+use Rattle.receiver.specs.Packed.{packedLength}
 use Rattle.receiver_receive.proofs.Joined.{copied-part}
 use Rattle.receiver_receive.proofs.renew.Statement.{statement}
 use Rattle.receiver_receive.proofs.renew.Tie as tie

@@ -1,11 +1,11 @@
 -- `take_header` meets its contract: the packet is broken, or a header. Assumes nothing.
 use mathlib.Core.Path.{_≡_, refl, sym, ap, _∙_}
 use borrow.Author.Needs.{needs}
-use Rattle.layout.specs.Header.{reading}
-use Rattle.receiver_table.specs.Table.{good, rowOf}
-use Rattle.header_checks.specs.Checking.{readRefusal}
-use Rattle.receiver_in_place.specs.Store.{storeLength}
-use Rattle.receiver_in_place.specs.InPlace.{receiverWith}
+use Rattle.header_layout.specs.Header.{reading}
+use Rattle.receiver.specs.Table.{good, rowOf}
+use Rattle.header_check.specs.Checking.{readRefusal}
+use Rattle.receiver.specs.Store.{storeLength}
+use Rattle.receiver.specs.InPlace.{receiverWith}
 use Rattle.receiver_receive.proofs.Sorts.{broken-sort, good-sort, checked-refusal, checked-counter}
 use Rattle.receiver_receive.proofs.Joined.{opened-is}
 use Rattle.receiver_receive.proofs.Receipts.{whole-packet, broken-receipt, good-receipt}

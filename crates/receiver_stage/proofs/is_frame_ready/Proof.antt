@@ -1,7 +1,7 @@
 -- `is_frame_ready` meets its contract. Assumes nothing.
 use mathlib.Core.Path.{sym, ap}
 use borrow.Author.Needs.{needs}
-use Rattle.receiver_table.specs.Table.{isReady}
+use Rattle.receiver.specs.Table.{isReady}
 use Rattle.receiver_stage.proofs.is_frame_ready.Statement.{statement}
 use Rattle.receiver_stage.proofs.is_frame_ready.Tie as tie
 

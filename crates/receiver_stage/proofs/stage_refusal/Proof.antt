@@ -5,9 +5,9 @@ use borrow.Author.Tests.{le-leb, lt-leb, lt-ltb, le-ltb}
 use borrow.Author.Needs.{needs}
 use lib.Dec.{ltb}
 use Rattle.counters.specs.Counters.{lastSlot}
-use Rattle.refusal_table.specs.Refusal.{firstOf}
-use Rattle.refusal_table.proofs.Refusals.{answers, passed}
-use Rattle.receiver_table.specs.Table.{stageChecks}
+use Rattle.setting.specs.Refusal.{firstOf}
+use Rattle.setting.proofs.Refusals.{answers, passed}
+use Rattle.receiver.specs.Table.{stageChecks}
 use Rattle.receiver_stage.proofs.stage_refusal.Statement.{statement}
 use Rattle.receiver_stage.proofs.stage_refusal.Tie as tie
 

@@ -1,7 +1,7 @@
 -- `stored` meets its contract, stage by stage. Assumes nothing.
 use mathlib.Core.Path.{refl}
 use borrow.Author.Needs.{needs}
-use Rattle.receiver_table.specs.Table.{storedOf}
+use Rattle.receiver.specs.Table.{storedOf}
 use Rattle.receiver_stage.proofs.stored.Statement.{statement}
 use Rattle.receiver_stage.proofs.stored.Tie as tie
 

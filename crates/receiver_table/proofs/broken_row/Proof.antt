@@ -1,7 +1,7 @@
 -- `broken_row` meets its contract, stage by stage. Assumes nothing.
 use mathlib.Core.Path.{refl}
 use borrow.Author.Needs.{needs}
-use Rattle.receiver_table.specs.Table.{openRow, rowOf}
+use Rattle.receiver.specs.Table.{openRow, rowOf}
 use Rattle.receiver_table.proofs.broken_row.Statement.{statement}
 use Rattle.receiver_table.proofs.broken_row.Tie as tie
 

@@ -1,7 +1,7 @@
 -- `header_row` meets its contract, stage by stage. Assumes nothing.
 use mathlib.Core.Path.{refl}
 use borrow.Author.Needs.{needs}
-use Rattle.receiver_table.specs.Table.{rowOf}
+use Rattle.receiver.specs.Table.{rowOf}
 use Rattle.receiver_table.proofs.header_row.Statement.{statement}
 use Rattle.receiver_table.proofs.header_row.Tie as tie
 

@@ -2,8 +2,8 @@
 use mathlib.Core.Path.{refl, sym}
 use native.Mathlib.Omega.{arith}
 use borrow.Author.Needs.{needs}
-use Rattle.receiver_table.specs.Table.{rowOf}
-use Rattle.receiver_table.proofs.Rows.{kept, long}
+use Rattle.receiver.specs.Table.{rowOf}
+use Rattle.receiver.proofs.Rows.{kept, long}
 use Rattle.receiver_table.proofs.other_row.Statement.{statement}
 use Rattle.receiver_table.proofs.other_row.Tie as tie
 

@@ -2,7 +2,7 @@
 use mathlib.Core.Path.{sym, _∙_}
 use native.Mathlib.Omega.{arith}
 use borrow.Author.Needs.{needs}
-use Rattle.receiver_table.proofs.Rows.{step-is, short, vouched, jump, jump-over}
+use Rattle.receiver.proofs.Rows.{step-is, short, vouched, jump, jump-over}
 use Rattle.receiver_table.proofs.vouch.Statement.{statement}
 use Rattle.receiver_table.proofs.vouch.Tie as tie
 

@@ -3,9 +3,9 @@ use mathlib.Core.Bool.{not}
 use mathlib.Core.List.{List}
 use borrow.Author.Needs.{needs}
 use Rattle.setting.specs.declared.Kind.{Kind}
-use Rattle.refusal_table.specs.Refusal.{Check, firstOf}
-use Rattle.rules.specs.Rules.{bondingChecks}
-use Rattle.refusal_table.proofs.Refusals.{Past, answers, passed}
+use Rattle.setting.specs.Refusal.{Check, firstOf}
+use Rattle.setting.specs.Rules.{bondingChecks}
+use Rattle.setting.proofs.Refusals.{Past, answers, passed}
 use Rattle.setting_rules.proofs.bonding_refusal.Statement.{statement}
 use Rattle.setting_rules.proofs.bonding_refusal.Tie as tie
 

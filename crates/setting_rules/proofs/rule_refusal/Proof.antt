@@ -2,9 +2,9 @@ use mathlib.Core.Path.{sym, ap, _∙_}
 use mathlib.Core.Bool.{not}
 use mathlib.Core.List.{List}
 use borrow.Author.Needs.{needs}
-use Rattle.refusal_table.specs.Refusal.{Check}
-use Rattle.rules.specs.Rules.{ruleChecks}
-use Rattle.refusal_table.proofs.Refusals.{Past, answers, passed}
+use Rattle.setting.specs.Refusal.{Check}
+use Rattle.setting.specs.Rules.{ruleChecks}
+use Rattle.setting.proofs.Refusals.{Past, answers, passed}
 use Rattle.setting_rules.proofs.rule_refusal.Statement.{statement}
 use Rattle.setting_rules.proofs.rule_refusal.Tie as tie
 

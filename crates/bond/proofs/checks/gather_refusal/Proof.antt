@@ -5,8 +5,8 @@ use mathlib.Core.List.{[], _∷_}
 use native.Mathlib.Omega.{arith}
 use borrow.Author.Tests.{lt-ltb, le-ltb}
 use lib.Dec.{ltb}
-use Rattle.refusal_table.specs.Refusal.{firstOf}
-use Rattle.refusal_table.proofs.Refusals.{answers, passed}
+use Rattle.setting.specs.Refusal.{firstOf}
+use Rattle.setting.proofs.Refusals.{answers, passed}
 use Rattle.packet.specs.Packets.{packetLength}
 use Rattle.bond.proofs.checks.gather_refusal.Statement.{statement}
 use Rattle.bond.proofs.checks.gather_refusal.Tie as tie

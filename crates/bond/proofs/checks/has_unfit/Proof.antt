@@ -10,8 +10,8 @@ use borrow.Rule.Slice.PartMut.{mid-len}
 use lib.ListN.{length, take, drop}
 use Rattle.slices.specs.Slices.{anyBelow}
 use Rattle.slices.proofs.Any.{any-none, any-more, any-found}
-use Rattle.refusal_table.specs.Refusal.{firstOf}
-use Rattle.refusal_table.proofs.Refusals.{passed}
+use Rattle.setting.specs.Refusal.{firstOf}
+use Rattle.setting.proofs.Refusals.{passed}
 use Rattle.packet.specs.Packets.{packetLength, slot, unfit, placeRefusal}
 use Rattle.bond.specs.Bonding.{someUnfitIn}
 use Rattle.bond.proofs.checks.has_unfit.Statement.{statement}

@@ -8,8 +8,8 @@ use borrow.Author.Needs.{needs}
 use borrow.Author.Tests.{eq-eqb, ne-eqb}
 use lib.Dec.{eqb}
 use lib.ListN.{length}
-use Rattle.refusal_table.specs.Refusal.{Check, firstOf}
-use Rattle.refusal_table.proofs.Refusals.{Past, answers, passed}
+use Rattle.setting.specs.Refusal.{Check, firstOf}
+use Rattle.setting.proofs.Refusals.{Past, answers, passed}
 use Rattle.packet.specs.Packets.{packetLength}
 use Rattle.bond.specs.Bonding.{someUnfitIn}
 use Rattle.bond.proofs.checks.spread_refusal.Statement.{statement}

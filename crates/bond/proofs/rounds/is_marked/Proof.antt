@@ -1,7 +1,7 @@
 -- `is_marked` meets its contract: a shift is a division by the power of two. Assumes nothing.
 use mathlib.Core.Path.{refl}
 use borrow.Author.Needs.{needs}
-use Rattle.places.specs.Walk.{isMarked}
+use Rattle.bond_places.specs.Walk.{isMarked}
 use Rattle.bond.proofs.rounds.is_marked.Statement.{statement}
 use Rattle.bond.proofs.rounds.is_marked.Tie as tie
 

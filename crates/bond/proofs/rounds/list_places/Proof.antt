@@ -4,7 +4,7 @@ use mathlib.Core.Path.{_≡_, refl}
 use native.Mathlib.Omega.{arith}
 use borrow.Author.Needs.{needs}
 use lib.ListN.{length}
-use Rattle.places.specs.Order.{framePackets}
+use Rattle.bond_places.specs.Order.{framePackets}
 use Rattle.bond.specs.Listing.{roundSteps, Noted, placesFrom}
 use Rattle.bond.proofs.ByRound.{Listing, listing-room, listing-round, listing-end, entry-few}
 use Rattle.bond.proofs.rounds.list_places.Statement.{statement}

@@ -6,17 +6,17 @@ use borrow.Author.Needs.{needs}
 use borrow.Author.Tests.{eq-eqb, ne-eqb}
 use Rattle.setting.specs.declared.Kind.{Kind}
 use Rattle.setting.specs.declared.Setting.{Setting}
-use Rattle.refusal_table.specs.Refusal.{Check, firstOf}
-use Rattle.rules.specs.Rules.{widthChecks, ruleChecks}
-use Rattle.refusal_table.proofs.Refusals.{answers, passed, onward, at-once}
-use Rattle.rules.proofs.Checked.{width-none}
-use Rattle.composer_state.specs.Composing.{stateChecks, openRuleChecks, markChecks, inTurn, beginRefusal}
-use Rattle.composer_state.proofs.Refusals.{state-none}
-use Rattle.composer_state.specs.declared.Composer.{Composer}
-use Rattle.coding.specs.Settings.{settingOf}
-use Rattle.composer_bytes.specs.States.{composerOf}
-use Rattle.composer_bytes.proofs.Parts.{whole-same}
-use Rattle.composer_bytes.proofs.There.{kind-there}
+use Rattle.setting.specs.Refusal.{Check, firstOf}
+use Rattle.setting.specs.Rules.{widthChecks, ruleChecks}
+use Rattle.setting.proofs.Refusals.{answers, passed, onward, at-once}
+use Rattle.setting.proofs.Checked.{width-none}
+use Rattle.composer.specs.Composing.{stateChecks, openRuleChecks, markChecks, inTurn, beginRefusal}
+use Rattle.composer.proofs.Refusals.{state-none}
+use Rattle.composer.specs.declared.Composer.{Composer}
+use Rattle.setting_bytes.specs.Settings.{settingOf}
+use Rattle.composer.specs.States.{composerOf}
+use Rattle.composer.proofs.Parts.{whole-same}
+use Rattle.composer.proofs.There.{kind-there}
 use Rattle.composer_begin.proofs.Turns.{both-rules-none}
 use Rattle.composer_begin.proofs.checks.begin_refusal.Statement.{statement}
 use Rattle.composer_begin.proofs.checks.begin_refusal.Tie as tie

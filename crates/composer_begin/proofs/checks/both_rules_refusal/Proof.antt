@@ -5,13 +5,13 @@ use native.Mathlib.Omega.{arith}
 use borrow.Author.Needs.{needs}
 use borrow.Author.Tests.{eq-eqb, ne-eqb, lt-ltb, le-ltb}
 use Rattle.setting.specs.declared.Kind.{Kind}
-use Rattle.refusal_table.specs.Refusal.{firstOf}
-use Rattle.rules.specs.Rules.{ruleChecks}
-use Rattle.composer_state.specs.Composing.{inTurn, openRuleChecks}
-use Rattle.coding.specs.Settings.{settingOf}
-use Rattle.composer_bytes.specs.States.{composerOf}
-use Rattle.composer_bytes.proofs.Parts.{whole-same}
-use Rattle.composer_bytes.proofs.There.{kind-there}
+use Rattle.setting.specs.Refusal.{firstOf}
+use Rattle.setting.specs.Rules.{ruleChecks}
+use Rattle.composer.specs.Composing.{inTurn, openRuleChecks}
+use Rattle.setting_bytes.specs.Settings.{settingOf}
+use Rattle.composer.specs.States.{composerOf}
+use Rattle.composer.proofs.Parts.{whole-same}
+use Rattle.composer.proofs.There.{kind-there}
 use Rattle.composer_begin.proofs.Turns.{lesser, in-turn, rules-rise}
 use Rattle.composer_begin.proofs.checks.both_rules_refusal.Statement.{statement}
 use Rattle.composer_begin.proofs.checks.both_rules_refusal.Tie as tie

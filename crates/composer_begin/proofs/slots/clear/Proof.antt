@@ -9,7 +9,7 @@ use lib.ListN.{length}
 use Rattle.slices.proofs.Toward.{Toward, toward-none, toward-kept, toward-part, toward-length, toward-all}
 use Rattle.counters.specs.Counters.{lastSlot}
 use Rattle.packet.specs.Packets.{packetLength, frameLength}
-use Rattle.composer_state.specs.Slots.{nulls, cleared}
+use Rattle.composer.specs.Slots.{nulls, cleared}
 use Rattle.composer_begin.proofs.Nulls.{nulls-from, nulls-none}
 use Rattle.composer_begin.proofs.slots.clear.Statement.{statement}
 use Rattle.composer_begin.proofs.slots.clear.Tie as tie

@@ -1,9 +1,9 @@
 -- `header_setting` meets its contract. Assumes nothing.
 use native.Mathlib.Omega.{arith}
 use borrow.Author.Needs.{needs}
-use Rattle.composer_state.specs.Composing.{saying}
-use Rattle.composer_bytes.specs.States.{composerOf}
-use Rattle.composer_bytes.proofs.Same.{counter-there}
+use Rattle.composer.specs.Composing.{saying}
+use Rattle.composer.specs.States.{composerOf}
+use Rattle.composer.proofs.Same.{counter-there}
 use Rattle.composer_close.proofs.Decoded.{closing-read}
 use Rattle.composer_close.proofs.header.header_setting.Statement.{statement}
 use Rattle.composer_close.proofs.header.header_setting.Tie as tie

@@ -1,7 +1,7 @@
 use mathlib.Core.Path.{_≡_, sym, ap, _∙_}
 use borrow.Author.Needs.{needs}
-use Rattle.announced.specs.declared.Announced.{Announced}
-use Rattle.announced.specs.Announcing.{announced, differ}
+use Rattle.setting.specs.declared.Announced.{Announced}
+use Rattle.setting.specs.Announcing.{announced, differ}
 use Rattle.composer_close.proofs.header.next_version.Statement.{statement}
 use Rattle.composer_close.proofs.header.next_version.Tie as tie
 

@@ -7,8 +7,8 @@ use borrow.Author.Needs.{needs}
 use borrow.Author.Tests.{eq-eqb, ne-eqb}
 use lib.ListN.{length, drop}
 use Rattle.slices.proofs.Toward.{Toward, toward-none, toward-more, toward-same, toward-length, toward-all}
-use Rattle.composer_state.specs.Slots.{numbersOf}
-use Rattle.composer_bytes.specs.States.{marksOf}
+use Rattle.composer.specs.Slots.{numbersOf}
+use Rattle.composer.specs.States.{marksOf}
 use Rattle.composer_close.proofs.Numbers.{numbers-from, all-numbered}
 use Rattle.composer_close.proofs.header.number.Statement.{statement}
 use Rattle.composer_close.proofs.header.number.Tie as tie

@@ -5,13 +5,13 @@ use mathlib.Core.List.{List, _∷_, _++_}
 use borrow.Author.Needs.{needs}
 use borrow.Author.Tests.{eq-eqb, ne-eqb}
 use Rattle.counters.specs.Counters.{firstStream, lastStream, within}
-use Rattle.refusal_table.specs.Refusal.{Check, firstOf}
-use Rattle.refusal_table.proofs.Refusals.{answers, passed, onward, at-once}
+use Rattle.setting.specs.Refusal.{Check, firstOf}
+use Rattle.setting.proofs.Refusals.{answers, passed, onward, at-once}
 use Rattle.counters.proofs.Within.{under, past, between}
-use Rattle.composer_state.specs.Composing.{stateChecks, openChecks, streamChecks, putRefusal}
-use Rattle.composer_state.proofs.Refusals.{state-none, open-none}
-use Rattle.composer_bytes.specs.States.{composerOf}
-use Rattle.composer_bytes.proofs.Parts.{whole-same}
+use Rattle.composer.specs.Composing.{stateChecks, openChecks, streamChecks, putRefusal}
+use Rattle.composer.proofs.Refusals.{state-none, open-none}
+use Rattle.composer.specs.States.{composerOf}
+use Rattle.composer.proofs.Parts.{whole-same}
 use Rattle.composer_put.proofs.checks.put_refusal.Statement.{statement}
 use Rattle.composer_put.proofs.checks.put_refusal.Tie as tie
 

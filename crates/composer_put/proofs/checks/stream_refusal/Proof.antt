@@ -7,14 +7,14 @@ use borrow.Author.Needs.{needs}
 use lib.ListN.{length}
 use Rattle.slices.specs.Slices.{anyBelow}
 use Rattle.counters.specs.Counters.{available}
-use Rattle.refusal_table.specs.Refusal.{Check, firstOf}
-use Rattle.refusal_table.proofs.Refusals.{Past, answers, passed}
+use Rattle.setting.specs.Refusal.{Check, firstOf}
+use Rattle.setting.proofs.Refusals.{Past, answers, passed}
 use Rattle.packet.specs.Packets.{slot, unfit}
-use Rattle.coding.specs.Settings.{part}
-use Rattle.composer_state.specs.Slots.{someUnfit}
-use Rattle.composer_state.specs.Composing.{streamChecks}
-use Rattle.composer_bytes.specs.States.{composerOf, marksOf}
-use Rattle.composer_bytes.proofs.There.{plan-there, availability-there}
+use Rattle.setting_bytes.specs.Settings.{part}
+use Rattle.composer.specs.Slots.{someUnfit}
+use Rattle.composer.specs.Composing.{streamChecks}
+use Rattle.composer.specs.States.{composerOf, marksOf}
+use Rattle.composer.proofs.There.{plan-there, availability-there}
 use Rattle.composer_put.specs.Bits.{placeable}
 use Rattle.composer_put.proofs.Placed.{placeable-is, placed-is, unfit-is}
 use Rattle.composer_put.proofs.checks.stream_refusal.Statement.{statement}

@@ -11,8 +11,8 @@ use Rattle.counters.specs.Counters.{lastSlot}
 use Rattle.slot_bits.specs.Bits.{slotBits}
 use Rattle.slot_bits.proofs.Sharing.{Sharing, sharing-none, sharing-more, sharing-long, sharing-all}
 use Rattle.slot_bits.proofs.Summing.{slots-low}
-use Rattle.composer_bytes.specs.States.{marksOf}
-use Rattle.composer_bytes.proofs.There.{mark-at}
+use Rattle.composer.specs.States.{marksOf}
+use Rattle.composer.proofs.There.{mark-at}
 use Rattle.composer_put.specs.Bits.{emptyFor}
 use Rattle.composer_put.proofs.Bits.{length-empty, empty-there}
 use Rattle.composer_put.proofs.slots.empty_slots.Statement.{statement}

@@ -16,7 +16,7 @@ use Rattle.slices.proofs.Any.{both}
 use Rattle.slices.proofs.Front.{copied-over}
 use Rattle.counters.specs.Counters.{lastSlot}
 use Rattle.packet.specs.Packets.{packetLength, frameLength}
-use Rattle.composer_bytes.specs.States.{marksOf}
+use Rattle.composer.specs.States.{marksOf}
 use Rattle.composer_put.specs.Bits.{emptySlots}
 use Rattle.composer_put.proofs.Bits.{next-below, behind-below}
 use Rattle.composer_put.proofs.Placing.{Placing, AllPlaced, Next, placing-none, placing-placed, placing-next, placing-over}

@@ -3,7 +3,7 @@ use Prim.Native.Nat.{_+_, _/_, _^_, _<_}
 use mathlib.Core.Path.{_≡_}
 use native.Mathlib.Omega.{arith}
 use lib.Count.{ones, ones-le}
-use Rattle.receiver_in_place.specs.Store.{slotsFor}
+use Rattle.receiver.specs.Store.{slotsFor}
 use Rattle.receiver_hand_out.specs.Halves.{halvesOf}
 use Rattle.receiver_hand_out.proofs.Counting.{four-words}
 use Rattle.receiver_hand_out.proofs.numbered.count.Statement.{statement}

@@ -8,9 +8,9 @@ use borrow.Author.Tests.{lt-ltb, le-ltb}
 use lib.ListN.{length, take, drop}
 use Rattle.counters.specs.Counters.{lastSlot}
 use Rattle.packet.specs.Packets.{packetLength}
-use Rattle.slot_numbers.specs.Packed.{unpacked}
-use Rattle.slot_numbers.proofs.Packing.{length-unpacked}
-use Rattle.receiver_in_place.specs.Store.{slotsFor}
+use Rattle.receiver.specs.Packed.{unpacked}
+use Rattle.receiver.proofs.Packing.{length-unpacked}
+use Rattle.receiver.specs.Store.{slotsFor}
 use Rattle.receiver_hand_out.proofs.Parts.{Says, says, says-last, slots-all, Gone, gone-none, gone-more, gone-room, gone-all}
 use Rattle.receiver_hand_out.proofs.numbered.hand_out.Statement.{statement}
 use Rattle.receiver_hand_out.proofs.numbered.hand_out.Tie as tie

@@ -5,7 +5,7 @@ use native.Mathlib.Omega.{arith}
 use borrow.Author.Needs.{needs}
 use lib.ListN.{take, drop}
 use Rattle.bits.specs.Fields.{run, cut}
-use Rattle.slot_numbers.proofs.Packing.{unpacked-part}
+use Rattle.receiver.proofs.Packing.{unpacked-part}
 use Rattle.receiver_hand_out.specs.Halves.{marked}
 use Rattle.receiver_hand_out.proofs.numbered.marks_at.Statement.{statement}
 use Rattle.receiver_hand_out.proofs.numbered.marks_at.Tie as tie

@@ -1,2 +1,0 @@
--- What of a header decides on the next header's version.
-pub mod Announcing

@@ -1,0 +1,100 @@
+// Bonding for callers in other languages: a bond crosses as its four numbers. The call that gathers has its crate.
+// The call for C that gathers a bonded stream: a bond crosses as its four numbers.
+use bond_group::Bond;
+ghost use mathlib.Core.Path.{_≡_};
+ghost use mathlib.Core.Bool.{cond};
+ghost use Rattle.bond_group.specs.Plan.{plannedOf};
+ghost use Rattle.bond.specs.Bonding.{spreadOf, spreadGroup, gatherOf, gatherBuffer};
+ghost use Rattle.bond_calls.specs.Bonds.{bondOf};
+ghost use lib.ListN.{length};
+
+// Reads the headers of a group: whether one carries the stream, and how many bonded slots it has.
+#[no_mangle]
+pub extern "C" fn niranbok_read_headers(
+    group: &[u8],
+    carriers: u8,
+    pid: u16,
+    ts_id: u16,
+    original_network_id: u16,
+    is_carried: &mut u8,
+    packets: &mut usize,
+) -> u8
+    ensures { λ r. ⌜ r ≡ plannedOf (bondOf carriers pid «ts_id» «original_network_id») (now (group .entry)) .refusal ⌝ }
+    ensures { λ _. ⌜ now («is_carried» .exit) ≡ cond (plannedOf (bondOf carriers pid «ts_id» «original_network_id») (now (group .entry)) .plan .«is_carried») 1 0 ⌝ }
+    ensures { λ _. ⌜ now (packets .exit) ≡ plannedOf (bondOf carriers pid «ts_id» «original_network_id») (now (group .entry)) .plan .packets ⌝ }
+{
+    let planned = bond_group::read_headers(
+        group,
+        Bond {
+            carriers,
+            pid,
+            ts_id,
+            original_network_id,
+        },
+    );
+    let plan = planned.plan;
+    *is_carried = 0;
+    if plan.is_carried {
+        *is_carried = 1;
+    }
+    *packets = plan.packets;
+    planned.refusal
+}
+
+// Writes a stream's packets into the bonded slots of a group, in order.
+#[no_mangle]
+pub extern "C" fn niranbok_spread(
+    group: &mut [u8],
+    stream: &[u8],
+    carriers: u8,
+    pid: u16,
+    ts_id: u16,
+    original_network_id: u16,
+    packets: &mut usize,
+) -> u8
+    ensures { λ r. ⌜ r ≡ spreadOf (bondOf carriers pid «ts_id» «original_network_id») (now (group .entry)) (now (stream .entry)) .refusal ⌝ }
+    ensures { λ _. ⌜ now (packets .exit) ≡ spreadOf (bondOf carriers pid «ts_id» «original_network_id») (now (group .entry)) (now (stream .entry)) .packets ⌝ }
+    ensures { λ _. ⌜ now (group .exit) ≡ spreadGroup (bondOf carriers pid «ts_id» «original_network_id») (now (group .entry)) (now (stream .entry)) ⌝ }
+{
+    let spread = bond::spread(
+        group,
+        stream,
+        Bond {
+            carriers,
+            pid,
+            ts_id,
+            original_network_id,
+        },
+    );
+    *packets = spread.packets;
+    spread.refusal
+}
+
+// Copies the bonded slots of a group, in order, to the front of `out`.
+#[no_mangle]
+pub extern "C" fn niranbok_gather(
+    group: &[u8],
+    out: &mut [u8],
+    carriers: u8,
+    pid: u16,
+    ts_id: u16,
+    original_network_id: u16,
+    packets: &mut usize,
+) -> u8
+    ensures { λ r. ⌜ r ≡ gatherOf (bondOf carriers pid «ts_id» «original_network_id») (now (group .entry)) (length (now (out .entry))) .refusal ⌝ }
+    ensures { λ _. ⌜ now (packets .exit) ≡ gatherOf (bondOf carriers pid «ts_id» «original_network_id») (now (group .entry)) (length (now (out .entry))) .packets ⌝ }
+    ensures { λ _. ⌜ now (out .exit) ≡ gatherBuffer (bondOf carriers pid «ts_id» «original_network_id») (now (group .entry)) (now (out .entry)) ⌝ }
+{
+    let gathered = bond::gather(
+        group,
+        out,
+        Bond {
+            carriers,
+            pid,
+            ts_id,
+            original_network_id,
+        },
+    );
+    *packets = gathered.packets;
+    gathered.refusal
+}

@@ -1,0 +1,248 @@
+-- The headers of a group gone through one after another: what is known behind each, and what is answered where one is refused.
+-- Assumes nothing.
+use Prim.Native.Nat.{ℕ, zero, suc, _+_, _-_, _*_, _≤_, _<_}
+use mathlib.Core.Path.{_≡_, refl, sym, ap, ap₂, subst, _∙_}
+use mathlib.Core.Bool.{true, false, cond, not}
+use mathlib.Core.List.{List, [], _∷_, _++_, append-assoc}
+use native.Mathlib.Omega.{arith}
+use native.Mathlib.Numerals.{add-one}
+use borrow.Author.Tests.{ne-eqb}
+use lib.Dec.{eqb}
+use lib.ListN.{length, take, drop, length-drop}
+use lib.Seq.{length-take-le}
+use Rattle.setting.specs.declared.Kind.{Kind}
+use Rattle.counters.specs.Counters.{lastPosition}
+use Rattle.setting.specs.Setting.{blank}
+use Rattle.setting.specs.Refusal.{Check, NoneHolds, firstOf}
+use Rattle.setting.specs.Rules.{pidAllowed, ruleChecks, bondingChecks}
+use Rattle.setting.proofs.Refusals.{answers, first-none, onward, at-once, none-append, none-before, none-behind, none-first}
+use Rattle.header_check.specs.declared.Checked.{Checked}
+use Rattle.header_layout.specs.Header.{headerLength, packetChecks, reading}
+use Rattle.header_check.specs.Checking.{readRefusal, partsOf, checkedOf}
+use Rattle.header_check.proofs.Asked.{refusal-is, parts-are}
+use Rattle.header_layout.proofs.Calls.{right-call}
+use Rattle.packet.specs.Packets.{packetLength, frameLength, slot}
+use Rattle.bond_group.specs.declared.Bond.{Bond}
+use Rattle.bond_group.specs.declared.headers.Shown.{Shown}
+use Rattle.bond_group.specs.declared.headers.Plan.{Plan}
+use Rattle.bond_group.specs.declared.headers.Planned.{Planned}
+use Rattle.bond_places.specs.Order.{framePackets}
+use Rattle.bond_places.specs.Walk.{lastCarrier}
+use Rattle.bond_group.specs.Group.{framesIn, said}
+use Rattle.bond_group.specs.Standing.{shownBy, before, isEnd, standingChecks, headerChecks, headersChecks, groupChecks}
+use Rattle.bond_group.specs.Plan.{nothingSeen, seen, planAfter, plannedBy}
+use Rattle.bond_group.proofs.Standing.{Stands, stands, headers-each}
+use Rattle.bond_group.proofs.Grouping.{framed-short}
+
+-- ---- checks of headers, one header after another
+
+module _ (b : Bond) (group : List ℕ) where
+  -- where the first j pass, the next one answers if it is refused
+  refused-at : (s j k : ℕ) (rest : List Check) → NoneHolds (headersChecks b group s j) → (firstOf (headerChecks b group (s + j)) ≡ 0 → ⊥)
+      → firstOf (headersChecks b group s (j + suc k) ++ rest) ≡ firstOf (headerChecks b group (s + j))
+  unfolding headersChecks
+  refused-at s zero k rest n d =
+      let e : zero + suc k ≡ suc k = omega arith in
+      let f : s + 0 ≡ s = omega arith in
+      let d′ : firstOf (headerChecks b group s) ≡ 0 → ⊥ = subst (λ (x : ℕ). firstOf (headerChecks b group x) ≡ 0 → ⊥) f d in
+      ap (λ (x : ℕ). firstOf (headersChecks b group s x ++ rest)) e
+      ∙ ap firstOf (append-assoc (headerChecks b group s) (headersChecks b group (s + 1) k) rest)
+      ∙ at-once (headerChecks b group s) (headersChecks b group (s + 1) k ++ rest) d′
+      ∙ ap (λ (x : ℕ). firstOf (headerChecks b group x)) (sym f)
+  refused-at s (suc j) k rest n d =
+      let e : suc j + suc k ≡ suc (j + suc k) = omega arith in
+      let f : s + suc j ≡ s + 1 + j = omega arith in
+      let d′ : firstOf (headerChecks b group (s + 1 + j)) ≡ 0 → ⊥ = subst (λ (x : ℕ). firstOf (headerChecks b group x) ≡ 0 → ⊥) f d in
+      ap (λ (x : ℕ). firstOf (headersChecks b group s x ++ rest)) e
+      ∙ ap firstOf (append-assoc (headerChecks b group s) (headersChecks b group (s + 1) (j + suc k)) rest)
+      ∙ onward (headersChecks b group (s + 1) (j + suc k) ++ rest) (none-before (headerChecks b group s) (headersChecks b group (s + 1) j) n)
+      ∙ refused-at (s + 1) j k rest (none-behind (headerChecks b group s) n) d′
+      ∙ ap (λ (x : ℕ). firstOf (headerChecks b group x)) (sym f)
+
+  -- one more passes
+  headers-more : (s j : ℕ) → NoneHolds (headersChecks b group s j) → NoneHolds (headerChecks b group (s + j)) → NoneHolds (headersChecks b group s (suc j))
+  unfolding headersChecks
+  headers-more s zero n h =
+      let f : s + 0 ≡ s = omega arith in
+      none-append (subst (λ (x : ℕ). NoneHolds (headerChecks b group x)) f h) NoneHolds.none
+  headers-more s (suc j) n h =
+      let f : s + suc j ≡ s + 1 + j = omega arith in
+      none-append (none-before (headerChecks b group s) (headersChecks b group (s + 1) j) n)
+      (headers-more (s + 1) j (none-behind (headerChecks b group s) n) (subst (λ (x : ℕ). NoneHolds (headerChecks b group x)) f h))
+
+  last-stands : (i : ℕ) → NoneHolds (headersChecks b group 0 (suc i)) → Stands b group i
+  last-stands i n =
+      let o : 0 + i ≡ i = omega arith in
+      stands b group i (subst (λ (x : ℕ). NoneHolds (headerChecks b group x)) o (headers-each b group 0 (suc i) n i (omega arith)))
+
+  first-few : (before group 0 .«carrier_sequence» ≤ lastCarrier) × (before group 0 .«frame_position» .0 ≤ lastPosition)
+  unfolding before shownBy blank
+  first-few = (omega arith, omega arith)
+
+  shown-few : (i : ℕ) → Stands b group i → (before group (suc i) .«carrier_sequence» ≤ lastCarrier) × (before group (suc i) .«frame_position» .0 ≤ lastPosition)
+  unfolding before shownBy
+  shown-few i st =
+      let c = st .bond .carriers in
+      let q = st .bond .to in
+      let p = st .bond .last in
+      let f = framed-short (said group i .«number_of_frames») (st .bond .framed) in
+      (omega arith, omega arith)
+
+  -- ---- behind j headers
+
+  pub record Through (plan : Plan) (behind : Shown) (group-id j : ℕ) : Type 0 where
+    pub plan-is : plan ≡ planAfter b group j
+    pub behind-is : behind ≡ before group j
+    pub group-is : 0 < j → group-id ≡ said group 0 .«group_id»
+    pub passed : NoneHolds (headersChecks b group 0 j)
+    pub within : j ≤ framesIn group
+
+  pub through-none : (plan : Plan) (behind : Shown) (group-id : ℕ) → plan ≡ nothingSeen → behind ≡ shownBy blank → Through plan behind group-id 0
+  unfolding planAfter before headersChecks
+  through-none plan behind group-id p h =
+      record { plan-is = p; behind-is = h; group-is = λ l. absurd (omega arith); passed = NoneHolds.none; within = omega arith }
+
+  -- ---- the header of frame j
+
+  -- the part of the buffer that is read
+  abbrev pub part : ℕ → List ℕ
+  part j = take (frameLength * j + packetLength - frameLength * j) (drop (frameLength * j) group)
+
+  part-is : (j : ℕ) → part j ≡ slot (framePackets * j) group
+  unfolding slot
+  part-is j =
+      let n : frameLength * j + packetLength - frameLength * j ≡ packetLength = omega arith in
+      let a : frameLength * j ≡ packetLength * (framePackets * j) = omega arith in
+      ap₂ (λ (x y : ℕ). take x (drop y group)) n a
+
+  -- 3 to 11
+  abbrev readChecks : ℕ → List Check
+  readChecks j = packetChecks (b .pid) (slot (framePackets * j) group) ++ ruleChecks Kind.Extended (said group j)
+
+  module _ (allowed : pidAllowed (b .pid) ≡ true) (j : ℕ) (l : j < framesIn group) where
+    header-long : length (slot (framePackets * j) group) ≡ headerLength
+    unfolding slot
+    header-long =
+        length-take-le packetLength (drop (packetLength * (framePackets * j)) group) (rw length-drop (omega arith))
+
+    read-refusal : readRefusal Kind.Extended (b .pid) (part j) ≡ firstOf (readChecks j)
+    unfolding readRefusal said
+    read-refusal =
+        ap (readRefusal Kind.Extended (b .pid)) (part-is j)
+        ∙ right-call (b .pid) (length (slot (framePackets * j) group)) _ header-long allowed
+
+    abbrev standing : List Check
+    standing = standingChecks (b .carriers) (said group 0 .«group_id») (before group j) (shownBy (said group j))
+
+    split : headerChecks b group j ≡ readChecks j ++ standing
+    unfolding headerChecks
+    split = sym (append-assoc (packetChecks (b .pid) (slot (framePackets * j) group)) (ruleChecks Kind.Extended (said group j)) standing)
+
+    read-none : firstOf (readChecks j) ≡ 0 → NoneHolds (readChecks j)
+    unfolding packetChecks ruleChecks bondingChecks
+    read-none e = none-first (readChecks j) refl e
+
+    -- what an accepted header says
+    pub said-is : (r : Checked) → r ≡ checkedOf Kind.Extended (b .pid) (part j) → r .refusal ≡ 0 → r ≡ partsOf 0 (said group j)
+    unfolding said
+    said-is r e z = parts-are Kind.Extended (b .pid) (part j) r e z ∙ ap (λ (p : List ℕ). partsOf 0 (reading Kind.Extended p)) (part-is j)
+
+    module _ (plan : Plan) (behind : Shown) (group-id : ℕ) (t : Through plan behind group-id j) where
+      -- the answer where this header is refused
+      answer : (x : ℕ) → firstOf (headerChecks b group j) ≡ x → (x ≡ 0 → ⊥) → firstOf (groupChecks b group) ≡ x
+      unfolding groupChecks
+      answer x e d =
+          let k = framesIn group - suc j in
+          let f : framesIn group ≡ j + suc k = omega arith in
+          let o : 0 + j ≡ j = omega arith in
+          let e′ : firstOf (headerChecks b group (0 + j)) ≡ x = ap (λ (i : ℕ). firstOf (headerChecks b group i)) o ∙ e in
+          ap (λ (n : ℕ). firstOf (headersChecks b group 0 n ++ ((14, not (isEnd (b .carriers) (before group (framesIn group)))) ∷ []))) f
+          ∙ refused-at 0 j k ((14, not (isEnd (b .carriers) (before group (framesIn group)))) ∷ []) (t .passed) (λ z. d (sym e′ ∙ z)) ∙ e′
+
+      -- refused with 3 to 11
+      pub read-refused : (r : Checked) → r ≡ checkedOf Kind.Extended (b .pid) (part j) → (r .refusal ≡ 0 → ⊥) → firstOf (groupChecks b group) ≡ r .refusal
+      read-refused r e d =
+          let f : r .refusal ≡ firstOf (readChecks j) = sym (refusal-is Kind.Extended (b .pid) (part j) r e) ∙ read-refusal in
+          answer (r .refusal) (ap firstOf split ∙ at-once (readChecks j) standing (λ z. d (f ∙ z)) ∙ sym f) d
+
+      module _ (r : Checked) (e : r ≡ checkedOf Kind.Extended (b .pid) (part j)) (z : r .refusal ≡ 0) where
+        accepted : NoneHolds (readChecks j)
+        accepted = read-none (sym read-refusal ∙ refusal-is Kind.Extended (b .pid) (part j) r e ∙ z)
+
+        -- refused with 14
+        pub standing-refused : (x : ℕ) → x ≡ firstOf standing → (x ≡ 0 → ⊥) → firstOf (groupChecks b group) ≡ x
+        standing-refused x f d = answer x (ap firstOf split ∙ onward standing accepted ∙ sym f) d
+
+        module _ (f : firstOf standing ≡ 0) where
+          header-none : NoneHolds (headerChecks b group j)
+          unfolding standingChecks
+          header-none = subst NoneHolds (sym split) (none-append accepted (none-first standing refl f))
+
+          passed-more : NoneHolds (headersChecks b group 0 (suc j))
+          passed-more =
+              let o : j ≡ 0 + j = omega arith in
+              headers-more 0 j (t .passed) (subst (λ (i : ℕ). NoneHolds (headerChecks b group i)) o header-none)
+
+          -- all headers up to this one stand as they should
+          pub stand-each : (i : ℕ) → i < suc j → Stands b group i
+          stand-each i h =
+              let o : 0 + i ≡ i = omega arith in
+              stands b group i (subst (λ (x : ℕ). NoneHolds (headerChecks b group x)) o (headers-each b group 0 (suc j) passed-more i h))
+
+          pub through-more : (plan′ : Plan) (behind′ : Shown) (group-id′ j′ : ℕ) → plan′ ≡ seen b plan j (said group j) → behind′ ≡ shownBy (said group j)
+              → group-id′ ≡ said group 0 .«group_id» → j′ ≡ j + 1 → Through plan′ behind′ group-id′ j′
+          unfolding planAfter before
+          through-more plan′ behind′ group-id′ j′ p h g n =
+              subst (Through plan′ behind′ group-id′) (sym (n ∙ add-one j))
+              (record {
+                plan-is = p ∙ ap (λ (x : Plan). seen b x j (said group j)) (t .plan-is);
+                behind-is = h;
+                group-is = λ m. g;
+                passed = passed-more;
+                within = omega arith;
+              })
+
+  -- what was shown last is within its counts
+  pub behind-few : (plan : Plan) (behind : Shown) (group-id j : ℕ) → Through plan behind group-id j
+      → (behind .«carrier_sequence» ≤ lastCarrier) × (behind .«frame_position» .0 ≤ lastPosition)
+  behind-few plan behind group-id j t = rw (t .behind-is) (by-count j (t .passed))
+    where
+      by-count : (j : ℕ) → NoneHolds (headersChecks b group 0 j) → (before group j .«carrier_sequence» ≤ lastCarrier) × (before group j .«frame_position» .0 ≤ lastPosition)
+      by-count zero n = first-few
+      by-count (suc i) n = shown-few i (last-stands i n)
+
+  -- ---- behind all of them
+
+  module _ (plan : Plan) (behind : Shown) (group-id j : ℕ) (t : Through plan behind group-id j) (all : framesIn group ≤ j) where
+    all-passed : NoneHolds (headersChecks b group 0 (framesIn group))
+    all-passed = let e : j ≡ framesIn group = omega (arith, t .within) in subst (λ (n : ℕ). NoneHolds (headersChecks b group 0 n)) e (t .passed)
+
+    last-shown : behind ≡ before group (framesIn group)
+    last-shown = let e : j ≡ framesIn group = omega (arith, t .within) in t .behind-is ∙ ap (before group) e
+
+    -- 14 for frames missing
+    pub missing : isEnd (b .carriers) behind ≡ false → firstOf (groupChecks b group) ≡ 14
+    unfolding groupChecks
+    missing e = onward _ all-passed ∙ answers 14 [] (ap not (sym (ap (isEnd (b .carriers)) last-shown) ∙ e))
+
+    pub none-missing : isEnd (b .carriers) behind ≡ true → firstOf (groupChecks b group) ≡ 0
+    unfolding groupChecks
+    none-missing e = first-none (none-append all-passed (NoneHolds.more (ap not (sym (ap (isEnd (b .carriers)) last-shown) ∙ e)) NoneHolds.none))
+
+    pub all-planned : plan ≡ planAfter b group (framesIn group)
+    all-planned = let e : j ≡ framesIn group = omega (arith, t .within) in t .plan-is ∙ ap (planAfter b group) e
+
+-- ---- the plan as it is answered
+
+module _ (b : Bond) (group : List ℕ) (p : Planned) where
+  pub planned-refused : (x : ℕ) → firstOf (groupChecks b group) ≡ x → (x ≡ 0 → ⊥) → p .refusal ≡ x → p .plan ≡ nothingSeen → p ≡ plannedBy b group
+  unfolding plannedBy
+  planned-refused x e d r q =
+      let f : cond (eqb (firstOf (groupChecks b group)) 0) (planAfter b group (framesIn group)) nothingSeen ≡ nothingSeen = rw (e, ne-eqb x 0 d) refl in
+      λ i. record { refusal = (r ∙ sym e) i; plan = (q ∙ sym f) i }
+
+  pub planned-all : firstOf (groupChecks b group) ≡ 0 → p .refusal ≡ 0 → p .plan ≡ planAfter b group (framesIn group) → p ≡ plannedBy b group
+  unfolding plannedBy
+  planned-all e r q =
+      let f : cond (eqb (firstOf (groupChecks b group)) 0) (planAfter b group (framesIn group)) nothingSeen ≡ planAfter b group (framesIn group) = rw e refl in
+      λ i. record { refusal = (r ∙ sym e) i; plan = (q ∙ sym f) i }

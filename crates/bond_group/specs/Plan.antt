@@ -1,0 +1,56 @@
+-- The plan of a group: what its headers said of the carriers and of the stream.
+use Prim.Native.Nat.{ℕ, zero, suc, _+_, _-_, _^_}
+use mathlib.Core.Bool.{Bool, false, cond, _||_}
+use mathlib.Core.List.{List}
+use lib.Dec.{eqb}
+use lib.ListN.{set, replicate}
+use lib.Count.{ones}
+use Rattle.setting.specs.declared.Setting.{Setting}
+use Rattle.setting.specs.Refusal.{firstOf}
+use Rattle.bond_group.specs.declared.Bond.{Bond}
+use Rattle.bond_group.specs.declared.headers.Plan.{Plan}
+use Rattle.bond_group.specs.declared.headers.Planned.{Planned}
+use Rattle.bond_places.specs.Order.{framePackets}
+use Rattle.bond_places.specs.Walk.{lastCarrier, mostFrames}
+use Rattle.bond_group.specs.Group.{framesIn, said, carries, bondedSlot}
+use Rattle.bond_group.specs.Standing.{groupChecks, planChecks}
+
+-- the slots below n that pass the test as one number, slot i its bit i
+unfoldable pub marksUpTo : (ℕ → Bool) → ℕ → ℕ
+marksUpTo test zero = 0
+marksUpTo test (suc i) = marksUpTo test i + cond (test i) (2 ^ i) 0
+
+-- the bonded ones of a frame with this header
+unfoldable pub marks : Bond → Setting → ℕ
+marks b s = marksUpTo (bondedSlot b s) framePackets
+
+-- before the first header
+unfoldable pub nothingSeen : Plan
+nothingSeen =
+    record { frames = replicate lastCarrier 0; slots = replicate mostFrames 0; «is_carried» = false; packets = 0 }
+
+-- the header of frame j taken in
+unfoldable pub seen : Bond → Plan → ℕ → Setting → Plan
+seen b plan j s =
+    record {
+      frames = set (plan .frames) (s .«carrier_sequence» - 1) (s .«number_of_frames»);
+      slots = set (plan .slots) j (marks b s);
+      «is_carried» = plan .«is_carried» || carries b s;
+      packets = plan .packets + ones (marks b s);
+    }
+
+unfoldable pub planAfter : Bond → List ℕ → ℕ → Plan
+planAfter b group zero = nothingSeen
+planAfter b group (suc j) = seen b (planAfter b group j) j (said group j)
+
+-- beside refusal 0 the plan of the whole group, beside another number nothing
+abbrev pub planBeside : ℕ → Bond → List ℕ → Planned
+planBeside refusal b group =
+    record { refusal = refusal; plan = cond (eqb refusal 0) (planAfter b group (framesIn group)) nothingSeen }
+
+-- what the headers of a group answer, and what a call answers that reads them
+unfoldable pub plannedBy : Bond → List ℕ → Planned
+plannedBy b group = planBeside (firstOf (groupChecks b group)) b group
+
+unfoldable pub plannedOf : Bond → List ℕ → Planned
+plannedOf b group = planBeside (firstOf (planChecks b group)) b group

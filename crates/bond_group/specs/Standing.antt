@@ -1,0 +1,100 @@
+-- Where the headers of a group stand, and what refuses a group.
+use Prim.Native.Nat.{ℕ, zero, suc, _+_, _*_, _%_}
+use mathlib.Core.Bool.{Bool, cond, not, _&&_, _||_}
+use mathlib.Core.List.{List, [], _∷_, _++_}
+use lib.Dec.{eqb}
+use lib.ListN.{length}
+use Rattle.slices.specs.Slices.{anyBelow}
+use Rattle.setting.specs.declared.Kind.{Kind}
+use Rattle.setting.specs.declared.Setting.{Setting}
+use Rattle.counters.specs.Counters.{firstPosition, within}
+use Rattle.setting.specs.Setting.{blank}
+use Rattle.setting.specs.Refusal.{Check}
+use Rattle.setting.specs.Rules.{pidAllowed, ruleChecks}
+use Rattle.header_layout.specs.Header.{packetChecks}
+use Rattle.packet.specs.Packets.{frameLength, slot}
+use Rattle.bond_group.specs.declared.Bond.{Bond}
+use Rattle.bond_group.specs.declared.headers.Shown.{Shown}
+use Rattle.bond_places.specs.Order.{framePackets}
+use Rattle.bond_places.specs.Walk.{lastCarrier}
+use Rattle.bond_group.specs.Group.{framesIn, said, carries}
+
+-- ---- where a header stands
+
+-- what a header shows of that
+unfoldable pub shownBy : Setting → Shown
+shownBy s =
+    record {
+      «group_id» = s .«group_id»;
+      «number_of_carriers» = s .«number_of_carriers»;
+      «carrier_sequence» = s .«carrier_sequence»;
+      «number_of_frames» = s .«number_of_frames»;
+      «frame_position» = s .«frame_position»;
+    }
+
+-- what stands before frame j: the header of the frame before, and nothing before the first
+unfoldable pub before : List ℕ → ℕ → Shown
+before group zero = shownBy blank
+before group (suc j) = shownBy (said group j)
+
+-- whether a frame is the last of its super frame; so nothing, which stands before the first
+unfoldable pub isLast : Shown → Bool
+isLast h = eqb (h .«frame_position» .0) (h .«number_of_frames»)
+
+-- whether it is the last frame of the last carrier
+unfoldable pub isEnd : ℕ → Shown → Bool
+isEnd carriers h = isLast h && eqb (h .«carrier_sequence») carriers
+
+-- the carrier and the position that come next
+unfoldable pub nextCarrier : Shown → ℕ
+nextCarrier h = cond (isLast h) (h .«carrier_sequence» + 1) (h .«carrier_sequence»)
+
+unfoldable pub nextPosition : Shown → ℕ
+nextPosition h = cond (isLast h) firstPosition (h .«frame_position» .0 + 1)
+
+-- 14: what a header h shows, behind another and by the first header's group id. Its frame is left over; it is not of the carrier that is
+-- due; group id, carrier count or number_of_frames is another; it is out of position
+unfoldable pub standingChecks : ℕ → ℕ → Shown → Shown → List Check
+standingChecks carriers group-id behind h =
+    (14, isEnd carriers behind)
+    ∷ (14, not (eqb (h .«carrier_sequence») (nextCarrier behind)))
+    ∷ (14, not (eqb (h .«group_id») group-id))
+    ∷ (14, not (eqb (h .«number_of_carriers») carriers))
+    ∷ (14, not (isLast behind) && not (eqb (h .«number_of_frames») (behind .«number_of_frames»)))
+    ∷ (14, not (eqb (h .«frame_position» .0) (nextPosition behind)))
+    ∷ []
+
+-- ---- the checks
+
+-- 1, 2, 17: what is asked of the group's length and of the numbers
+unfoldable pub callChecks : Bond → ℕ → List Check
+callChecks b group =
+    (1, eqb group 0 || not (eqb (group % frameLength) 0))
+    ∷ (2, not (pidAllowed (b .pid)))
+    ∷ (17, not (within 1 lastCarrier (b .carriers)))
+    ∷ []
+
+-- 3 to 11, then 14: what the header of frame j shows
+unfoldable pub headerChecks : Bond → List ℕ → ℕ → List Check
+headerChecks b group j =
+    packetChecks (b .pid) (slot (framePackets * j) group)
+    ++ (ruleChecks Kind.Extended (said group j)
+    ++ standingChecks (b .carriers) (said group 0 .«group_id») (before group j) (shownBy (said group j)))
+
+-- of n headers from that of frame j on, one after another
+unfoldable pub headersChecks : Bond → List ℕ → ℕ → ℕ → List Check
+headersChecks b group j zero = []
+headersChecks b group j (suc n) = headerChecks b group j ++ headersChecks b group (j + 1) n
+
+-- all headers, then 14 for frames missing
+unfoldable pub groupChecks : Bond → List ℕ → List Check
+groupChecks b group =
+    headersChecks b group 0 (framesIn group) ++ ((14, not (isEnd (b .carriers) (before group (framesIn group)))) ∷ [])
+
+-- what is asked of a group: the call's own checks, then the headers
+unfoldable pub planChecks : Bond → List ℕ → List Check
+planChecks b group = callChecks b (length group) ++ groupChecks b group
+
+-- whether some header carries the stream
+unfoldable pub someCarries : Bond → List ℕ → Bool
+someCarries b group = anyBelow (framesIn group) (λ j. carries b (said group j))

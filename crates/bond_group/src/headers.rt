@@ -1,0 +1,281 @@
+// The headers of a group, gone through once: whether they stand where they should, and what they say of the stream.
+use crate::Bond;
+use counters::FramePosition;
+use counters::RelativeNumber;
+use header_check::Checked;
+use packet::FRAME_BYTES;
+use packet::PACKET_BYTES;
+use setting::Kind;
+use setting::SLOTS;
+use setting::STREAMS;
+ghost use mathlib.Core.Path.{_≡_};
+ghost use mathlib.Core.Bool.{true};
+ghost use Prim.Native.Nat.{_≤_, _%_};
+ghost use lib.ListN.{length};
+ghost use lib.Count.{ones};
+ghost use Rattle.counters.specs.Counters.{lastSlot, lastPosition};
+ghost use Rattle.setting.specs.declared.Setting.{Setting};
+ghost use Rattle.setting.specs.Setting.{blank};
+ghost use Rattle.setting.specs.Refusal.{firstOf};
+ghost use Rattle.setting.specs.Rules.{pidAllowed};
+ghost use Rattle.header_check.specs.Checking.{partsOf};
+ghost use Rattle.packet.specs.Packets.{frameLength};
+ghost use Rattle.bond_places.specs.Order.{framePackets};
+ghost use Rattle.bond_places.specs.Walk.{lastCarrier};
+ghost use Rattle.bond_group.specs.Group.{hasNumber, numberOf, carries};
+ghost use Rattle.bond_group.specs.Standing.{shownBy, isLast, isEnd, nextCarrier, nextPosition, standingChecks};
+ghost use Rattle.bond_group.specs.Plan.{marksUpTo, marks, nothingSeen, plannedBy};
+
+// The most carriers of a group, and the most frames.
+pub const CARRIERS: usize = 8;
+
+pub const FRAMES: usize = CARRIERS * FramePosition::LAST as usize;
+
+// What a header shows of where its frame stands.
+pub struct Shown {
+    pub group_id: u8,
+    pub number_of_carriers: u8,
+    pub carrier_sequence: u8,
+    pub number_of_frames: u8,
+    pub frame_position: FramePosition,
+}
+
+// What the headers said of the group and the stream.
+pub struct Plan {
+    // Each carrier's number of frames.
+    pub frames: [u8; CARRIERS],
+    // The bonded slots of each frame, slot i in bit i.
+    pub slots: [u64; FRAMES],
+    pub is_carried: bool,
+    pub packets: usize,
+}
+
+// Refusal 0 and the plan, or the refusal's number and an empty plan.
+pub struct Planned {
+    pub refusal: u8,
+    pub plan: Plan,
+}
+
+// The number by which a header knows the stream among the available ones, or 0. It is that of each setting of which these are the parts.
+fn number_of(heard: Checked, b: Bond) -> u8
+    ensures { λ r. ⌜ ((s : Setting) → heard ≡ partsOf 0 s → r ≡ numberOf b s) ⌝ }
+{
+    let ts_id = heard.ts_id;
+    let original_network_id = heard.original_network_id;
+    let mut number = 0u8;
+    let mut k = 0;
+    while k < STREAMS {
+        if ts_id[k] == b.ts_id {
+            if original_network_id[k] == b.original_network_id {
+                let r = k as u8 + 1;
+                if RelativeNumber(r).is_available(heard.availability) {
+                    number = r;
+                }
+            }
+        }
+        k += 1;
+    }
+    number
+}
+
+// The slots with number r, slot i in bit i; none where r is 0. Each is asked alike and none stops it, so that many are compared at a
+// time.
+fn marks_of(numbers: &[u8], r: u8) -> u64
+    requires { ⌜ length (now numbers) ≡ lastSlot ⌝ }
+    ensures { λ t. ⌜ t ≡ marksUpTo (hasNumber (now (numbers .entry)) r) framePackets ⌝ }
+{
+    if r == 0 {
+        return 0;
+    }
+    let mut shares = [0u8; SLOTS];
+    let mut i = 0;
+    while i < SLOTS {
+        shares[i] = slot_bits::share(numbers[i] == r, i);
+        i += 1;
+    }
+    2 * slot_bits::summed_of(&shares)
+}
+
+// What a header says of the stream: whether it knows it, and its slots, slot i in bit i.
+struct Bonded {
+    is_carried: bool,
+    marks: u64,
+}
+
+fn bonded_by(heard: Checked, b: Bond) -> Bonded
+    ensures { λ r. ⌜ ((s : Setting) → heard ≡ partsOf 0 s → (r .«is_carried» ≡ carries b s) × (r .marks ≡ marks b s)) ⌝ }
+    ensures { λ r. ⌜ ones (r .marks) ≤ framePackets ⌝ }
+{
+    let number = number_of(heard, b);
+    let numbers = heard.relative_ts_number;
+    let marks = marks_of(&numbers, number);
+    Bonded {
+        is_carried: number != 0,
+        marks,
+    }
+}
+
+// What stands before the first header.
+fn nothing_shown() -> Shown
+    ensures { λ r. ⌜ r ≡ shownBy blank ⌝ }
+{
+    Shown {
+        group_id: 0,
+        number_of_carriers: 0,
+        carrier_sequence: 0,
+        number_of_frames: 0,
+        frame_position: FramePosition(0),
+    }
+}
+
+fn shown_by(heard: Checked) -> Shown
+    ensures { λ r. ⌜ ((s : Setting) → heard ≡ partsOf 0 s → r ≡ shownBy s) ⌝ }
+{
+    let frame_position = heard.frame_position;
+    Shown {
+        group_id: heard.group_id,
+        number_of_carriers: heard.number_of_carriers,
+        carrier_sequence: heard.carrier_sequence,
+        number_of_frames: heard.number_of_frames,
+        frame_position,
+    }
+}
+
+// Whether a frame is the last of its super frame.
+fn is_last(h: Shown) -> bool
+    ensures { λ r. ⌜ r ≡ isLast h ⌝ }
+{
+    let position = h.frame_position;
+    position.0 == h.number_of_frames
+}
+
+// Whether it is the last frame of the last carrier.
+fn is_end(h: Shown, carriers: u8) -> bool
+    ensures { λ r. ⌜ r ≡ isEnd carriers h ⌝ }
+{
+    if !is_last(h) {
+        return false;
+    }
+    h.carrier_sequence == carriers
+}
+
+// The carrier that comes next.
+fn next_carrier(h: Shown) -> u8
+    requires { ⌜ h .«carrier_sequence» ≤ lastCarrier ⌝ }
+    ensures { λ r. ⌜ r ≡ nextCarrier h ⌝ }
+{
+    if is_last(h) {
+        return h.carrier_sequence + 1;
+    }
+    h.carrier_sequence
+}
+
+// The position that comes next.
+fn next_position(h: Shown) -> FramePosition
+    requires { ⌜ h .«frame_position» .0 ≤ lastPosition ⌝ }
+    ensures { λ r. ⌜ r ≡ record { 0 = nextPosition h } ⌝ }
+{
+    if is_last(h) {
+        return FramePosition(FramePosition::FIRST);
+    }
+    let position = h.frame_position;
+    FramePosition(position.0 + 1)
+}
+
+// 14: what a header shows, behind another and by the first header's group id.
+fn standing_refusal(h: Shown, behind: Shown, carriers: u8, group_id: u8) -> u8
+    requires { ⌜ (behind .«carrier_sequence» ≤ lastCarrier) × (behind .«frame_position» .0 ≤ lastPosition) ⌝ }
+    ensures { λ r. ⌜ r ≡ firstOf (standingChecks carriers «group_id» behind h) ⌝ }
+{
+    if is_end(behind, carriers) {
+        return 14;
+    }
+    if h.carrier_sequence != next_carrier(behind) {
+        return 14;
+    }
+    if h.group_id != group_id {
+        return 14;
+    }
+    if h.number_of_carriers != carriers {
+        return 14;
+    }
+    if !is_last(behind) {
+        if h.number_of_frames != behind.number_of_frames {
+            return 14;
+        }
+    }
+    let position = h.frame_position;
+    let next = next_position(behind);
+    if position.0 != next.0 {
+        return 14;
+    }
+    0
+}
+
+// Before the first header.
+fn nothing_seen() -> Plan
+    ensures { λ r. ⌜ r ≡ nothingSeen ⌝ }
+{
+    Plan {
+        frames: [0u8; CARRIERS],
+        slots: [0u64; FRAMES],
+        is_carried: false,
+        packets: 0,
+    }
+}
+
+pub(crate) fn refused(refusal: u8) -> Planned
+    ensures { λ r. ⌜ (r .refusal ≡ refusal) × (r .plan ≡ nothingSeen) ⌝ }
+{
+    let plan = nothing_seen();
+    Planned { refusal, plan }
+}
+
+// Goes through the headers of the group, one after another, each with 3 to 11 and then 14 for what it shows; then 14 for frames
+// missing.
+pub(crate) fn plan_of(group: &[u8], b: Bond) -> Planned
+    requires { ⌜ (length (now group) % frameLength ≡ 0) × (pidAllowed (b .pid) ≡ true) ⌝ }
+    requires { ⌜ (1 ≤ b .carriers) × (b .carriers ≤ lastCarrier) ⌝ }
+    ensures { λ r. ⌜ r ≡ plannedBy b (now (group .entry)) ⌝ }
+{
+    let count = group.len() / FRAME_BYTES;
+    let mut frames = [0u8; CARRIERS];
+    let mut slots = [0u64; FRAMES];
+    let mut is_carried = false;
+    let mut packets = 0;
+    let mut behind = nothing_shown();
+    let mut group_id = 0u8;
+    let mut j = 0;
+    while j < count {
+        let at = FRAME_BYTES * j;
+        let heard = header_check::check(&group[at..at + PACKET_BYTES], b.pid, Kind::Extended);
+        if heard.refusal != 0 {
+            return refused(heard.refusal);
+        }
+        let shown = shown_by(heard);
+        if j == 0 {
+            group_id = shown.group_id;
+        }
+        let standing = standing_refusal(shown, behind, b.carriers, group_id);
+        if standing != 0 {
+            return refused(standing);
+        }
+        let bonded = bonded_by(heard, b);
+        frames[shown.carrier_sequence as usize - 1] = shown.number_of_frames;
+        slots[j] = bonded.marks;
+        is_carried = is_carried | bonded.is_carried;
+        packets += u64::count_ones(bonded.marks) as usize;
+        behind = shown;
+        j += 1;
+    }
+    if !is_end(behind, b.carriers) {
+        return refused(14);
+    }
+    let plan = Plan {
+        frames,
+        slots,
+        is_carried,
+        packets,
+    };
+    Planned { refusal: 0, plan }
+}

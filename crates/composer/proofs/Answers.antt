@@ -1,0 +1,27 @@
+-- What a call answers and leaves, refused or not. Assumes nothing.
+use Prim.Native.Nat.{ℕ}
+use mathlib.Core.Path.{_≡_, refl, sym, _∙_}
+use mathlib.Core.Bool.{Bool, true, false, cond, not}
+use mathlib.Core.List.{List, _∷_}
+use native.Mathlib.Omega.{arith}
+use borrow.Author.Tests.{eqb-true}
+use lib.Dec.{eqb}
+use Rattle.setting.specs.Refusal.{Check, firstOf}
+use Rattle.composer.specs.declared.Composer.{Composer}
+use Rattle.packet.specs.Packets.{frameLength}
+use Rattle.composer.specs.Composing.{lengthCheck, answer}
+
+-- n is the refusal, and m what the code found it to be
+module _ {m n : ℕ} (e : m ≡ n) where
+  pub granted : (new old : Composer) → m ≡ 0 → record { refusal = 0; state = new } ≡ answer n new old
+  unfolding answer
+  granted new old z = rw (sym e ∙ z)
+
+-- a call that is not refused was lent a frame
+pub frame-lent : (lent : ℕ) (cs : List Check) → firstOf (lengthCheck lent ∷ cs) ≡ 0 → lent ≡ frameLength
+unfolding firstOf
+frame-lent lent cs e = eqb-true lent frameLength (is-it (eqb lent frameLength) e)
+  where
+    is-it : (b : Bool) → cond (not b) 1 (firstOf cs) ≡ 0 → b ≡ true
+    is-it true z = refl
+    is-it false z = absurd (omega arith)

@@ -1,0 +1,9 @@
+pub mod Answers
+pub mod Passed
+pub mod Refusals
+pub mod Parts
+pub mod Same
+pub mod There
+pub mod Calls
+pub mod Coding
+pub mod OnBytes

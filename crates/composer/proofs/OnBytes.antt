@@ -1,0 +1,141 @@
+-- On the bytes of a state each call is the composer's own. Assumes nothing.
+use Prim.Native.Nat.{ℕ, zero, suc}
+use mathlib.Core.Path.{_≡_, refl, ap, _∙_}
+use mathlib.Core.Bool.{Bool, true, false, cond}
+use mathlib.Core.List.{List, [], _∷_, _++_, map}
+use native.Mathlib.Omega.{arith}
+use borrow.Author.Tests.{eq-eqb}
+use lib.Dec.{eqb, lit<}
+use lib.Pow.{pow-pos}
+use lib.ListN.{length, drop, replicate, length-append, length-map}
+use Rattle.bits.specs.Fields.{Fit, none, more}
+use Rattle.setting.specs.Refusal.{leaves}
+use Rattle.packet.specs.Packets.{packetLength}
+use Rattle.setting.specs.declared.Setting.{Setting}
+use Rattle.setting.specs.Setting.{blank, OfItsTypes as SettingOfItsTypes}
+use Rattle.setting_bytes.specs.Settings.{settingLength, announcedBytes, settingBytes}
+use Rattle.setting_bytes.proofs.Parts.{length-announced}
+use Rattle.setting_bytes.proofs.Back.{long, length-setting, setting-back}
+use Rattle.setting.specs.Announcing.{announced}
+use Rattle.composer.specs.declared.Composer.{Composer}
+use Rattle.composer.specs.Slots.{takes, marksAfter}
+use Rattle.composer.specs.Composing.{opened, marked, closedWith, closed, answer, beginRefusal, beginOf, begunFrame, putRefusal, putOf, putFrame, closeRefusal, closeOf, closedFrame}
+use Rattle.composer.specs.States.{composerLength, markByte, composerBytes, composerOf, OfItsTypes}
+use Rattle.composer.proofs.Parts.{frontBytes, length-front}
+use Rattle.composer.specs.Calls.{beginRefused, beginState, beginMemory, putRefused, putPlaced, putState, putMemory, closeRefused, closeState, closeMemory}
+use Rattle.composer.specs.Demands.{OnBytes, TypesKept, CallsOnBytes}
+use Rattle.composer.proofs.Coding.{state-back}
+
+-- what a call leaves that makes a new state, refused or not
+left : (n : ℕ) (f : Composer → List ℕ) (new old : Composer) → leaves n (f (cond (eqb n 0) new old)) (f old) ≡ f (cond (eqb n 0) new old)
+unfolding leaves
+left n f new old = either (eqb n 0)
+  where
+    either : (b : Bool) → cond b (f (cond b new old)) (f old) ≡ f (cond b new old)
+    either true = refl
+    either false = refl
+
+-- a state takes 390 bytes
+length-composer : (c : Composer) → OfItsTypes c → length (composerBytes c) ≡ composerLength
+unfolding composerBytes
+length-composer c t =
+    let a = announcedBytes (c .last) in
+    let s = settingBytes (c .setting) in
+    let m = map markByte (c .filled) in
+    let la : length a ≡ 80 = length-announced (c .last) (t .ts-id .0, t .network-id .0, t .statuses .0) in
+    let ls : length s ≡ 252 = length-setting (c .setting) (long (c .setting) (t .setting)) in
+    let lm : length m ≡ 52 = length-map (c .filled) markByte ∙ t .marks in
+    rw (
+      length-append (frontBytes c) (a ++ (markByte (c .«is_open») ∷ [] ++ (s ++ m))),
+      length-append a (markByte (c .«is_open») ∷ [] ++ (s ++ m)),
+      length-append s m,
+      length-front c,
+    ) (omega arith)
+
+-- as many marks as before
+marks-long : (r : ℕ) (plan : List ℕ) (marks : List Bool) (stream : List ℕ) → length (marksAfter r plan marks stream) ≡ length marks
+unfolding marksAfter
+marks-long r [] ms stream = refl
+marks-long r (n ∷ ns) [] stream = refl
+marks-long r (n ∷ ns) (m ∷ ms) stream =
+    either (takes r n m (length stream)) _ _ (marks-long r ns ms (drop packetLength stream)) (marks-long r ns ms stream)
+  where
+    either : (b : Bool) (taken passed : List Bool) → length taken ≡ length ms → length passed ≡ length ms
+        → length (cond b (true ∷ taken) (m ∷ passed)) ≡ suc (length ms)
+    either true _ _ e f = ap suc e
+    either false _ _ e f = ap suc f
+
+-- zeros fit
+zeros-fit : (w n : ℕ) → Fit w (replicate n 0)
+zeros-fit w zero = none
+zeros-fit w (suc n) = more (pow-pos w) (zeros-fit w n)
+
+blank-types : SettingOfItsTypes blank
+unfolding blank
+blank-types =
+    record {
+      ts-id = (refl, zeros-fit 16 15);
+      network-id = (refl, zeros-fit 16 15);
+      statuses = (refl, zeros-fit 8 15);
+      numbers = (refl, zeros-fit 8 52);
+      privates = (refl, zeros-fit 8 85);
+      auxiliaries = (refl, zeros-fit 8 28);
+      group = lit< tt;
+    }
+
+-- of two states
+one-of : (b : Bool) (new old : Composer) → OfItsTypes new → OfItsTypes old → OfItsTypes (cond b new old)
+one-of true new old p q = p
+one-of false new old p q = q
+
+module _ (c : Composer) (t : OfItsTypes c) where
+  abbrev b : List ℕ
+  b = composerBytes c
+
+  there : eqb (length b) composerLength ≡ true
+  there = eq-eqb (length b) composerLength (length-composer c t)
+
+  same : composerOf b ≡ c
+  same = state-back c t
+
+  on-bytes : OnBytes c
+  unfolding beginRefused beginState beginMemory putRefused putPlaced putState putMemory closeRefused closeState closeMemory beginOf putOf closeOf answer
+  on-bytes =
+      record {
+        begins = λ s u frame.
+            let lent : eqb (length (settingBytes s)) settingLength ≡ true = eq-eqb _ settingLength (length-setting s (long s u)) in
+            rw (there, lent, same, setting-back s u) (refl, (left (beginRefusal c s (length frame)) composerBytes (opened c s) c, refl));
+        puts = λ r stream frame. rw (there, same) (refl, (refl, (left (putRefusal c r stream (length frame)) composerBytes _ c, refl)));
+        closes = λ frame. rw (there, same) (refl, (left (closeRefusal c (length frame)) composerBytes (closed c) c, refl));
+      }
+
+  types-kept : TypesKept c
+  unfolding beginOf putOf closeOf answer opened marked closed closedWith announced
+  types-kept =
+      record {
+        begun = λ s u lent.
+            one-of (eqb (beginRefusal c s lent) 0) (opened c s) c (record { ts-id = t .ts-id; network-id = t .network-id; statuses = t .statuses; setting = u; marks = refl }) t;
+        filled = λ r stream lent.
+            one-of (eqb (putRefusal c r stream lent) 0) (marked c (marksAfter r (c .setting .«relative_ts_number») (c .filled) stream)) c
+            (record {
+              ts-id = t .ts-id;
+              network-id = t .network-id;
+              statuses = t .statuses;
+              setting = t .setting;
+              marks = marks-long r (c .setting .«relative_ts_number») (c .filled) stream ∙ t .marks;
+            })
+            t;
+        closed = λ lent.
+            one-of (eqb (closeRefusal c lent) 0) (closed c) c
+            (record {
+              ts-id = t .setting .ts-id;
+              network-id = t .setting .network-id;
+              statuses = t .setting .statuses;
+              setting = blank-types;
+              marks = refl;
+            })
+            t;
+      }
+
+pub calls-on-bytes : CallsOnBytes
+calls-on-bytes c t = (on-bytes c t, types-kept c t)

@@ -1,0 +1,209 @@
+-- The composer: what each call answers, and what it leaves.
+use Prim.Native.Nat.{ℕ, _+_, _%_, _^_}
+use mathlib.Core.Bool.{Bool, true, false, cond, not, _&&_}
+use mathlib.Core.List.{List, [], _∷_, _++_}
+use lib.Dec.{leb, eqb}
+use lib.ListN.{length, drop, replicate}
+use Rattle.setting.specs.declared.Kind.{Kind}
+use Rattle.setting.specs.declared.Setting.{Setting}
+use Rattle.counters.specs.Counters.{firstStream, lastStream, lastSlot, within, available}
+use Rattle.setting.specs.Refusal.{Check, firstOf, leaves}
+use Rattle.setting.specs.Rules.{pidAllowed, widthChecks, ruleChecks}
+use Rattle.setting.specs.Setting.{blank}
+use Rattle.header_layout.specs.Header.{header}
+use Rattle.setting.specs.Announcing.{announced, differ, announcedChecks}
+use Rattle.composer.specs.declared.Composer.{Composer}
+use Rattle.composer.specs.declared.Answer.{Answer}
+use Rattle.composer.specs.declared.Placed.{Placed}
+use Rattle.packet.specs.Packets.{packetLength, frameLength}
+use Rattle.composer.specs.Slots.{cleared, marksAfter, placedBy, someUnfit, frameAfter, someUnplanned, numbersOf}
+
+-- ---- the state
+
+-- a run's state before its first begin: no header was closed yet, and the one before the first would have had counter 15 and
+-- version 7 and announced another frame type
+unfoldable pub fresh : Kind → ℕ → Composer
+fresh kind pid =
+    record {
+      pid = pid;
+      kind = kind;
+      counter = 15;
+      version = 7;
+      last = announced blank;
+      «is_open» = false;
+      setting = blank;
+      filled = replicate lastSlot false;
+    }
+
+-- the state once a frame was begun
+unfoldable pub opened : Composer → Setting → Composer
+opened c s =
+    record {
+      pid = c .pid;
+      kind = c .kind;
+      counter = c .counter;
+      version = c .version;
+      last = c .last;
+      «is_open» = true;
+      setting = s;
+      filled = replicate lastSlot false;
+    }
+
+-- the state with other filled marks
+unfoldable pub marked : Composer → List Bool → Composer
+marked c marks =
+    record {
+      pid = c .pid;
+      kind = c .kind;
+      counter = c .counter;
+      version = c .version;
+      last = c .last;
+      «is_open» = c .«is_open»;
+      setting = c .setting;
+      filled = marks;
+    }
+
+-- the counter and the version of the header that a close writes
+unfoldable pub nextCounter : Composer → ℕ
+nextCounter c = (c .counter + 1) % 16
+
+unfoldable pub nextVersion : Composer → ℕ
+nextVersion c = cond (differ (announced (c .setting)) (c .last)) ((c .version + 1) % 8) (c .version)
+
+-- a setting as a header says it, with the run's counter and version and the slots' own numbers
+unfoldable pub saying : ℕ → ℕ → List ℕ → Setting → Setting
+saying counter version numbers s =
+    record {
+      «continuity_counter» = counter;
+      «version_number» = version;
+      «slot_allocation_type» = s .«slot_allocation_type»;
+      «frame_type» = s .«frame_type»;
+      availability = s .availability;
+      «ts_id» = s .«ts_id»;
+      «original_network_id» = s .«original_network_id»;
+      «receive_status» = s .«receive_status»;
+      «emergency_indicator» = s .«emergency_indicator»;
+      «relative_ts_number» = numbers;
+      «private_data» = s .«private_data»;
+      auxiliary = s .auxiliary;
+      «group_id» = s .«group_id»;
+      «number_of_carriers» = s .«number_of_carriers»;
+      «carrier_sequence» = s .«carrier_sequence»;
+      «number_of_frames» = s .«number_of_frames»;
+      «frame_position» = s .«frame_position»;
+    }
+
+-- what the open frame's header says
+unfoldable pub closing : Composer → Setting
+closing c = saying (nextCounter c) (nextVersion c) (numbersOf (c .setting .«relative_ts_number») (c .filled)) (c .setting)
+
+-- the state once a header with this counter and version was written
+unfoldable pub closedWith : Composer → ℕ → ℕ → Composer
+closedWith c counter version =
+    record {
+      pid = c .pid;
+      kind = c .kind;
+      counter = counter;
+      version = version;
+      last = announced (c .setting);
+      «is_open» = false;
+      setting = blank;
+      filled = replicate lastSlot false;
+    }
+
+unfoldable pub closed : Composer → Composer
+closed c = closedWith c (nextCounter c) (nextVersion c)
+
+-- ---- the checks, in the table's order
+
+-- checks that are asked only where a condition holds
+unfoldable pub asked : Bool → List Check → List Check
+asked b [] = []
+asked b (c ∷ cs) = (c .0, b && c .1) ∷ asked b cs
+
+-- two lists of checks with the same numbers: under each number the first's before the second's
+unfoldable pub inTurn : List Check → List Check → List Check
+inTurn [] ds = ds
+inTurn (c ∷ cs) [] = c ∷ cs
+inTurn (c ∷ cs) (d ∷ ds) = c ∷ d ∷ inTurn cs ds
+
+-- 2 and 17: a state's PID and numbers, and its setting's fields while a frame is open
+unfoldable pub stateChecks : Composer → List Check
+stateChecks c =
+    (2, not (pidAllowed (c .pid)))
+    ∷ (17, leb (2 ^ 4) (c .counter))
+    ∷ (17, leb (2 ^ 3) (c .version))
+    ∷ (announcedChecks (c .last) ++ asked (c .«is_open») (widthChecks (c .kind) (c .setting)))
+
+-- 8 to 11: its setting's rules while a frame is open
+unfoldable pub openRuleChecks : Composer → List Check
+openRuleChecks c = asked (c .«is_open») (ruleChecks (c .kind) (c .setting))
+
+-- 17, behind those: a filled mark on a slot planned 0
+unfoldable pub markChecks : Composer → List Check
+markChecks c = (17, c .«is_open» && someUnplanned (c .setting .«relative_ts_number») (c .filled)) ∷ []
+
+abbrev pub lengthCheck : ℕ → Check
+lengthCheck lent = (1, not (eqb lent frameLength))
+
+unfoldable pub beginRefusal : Composer → Setting → ℕ → ℕ
+beginRefusal c s lent =
+    firstOf (lengthCheck lent
+    ∷ (stateChecks c ++ (widthChecks (c .kind) s ++ (inTurn (openRuleChecks c) (ruleChecks (c .kind) s) ++ markChecks c))))
+
+-- 16, and what is asked of an open frame
+unfoldable pub openChecks : Composer → List Check
+openChecks c = (16, not (c .«is_open»)) ∷ (openRuleChecks c ++ markChecks c)
+
+-- 13 and 12: a stream that is to be placed, and its packets
+unfoldable pub streamChecks : Composer → ℕ → List ℕ → List Check
+streamChecks c r stream =
+    (13, not (available (c .setting .availability) r))
+    ∷ (12, someUnfit (c .pid) r (c .setting .«relative_ts_number») (c .filled) stream)
+    ∷ []
+
+unfoldable pub putRefusal : Composer → ℕ → List ℕ → ℕ → ℕ
+putRefusal c r stream lent =
+    firstOf (lengthCheck lent
+    ∷ (1, not (eqb (length stream % packetLength) 0))
+    ∷ (stateChecks c ++ ((17, not (within firstStream lastStream r)) ∷ (openChecks c ++ streamChecks c r stream))))
+
+unfoldable pub closeRefusal : Composer → ℕ → ℕ
+closeRefusal c lent = firstOf (lengthCheck lent ∷ (stateChecks c ++ openChecks c))
+
+-- ---- the calls
+
+-- what one answers that makes a new state: refusal 0 and it, or the refusal's number and the old one
+unfoldable pub answer : ℕ → Composer → Composer → Answer
+answer refusal new old = record { refusal = refusal; state = cond (eqb refusal 0) new old }
+
+-- a refused start gives the fresh plain state of PID 0
+unfoldable pub startOf : Kind → ℕ → Answer
+startOf kind pid = answer (firstOf ((2, not (pidAllowed pid)) ∷ [])) (fresh kind pid) (fresh Kind.Plain 0)
+
+unfoldable pub beginOf : Composer → Setting → ℕ → Answer
+beginOf c s lent = answer (beginRefusal c s lent) (opened c s) c
+
+unfoldable pub begunFrame : Composer → Setting → List ℕ → List ℕ
+begunFrame c s frame = leaves (beginRefusal c s (length frame)) (cleared frame) frame
+
+unfoldable pub putOf : Composer → ℕ → List ℕ → ℕ → Placed
+putOf c r stream lent =
+    record {
+      refusal = putRefusal c r stream lent;
+      placed = cond (eqb (putRefusal c r stream lent) 0) (placedBy r (c .setting .«relative_ts_number») (c .filled) stream) 0;
+      state =
+          cond (eqb (putRefusal c r stream lent) 0) (marked c (marksAfter r (c .setting .«relative_ts_number») (c .filled) stream)) c;
+    }
+
+unfoldable pub putFrame : Composer → ℕ → List ℕ → List ℕ → List ℕ
+putFrame c r stream frame =
+    leaves (putRefusal c r stream (length frame)) (frameAfter r (c .setting .«relative_ts_number») (c .filled) stream frame) frame
+
+unfoldable pub closeOf : Composer → ℕ → Answer
+closeOf c lent = answer (closeRefusal c lent) (closed c) c
+
+-- the header alone is written
+unfoldable pub closedFrame : Composer → List ℕ → List ℕ
+closedFrame c frame =
+    leaves (closeRefusal c (length frame)) (header (c .kind) (c .pid) (closing c) ++ drop packetLength frame) frame

@@ -1,0 +1,67 @@
+-- A composer's state as bytes, and what bytes say as a state.
+use Prim.Native.Nat.{ℕ}
+use mathlib.Core.Path.{_≡_}
+use mathlib.Core.Bool.{Bool, cond, not, _&&_}
+use mathlib.Core.List.{List, [], _∷_, _++_, map}
+use lib.Dec.{eqb, ltb}
+use lib.ListN.{length, getD, replicate}
+use Rattle.slices.specs.Slices.{someAtLeast}
+use Rattle.counters.specs.Counters.{lastSlot, lastStream}
+use Rattle.setting.specs.Setting.{Array, OfItsTypes as SettingOfItsTypes}
+use Rattle.setting_bytes.specs.Words.{wordBytes, wordAt}
+use Rattle.setting_bytes.specs.Kinds.{isKind, kindOf, kindNumber}
+use Rattle.setting_bytes.specs.Settings.{part, announcedBytes, announcedOf, settingBytes, settingOf}
+use Rattle.composer.specs.declared.Composer.{Composer}
+
+abbrev pub composerLength : ℕ
+composerLength = 390
+
+-- what the code's types say of a state, as far as its lists and its setting go
+pub record OfItsTypes (c : Composer) : Type 0 where
+  pub ts-id : Array lastStream 16 (c .last .«ts_id»)
+  pub network-id : Array lastStream 16 (c .last .«original_network_id»)
+  pub statuses : Array lastStream 8 (c .last .«receive_status»)
+  pub setting : SettingOfItsTypes (c .setting)
+  pub marks : length (c .filled) ≡ lastSlot
+
+-- marks as bytes: 1 is a mark
+unfoldable pub markByte : Bool → ℕ
+markByte b = cond b 1 0
+
+-- PID, kind, counter and version of the last closed header, what it announced, whether a frame is open, its setting, its filled slots
+unfoldable pub composerBytes : Composer → List ℕ
+composerBytes c =
+    (wordBytes (c .pid ∷ []) ++ (kindNumber (c .kind) ∷ c .counter ∷ c .version ∷ []))
+    ++ (announcedBytes (c .last)
+    ++ ((markByte (c .«is_open») ∷ [])
+    ++ (settingBytes (c .setting)
+    ++ map markByte (c .filled))))
+
+-- the marks that bytes are
+abbrev pub marksOf : List ℕ → List Bool
+marksOf bytes = map (λ (n : ℕ). eqb n 1) bytes
+
+-- whether bytes are a state's, whatever its numbers: the kind is one, and every mark is 0 or 1
+unfoldable pub isCoded : List ℕ → Bool
+isCoded b = isKind (getD b 2 0) && (ltb (getD b 85 0) 2 && not (someAtLeast 2 (part 338 52 b)))
+
+-- bytes that are no state's get a counter that no header has, so that every call refuses them with 17
+abbrev pub noCounter : ℕ
+noCounter = 255
+
+unfoldable pub composerOf : List ℕ → Composer
+composerOf b =
+    record {
+      pid = wordAt 0 b;
+      kind = kindOf (getD b 2 0);
+      counter = cond (isCoded b) (getD b 3 0) noCounter;
+      version = getD b 4 0;
+      last = announcedOf (part 5 80 b);
+      «is_open» = eqb (getD b 85 0) 1;
+      setting = settingOf (part 86 252 b);
+      filled = marksOf (part 338 52 b);
+    }
+
+-- bytes of a state's length are taken as they are, any others for zeros
+unfoldable pub whole : List ℕ → List ℕ
+whole b = cond (eqb (length b) composerLength) b (replicate composerLength 0)

@@ -1,3 +1,0 @@
-pub mod Parts
-pub mod Same
-pub mod There

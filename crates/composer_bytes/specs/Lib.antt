@@ -1,2 +1,0 @@
--- A composer's state as bytes.
-pub mod States

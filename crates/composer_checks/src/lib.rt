@@ -1,0 +1,136 @@
+// A composer's state that stays in its 390 bytes: what each call asks of it. Bytes of any other length are asked as zeros are.
+use composer::COMPOSER_BYTES;
+use composer::FILLED;
+use composer::LAST;
+use composer::OPEN;
+use composer::PLAN;
+use composer::SETTING;
+use setting::SLOTS;
+use setting::limits;
+ghost use mathlib.Core.Path.{_≡_};
+ghost use lib.ListN.{length};
+ghost use Rattle.counters.specs.Counters.{lastSlot};
+ghost use Rattle.setting.specs.Refusal.{firstOf};
+ghost use Rattle.setting.specs.Rules.{widthChecks};
+ghost use Rattle.composer.specs.Slots.{someUnplanned};
+ghost use Rattle.composer.specs.Composing.{asked, stateChecks, openRuleChecks, markChecks, openChecks};
+ghost use Rattle.composer.specs.States.{composerLength, marksOf, isCoded, composerOf, whole};
+
+// Whether bytes are a state's, whatever its numbers.
+fn is_coded(bytes: &[u8]) -> bool
+    requires { ⌜ length (now bytes) ≡ composerLength ⌝ }
+    ensures { λ r. ⌜ r ≡ isCoded (now (bytes .entry)) ⌝ }
+{
+    if 1 < bytes[2] {
+        return false;
+    }
+    if 1 < bytes[OPEN] {
+        return false;
+    }
+    !slices::some_at_least(&bytes[FILLED..COMPOSER_BYTES], 2)
+}
+
+// 17: the setting's fields while a frame is open.
+fn open_width_refusal(bytes: &[u8]) -> u8
+    requires { ⌜ length (now bytes) ≡ composerLength ⌝ }
+    ensures { λ r. ⌜ r ≡ firstOf (asked (composerOf (now (bytes .entry)) .«is_open») (widthChecks (composerOf (now (bytes .entry)) .kind) (composerOf (now (bytes .entry)) .setting))) ⌝ }
+{
+    if bytes[OPEN] != 1 {
+        return 0;
+    }
+    setting_checks::width_refusal(setting_bytes::kind_of(bytes[2]), &bytes[SETTING..FILLED])
+}
+
+fn long_state_refusal(bytes: &[u8]) -> u8
+    requires { ⌜ length (now bytes) ≡ composerLength ⌝ }
+    ensures { λ r. ⌜ r ≡ firstOf (stateChecks (composerOf (now (bytes .entry)))) ⌝ }
+{
+    if !setting::pid_allowed(setting_bytes::word(bytes[0], bytes[1])) {
+        return 2;
+    }
+    if !is_coded(bytes) {
+        return 17;
+    }
+    if limits::COUNTERS <= bytes[3] {
+        return 17;
+    }
+    if limits::VERSIONS <= bytes[4] {
+        return 17;
+    }
+    let shown = setting_checks::announced_refusal(&bytes[LAST..OPEN]);
+    if shown != 0 {
+        return shown;
+    }
+    open_width_refusal(bytes)
+}
+
+// 2 and 17: the state's PID and numbers, and its setting's fields while a frame is open.
+pub fn state_refusal(bytes: &[u8]) -> u8
+    ensures { λ r. ⌜ r ≡ firstOf (stateChecks (composerOf (whole (now (bytes .entry))))) ⌝ }
+{
+    if bytes.len() != COMPOSER_BYTES {
+        return 2;
+    }
+    long_state_refusal(bytes)
+}
+
+// 8 to 11: the setting's rules while a frame is open.
+pub fn open_rule_refusal(bytes: &[u8]) -> u8
+    ensures { λ r. ⌜ r ≡ firstOf (openRuleChecks (composerOf (whole (now (bytes .entry))))) ⌝ }
+{
+    if bytes.len() != COMPOSER_BYTES {
+        return 0;
+    }
+    if bytes[OPEN] != 1 {
+        return 0;
+    }
+    setting_checks::rule_refusal(setting_bytes::kind_of(bytes[2]), &bytes[SETTING..FILLED])
+}
+
+// Whether a slot that is planned for no stream is marked filled. Each is asked alike and none stops it, so that many are compared at a
+// time.
+fn has_unplanned(plan: &[u8], filled: &[u8]) -> bool
+    requires { ⌜ (length (now plan) ≡ lastSlot) × (length (now filled) ≡ lastSlot) ⌝ }
+    ensures { λ t. ⌜ t ≡ someUnplanned (now (plan .entry)) (marksOf (now (filled .entry))) ⌝ }
+{
+    let mut found = false;
+    let mut i = 0;
+    while i < SLOTS {
+        found = found | ((filled[i] == 1) & (plan[i] == 0));
+        i += 1;
+    }
+    found
+}
+
+// 17: a filled mark on a slot planned 0.
+pub fn mark_refusal(bytes: &[u8]) -> u8
+    ensures { λ r. ⌜ r ≡ firstOf (markChecks (composerOf (whole (now (bytes .entry))))) ⌝ }
+{
+    if bytes.len() != COMPOSER_BYTES {
+        return 0;
+    }
+    if bytes[OPEN] != 1 {
+        return 0;
+    }
+    if has_unplanned(&bytes[PLAN..PLAN + SLOTS], &bytes[FILLED..COMPOSER_BYTES]) {
+        return 17;
+    }
+    0
+}
+
+// 16, and what is asked of an open frame.
+pub fn open_refusal(bytes: &[u8]) -> u8
+    ensures { λ r. ⌜ r ≡ firstOf (openChecks (composerOf (whole (now (bytes .entry))))) ⌝ }
+{
+    if bytes.len() != COMPOSER_BYTES {
+        return 16;
+    }
+    if bytes[OPEN] != 1 {
+        return 16;
+    }
+    let rule = open_rule_refusal(bytes);
+    if rule != 0 {
+        return rule;
+    }
+    mark_refusal(bytes)
+}

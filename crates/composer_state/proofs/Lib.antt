@@ -1,3 +1,0 @@
-pub mod Answers
-pub mod Passed
-pub mod Refusals

@@ -1,3 +1,0 @@
--- Frames: what composing one answers and leaves.
-pub mod Slots
-pub mod Composing

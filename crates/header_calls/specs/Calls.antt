@@ -1,0 +1,42 @@
+-- What each exported call answers and leaves: the header's own call under the coding of settings and kinds.
+use Prim.Native.Nat.{ℕ}
+use mathlib.Core.Bool.{cond, not}
+use mathlib.Core.List.{List, [], _∷_}
+use lib.Dec.{eqb}
+use lib.ListN.{length}
+use Rattle.setting.specs.Refusal.{firstOf, leaves}
+use Rattle.setting.specs.Rules.{pidAllowed}
+use Rattle.header_layout.specs.Header.{headerLength}
+use Rattle.header_write.specs.Writing.{writeRefusal, written}
+use Rattle.header_read.specs.Reader.{readOf}
+use Rattle.setting_bytes.specs.Kinds.{isKind, kindOf}
+use Rattle.setting_bytes.specs.Settings.{settingLength, settingBytes, settingOf}
+
+-- what both calls ask of what they are lent, by its lengths: 1, 2, and 17 for a number that is no kind
+unfoldable pub callRefused : ℕ → ℕ → ℕ → ℕ → ℕ
+callRefused packet setting pid kind =
+    firstOf ((1, not (eqb packet headerLength))
+    ∷ (1, not (eqb setting settingLength))
+    ∷ (2, not (pidAllowed pid))
+    ∷ (17, not (isKind kind))
+    ∷ [])
+
+-- then what the header's call answers
+unfoldable pub thenRefused : ℕ → ℕ → ℕ
+thenRefused call inner = cond (eqb call 0) inner call
+
+unfoldable pub writeRefused : List ℕ → ℕ → ℕ → List ℕ → ℕ
+writeRefused packet pid kind setting =
+    thenRefused (callRefused (length packet) (length setting) pid kind) (writeRefusal (kindOf kind) pid (settingOf setting) (length packet))
+
+unfoldable pub writeMemory : List ℕ → ℕ → ℕ → List ℕ → List ℕ
+writeMemory packet pid kind setting =
+    leaves (callRefused (length packet) (length setting) pid kind) (written (kindOf kind) pid (settingOf setting) packet) packet
+
+unfoldable pub readRefused : List ℕ → ℕ → ℕ → List ℕ → ℕ
+readRefused packet pid kind setting =
+    thenRefused (callRefused (length packet) (length setting) pid kind) (readOf (kindOf kind) pid packet .refusal)
+
+unfoldable pub readMemory : List ℕ → ℕ → ℕ → List ℕ → List ℕ
+readMemory packet pid kind setting =
+    leaves (readRefused packet pid kind setting) (settingBytes (readOf (kindOf kind) pid packet .setting)) setting

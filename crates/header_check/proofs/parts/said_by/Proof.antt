@@ -1,0 +1,263 @@
+-- `said_by` meets its contract, check by check. Assumes nothing.
+use Prim.Native.Nat.{ℕ, _/_}
+use mathlib.Core.Path.{_≡_, refl, sym, ap, ap₂, _∙_}
+use mathlib.Core.Bool.{not}
+use mathlib.Core.List.{List}
+use native.Mathlib.Omega.{arith}
+use borrow.Author.Needs.{needs}
+use lib.Dec.{eqb}
+use Rattle.bits.specs.Fields.{Fit}
+use Rattle.bits.proofs.Laws.{fit-of}
+use Rattle.counters.specs.Counters.{within}
+use Rattle.setting.specs.declared.Kind.{Kind}
+use Rattle.setting.specs.declared.Setting.{Setting}
+use Rattle.setting.specs.Refusal.{Check, firstOf}
+use Rattle.setting.proofs.Refusals.{Past, answers, passed}
+use Rattle.setting.specs.Rules.{byKind, someUnavailable, pairTwice, bondingChecks, bondingOf, ruleChecks}
+use Rattle.header_layout.specs.Header.{reading}
+use Rattle.header_check.proofs.Asked.{counter-is, type-is, streams-are, slots-are, ts-ids-are, network-ids-are, refused, accepted}
+use Rattle.header_check.proofs.parts.said_by.Statement.{statement}
+use Rattle.header_check.proofs.parts.said_by.Tie as tie
+
+-- the packet and its kind, what it says, and the rows that the function goes through
+abbrev packet : tie.After-frame-type-allowed → List ℕ
+packet c = c .before .before .before .args .packet .now
+
+abbrev kind : tie.After-frame-type-allowed → Kind
+kind c = c .before .before .before .args .kind
+
+abbrev said : tie.After-frame-type-allowed → Setting
+said c = reading (kind c) (packet c)
+
+abbrev rows : tie.After-frame-type-allowed → List Check
+rows c = ruleChecks (kind c) (said c)
+
+bytes : (c : tie.After-frame-type-allowed) → Fit 8 (packet c)
+bytes c = fit-of 8 (packet c) (λ i. c .before .before .shared-slice-known .given i .fits)
+
+-- from each place to the first check
+abbrev from₁ : tie.After-word-at → tie.After-frame-type-allowed
+from₁ c = c .before .before
+
+abbrev from₂ : tie.After-has-unavailable → tie.After-frame-type-allowed
+from₂ c = from₁ (c .before .before .before .before .before .before)
+
+abbrev from₃ : tie.After-has-pair-twice → tie.After-frame-type-allowed
+from₃ c = from₂ (c .before .before .before .before .before .before .before .before .before .before)
+
+-- what each check asks for is what the packet says
+allowed : (c : tie.After-frame-type-allowed) → c .frame-type-allowed .result ≡ byKind (kind c) (eqb (said c .«frame_type») 1) (within 1 2 (said c .«frame_type»))
+allowed c =
+    c .frame-type-allowed .ensures
+    ∙ ap (λ (n : ℕ). byKind (kind c) (eqb n 1) (within 1 2 n)) (type-is (kind c) (packet c) (bytes c) (c .before .before .before .pre))
+
+streams : (c : tie.After-word-at) → c .word-at .result / 2 ≡ said (from₁ c) .availability
+streams c =
+    let t = from₁ c in
+    ap (λ (n : ℕ). n / 2) (c .word-at .ensures) ∙ streams-are (kind t) (packet t) (bytes t) (t .before .before .before .pre)
+
+unavailable : (c : tie.After-has-unavailable) → c .has-unavailable .result ≡ someUnavailable (said (from₂ c) .availability) (said (from₂ c) .«relative_ts_number»)
+unavailable c =
+    let t = from₂ c in
+    let halves = c .before .before .before in
+    c .has-unavailable .ensures
+    ∙ ap₂ someUnavailable (streams (halves .before .before .before))
+    (halves .read-halves .ensures ∙ slots-are (kind t) (packet t) (bytes t) (t .before .before .before .pre))
+
+twice : (c : tie.After-has-pair-twice)
+    → c .has-pair-twice .result ≡ pairTwice (said (from₃ c) .availability) (said (from₃ c) .«ts_id») (said (from₃ c) .«original_network_id»)
+twice c =
+    let t = from₃ c in
+    let ids = c .before .before .before .before .before in
+    let word = ids .before .before .before .before .before .before .before .before .before .before .before in
+    let long = t .before .before .before .pre in
+    c .has-pair-twice .ensures
+    ∙ (λ i.
+    pairTwice (streams word i) ((ids .read-identifiers .ensures .0 ∙ ts-ids-are (kind t) (packet t) (bytes t) long) i)
+    ((ids .read-identifiers .ensures .1 ∙ network-ids-are (kind t) (packet t) (bytes t) long) i))
+
+-- the bonding fields are those that the packet says
+bonds : (c : tie.After-bonding-refusal) → c .bonding-refusal .result ≡ firstOf (bondingOf (kind (from₃ (c .before .before .before))) (said (from₃ (c .before .before .before))))
+bonds c =
+    let t = from₃ (c .before .before .before) in
+    let b = c .before .bonding-of .ensures in
+    c .bonding-refusal .ensures
+    ∙ (λ i. firstOf (bondingChecks (kind t) (b .1 .0 i) (b .1 .1 .0 i) (b .1 .1 .1 .0 i) (b .1 .1 .1 .1 i)))
+
+-- past each check
+past-1 : (c : tie.Else1) → Past 1 (rows (c .before))
+unfolding ruleChecks
+past-1 c = passed _ _ (ap not (sym (allowed (c .before))) ∙ c .if1 .left)
+
+past-2 : (c : tie.Else2) → Past 2 (rows (from₂ (c .before)))
+unfolding ruleChecks
+past-2 c = past-1 (c .before .before .before .before .before .before .before .before) ∙ passed _ _ (sym (unavailable (c .before)) ∙ c .if2 .left)
+
+past-3 : (c : tie.Else3) → Past 3 (rows (from₃ (c .before)))
+unfolding ruleChecks
+past-3 c = past-2 (c .before .before .before .before .before .before .before .before .before .before) ∙ passed _ _ (sym (twice (c .before)) ∙ c .if3 .left)
+
+-- the bonding fields answer for all
+bonded : (c : tie.After-bonding-refusal) → firstOf (rows (from₃ (c .before .before .before))) ≡ c .bonding-refusal .result
+unfolding ruleChecks
+bonded c = past-3 (c .before .before) ∙ sym (bonds c)
+
+shared-slice-read-frame-type-allowed : tie.Need-shared-slice-read-frame-type-allowed
+shared-slice-read-frame-type-allowed c = search needs
+
+frame-type-allowed-requires : tie.Need-frame-type-allowed-requires
+frame-type-allowed-requires c κs = search needs
+
+refused-requires : tie.Need-refused-requires
+refused-requires c κs = search needs
+
+returns : tie.Need-returns
+unfolding ruleChecks
+returns c =
+    let t = c .before .before in
+    refused (kind t) (packet t) (answers 8 _ (ap not (sym (allowed t)) ∙ c .before .if1 .taken)) _ (omega arith) (c .refused .ensures)
+
+word-at-requires : tie.Need-word-at-requires
+word-at-requires c κs = search needs
+
+slice-aggregate-read-halves : tie.Need-slice-aggregate-read-halves
+slice-aggregate-read-halves c = search needs
+
+sub-read-halves : tie.Need-sub-read-halves
+sub-read-halves c = search needs
+
+part-read-halves-start : tie.Need-part-read-halves-start
+part-read-halves-start c = search needs
+
+part-read-halves-end : tie.Need-part-read-halves-end
+part-read-halves-end c = search needs
+
+read-halves-requires : tie.Need-read-halves-requires
+read-halves-requires c κs = search needs
+
+slice-aggregate-has-unavailable : tie.Need-slice-aggregate-has-unavailable
+slice-aggregate-has-unavailable c = search needs
+
+has-unavailable-requires : tie.Need-has-unavailable-requires
+has-unavailable-requires c κs = search needs
+
+refused-requires-2 : tie.Need-refused-requires-2
+refused-requires-2 c κs = search needs
+
+returns-2 : tie.Need-returns-2
+unfolding ruleChecks
+returns-2 c =
+    let u = c .before .before in
+    let t = from₂ u in
+    refused (kind t) (packet t)
+    (past-1 (u .before .before .before .before .before .before .before) ∙ answers 9 _ (sym (unavailable u) ∙ c .before .if2 .taken)) _ (omega arith) (c .refused2 .ensures)
+
+slice-aggregate-read-identifiers : tie.Need-slice-aggregate-read-identifiers
+slice-aggregate-read-identifiers c = search needs
+
+slice-aggregate-read-identifiers-2 : tie.Need-slice-aggregate-read-identifiers-2
+slice-aggregate-read-identifiers-2 c = search needs
+
+sub-read-identifiers : tie.Need-sub-read-identifiers
+sub-read-identifiers c = search needs
+
+part-read-identifiers-start : tie.Need-part-read-identifiers-start
+part-read-identifiers-start c = search needs
+
+part-read-identifiers-end : tie.Need-part-read-identifiers-end
+part-read-identifiers-end c = search needs
+
+read-identifiers-requires : tie.Need-read-identifiers-requires
+read-identifiers-requires c κs = search needs
+
+has-pair-twice-requires : tie.Need-has-pair-twice-requires
+has-pair-twice-requires c κs = search needs
+
+refused-requires-3 : tie.Need-refused-requires-3
+refused-requires-3 c κs = search needs
+
+returns-3 : tie.Need-returns-3
+unfolding ruleChecks
+returns-3 c =
+    let u = c .before .before in
+    let t = from₃ u in
+    refused (kind t) (packet t)
+    (past-2 (u .before .before .before .before .before .before .before .before .before) ∙ answers 10 _ (sym (twice u) ∙ c .before .if3 .taken)) _ (omega arith) (c .refused3 .ensures)
+
+bonding-of-requires : tie.Need-bonding-of-requires
+bonding-of-requires c κs = search needs
+
+bonding-refusal-requires : tie.Need-bonding-refusal-requires
+bonding-refusal-requires c κs = search needs
+
+refused-requires-4 : tie.Need-refused-requires-4
+refused-requires-4 c κs = search needs
+
+returns-4 : tie.Need-returns-4
+returns-4 c =
+    let u = c .before .before in
+    let t = from₃ (u .before .before .before) in
+    refused (kind t) (packet t) (bonded u) _ (c .before .if4 .taken) (c .refused4 .ensures)
+
+shared-slice-read-t11 : tie.Need-shared-slice-read-t11
+shared-slice-read-t11 c =
+    let l = from₃ (c .before .before .before .before .before) .before .before .before .pre in
+    omega arith
+
+returns-5 : tie.Need-returns-5
+returns-5 c =
+    let u = c .before .before in
+    let b = u .before .bonding-of .ensures in
+    let pair = u .before .before .before in
+    let ids = pair .before .before .before .before .before in
+    let slots = ids .before .before .before .before .before in
+    let halves = slots .before .before .before in
+    let t = from₃ pair in
+    let long = t .before .before .before .pre in
+    accepted (kind t) (packet t) (bonded u) _ (c .before .if4 .left) refl
+    (record {
+      counter = counter-is (kind t) (packet t) (bytes t) long;
+      streams = streams (halves .before .before .before);
+      ts-id = ids .read-identifiers .ensures .0 ∙ ts-ids-are (kind t) (packet t) (bytes t) long;
+      network-id = ids .read-identifiers .ensures .1 ∙ network-ids-are (kind t) (packet t) (bytes t) long;
+      numbers = halves .read-halves .ensures ∙ slots-are (kind t) (packet t) (bytes t) long;
+      group = b .0;
+      carriers = b .1 .0;
+      sequence = b .1 .1 .0;
+      frames = b .1 .1 .1 .0;
+      position = b .1 .1 .1 .1;
+    })
+
+pub said-by-spec : {M : Type 1} → statement M
+said-by-spec =
+    tie.close
+    (tie.spec
+    shared-slice-read-frame-type-allowed
+    frame-type-allowed-requires
+    refused-requires
+    returns
+    word-at-requires
+    slice-aggregate-read-halves
+    sub-read-halves
+    part-read-halves-start
+    part-read-halves-end
+    read-halves-requires
+    slice-aggregate-has-unavailable
+    has-unavailable-requires
+    refused-requires-2
+    returns-2
+    slice-aggregate-read-identifiers
+    slice-aggregate-read-identifiers-2
+    sub-read-identifiers
+    part-read-identifiers-start
+    part-read-identifiers-end
+    read-identifiers-requires
+    has-pair-twice-requires
+    refused-requires-3
+    returns-3
+    bonding-of-requires
+    bonding-refusal-requires
+    refused-requires-4
+    returns-4
+    shared-slice-read-t11
+    returns-5)

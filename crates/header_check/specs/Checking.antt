@@ -1,0 +1,43 @@
+-- What checking a packet as a header answers.
+use Prim.Native.Nat.{ℕ}
+use mathlib.Core.Bool.{cond}
+use mathlib.Core.List.{List, _++_}
+use lib.Dec.{eqb}
+use lib.ListN.{length}
+use Rattle.setting.specs.declared.Kind.{Kind}
+use Rattle.setting.specs.declared.Setting.{Setting}
+use Rattle.setting.specs.Setting.{blank}
+use Rattle.setting.specs.Refusal.{firstOf}
+use Rattle.setting.specs.Rules.{ruleChecks}
+use Rattle.header_layout.specs.Header.{reading, callChecks, packetChecks}
+use Rattle.header_check.specs.declared.Checked.{Checked}
+
+-- the refusal of a read, or 0
+unfoldable pub readRefusal : Kind → ℕ → List ℕ → ℕ
+readRefusal kind pid p =
+    firstOf (callChecks pid (length p) ++ (packetChecks pid p ++ ruleChecks kind (reading kind p)))
+
+-- the parts of a setting that receiving and gathering use, beside a refusal's number
+unfoldable pub partsOf : ℕ → Setting → Checked
+partsOf n s =
+    record {
+      refusal = n;
+      «continuity_counter» = s .«continuity_counter»;
+      availability = s .availability;
+      «ts_id» = s .«ts_id»;
+      «original_network_id» = s .«original_network_id»;
+      «relative_ts_number» = s .«relative_ts_number»;
+      «group_id» = s .«group_id»;
+      «number_of_carriers» = s .«number_of_carriers»;
+      «carrier_sequence» = s .«carrier_sequence»;
+      «number_of_frames» = s .«number_of_frames»;
+      «frame_position» = s .«frame_position»;
+    }
+
+-- beside refusal 0 those of what the packet says, beside another number zeros
+unfoldable pub partsBeside : ℕ → Kind → List ℕ → Checked
+partsBeside n kind p = partsOf n (cond (eqb n 0) (reading kind p) blank)
+
+-- what a check answers
+unfoldable pub checkedOf : Kind → ℕ → List ℕ → Checked
+checkedOf kind pid p = partsBeside (readRefusal kind pid p) kind p

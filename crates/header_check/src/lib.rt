@@ -1,0 +1,42 @@
+// A packet checked as a header of J.183. A receiver and a group need little of what a header says, so this answers that alone; the
+// reader of whole headers is made of it.
+use counters::FramePosition;
+use setting::Kind;
+use setting::SLOTS;
+use setting::STREAMS;
+ghost use mathlib.Core.Path.{_≡_};
+ghost use Rattle.header_check.specs.Checking.{checkedOf};
+
+mod parts;
+
+// What a packet says as a header that receiving and gathering use: refusal 0 and that, or the refusal's number and zeros.
+pub struct Checked {
+    pub refusal: u8,
+    pub continuity_counter: u8,
+    pub availability: u16,
+    pub ts_id: [u16; STREAMS],
+    pub original_network_id: [u16; STREAMS],
+    pub relative_ts_number: [u8; SLOTS],
+    pub group_id: u8,
+    pub number_of_carriers: u8,
+    pub carrier_sequence: u8,
+    pub number_of_frames: u8,
+    pub frame_position: FramePosition,
+}
+
+// Checks the lent packet as a header, by 1 to 11.
+pub fn check(packet: &[u8], pid: u16, kind: Kind) -> Checked
+    ensures { λ r. ⌜ r ≡ checkedOf kind pid (now (packet .entry)) ⌝ }
+{
+    if packet.len() != header_layout::HEADER_LENGTH {
+        return parts::refused(1);
+    }
+    if !setting::pid_allowed(pid) {
+        return parts::refused(2);
+    }
+    let shown = parts::packet_refusal(packet, pid);
+    if shown != 0 {
+        return parts::refused(shown);
+    }
+    parts::said_by(packet, kind)
+}

@@ -1,0 +1,166 @@
+-- A setting that meets the rules is written, and read back equal. Assumes nothing.
+use Prim.Native.Nat.{ℕ, _^_, _<_}
+use mathlib.Core.Path.{_≡_, refl, sym, ap, ap₂, _∙_, subst}
+use mathlib.Core.Bool.{Bool, true, false, cond, not, _&&_}
+use mathlib.Core.List.{List, [], _∷_}
+use native.Mathlib.Omega.{arith}
+use native.Mathlib.Nat.{suc-inj}
+use lib.Arith.{lt-one}
+use lib.Dec.{lit<, leb, eqb}
+use lib.ListN.{length, getD, drop, replicate}
+use borrow.Author.Tests.{leb-false, eq-eqb}
+use Rattle.bits.specs.Fields.{Fit}
+use Rattle.slices.specs.Slices.{someAtLeast}
+use Rattle.crc.specs.Crc.{registerOf}
+use Rattle.setting.specs.declared.Kind.{Kind}
+use Rattle.setting.specs.declared.Setting.{Setting}
+use Rattle.setting.specs.Setting.{privateBytes, auxiliaryBytes, blank, OfItsTypes}
+use Rattle.setting.specs.Refusal.{NoneHolds, none, more}
+use Rattle.setting.specs.Rules.{widthChecks, absentChecks, ruleChecks}
+use Rattle.setting.proofs.Fields.{fit-some}
+use Rattle.setting.proofs.Refusals.{first-none, none-at, none-append, none-behind}
+use Rattle.header_read.specs.declared.Reading.{Reading}
+use Rattle.header_layout.specs.Rows.{place, rowAt}
+use Rattle.header_layout.specs.Layout.{Field, table, layout, rowWith}
+use Rattle.header_layout.specs.Header.{paired, firsts, seconds, content, headerLength, header, values, value, reading, packetChecks}
+use Rattle.header_write.specs.Writing.{written}
+use Rattle.header_check.specs.Checking.{readRefusal}
+use Rattle.header_read.specs.Reader.{readOf}
+use Rattle.header_layout.specs.Meets.{MeetsRules}
+use Rattle.header_codec.specs.Demands.{WrittenAndReadBack}
+use Rattle.header_layout.proofs.LaidOut.{laid-out}
+use Rattle.header_write.proofs.Calls.{not-refused}
+use Rattle.header_layout.proofs.Content.{suits}
+use Rattle.header_layout.proofs.Whole.{length-header, row-header, register-header}
+
+-- ---- what was put into a row, taken out again
+
+firsts-paired : (ts os : List ℕ) → length ts ≡ length os → firsts (paired ts os) ≡ ts
+unfolding firsts paired
+firsts-paired [] os e = refl
+firsts-paired (t ∷ ts) [] e = absurd (omega arith)
+firsts-paired (t ∷ ts) (o ∷ os) e = ap (λ (l : List ℕ). t ∷ l) (firsts-paired ts os (suc-inj e))
+
+seconds-paired : (ts os : List ℕ) → length ts ≡ length os → seconds (paired ts os) ≡ os
+unfolding seconds paired
+seconds-paired [] [] e = refl
+seconds-paired [] (o ∷ os) e = absurd (omega arith)
+seconds-paired (t ∷ ts) [] e = absurd (omega arith)
+seconds-paired (t ∷ ts) (o ∷ os) e = ap (λ (l : List ℕ). o ∷ l) (seconds-paired ts os (suc-inj e))
+
+-- what fits in no bits is zero
+absent : (n : ℕ) → leb (2 ^ 0) n ≡ false → 0 ≡ n
+absent n e = sym (lt-one (leb-false 1 n e))
+
+zeros : {xs : List ℕ} → Fit 0 xs → replicate (length xs) 0 ≡ xs
+zeros Fit.none = refl
+zeros (Fit.more h f) = ap₂ (λ (x : ℕ) (xs : List ℕ). x ∷ xs) (sym (lt-one h)) (zeros f)
+
+absent-list : (n : ℕ) (xs : List ℕ) → length xs ≡ n → someAtLeast (2 ^ 0) xs ≡ false → replicate n 0 ≡ xs
+absent-list n xs e h = ap (λ (k : ℕ). replicate k 0) (sym e) ∙ zeros (fit-some 0 xs h)
+
+-- two settings agree in the parts that the kinds differ in
+record SamePrivate (r s : Setting) : Type 0 where
+  privates : r .«private_data» ≡ s .«private_data»
+  auxiliaries : r .auxiliary ≡ s .auxiliary
+  group : r .«group_id» ≡ s .«group_id»
+  carriers : r .«number_of_carriers» ≡ s .«number_of_carriers»
+  sequence : r .«carrier_sequence» ≡ s .«carrier_sequence»
+  frames : r .«number_of_frames» ≡ s .«number_of_frames»
+  position : r .«frame_position» .0 ≡ s .«frame_position» .0
+
+module _ (kind : Kind) (pid : ℕ) (s : Setting) (t : OfItsTypes s) (m : MeetsRules kind pid s) where
+  -- the values in the row that holds a field, and the one value
+  row-back : (f : Field) → rowWith f (table kind) < length (layout kind)
+      → values kind (header kind pid s) f ≡ getD (content kind pid s) (rowWith f (table kind)) []
+  row-back f h = row-header kind pid s (suits kind pid s t m) (rowWith f (table kind)) h
+
+  value-back : (f : Field) → rowWith f (table kind) < length (layout kind)
+      → value kind (header kind pid s) f ≡ getD (getD (content kind pid s) (rowWith f (table kind)) []) 0 0
+  value-back f h = ap (λ (l : List ℕ). getD l 0 0) (row-back f h)
+
+  reading-back : SamePrivate (reading kind (header kind pid s)) s → reading kind (header kind pid s) ≡ s
+  unfolding laid-out reading
+  reading-back private =
+      λ i. record {
+        «continuity_counter» = value-back Field.counter (omega arith) i;
+        «version_number» = value-back Field.version (omega arith) i;
+        «slot_allocation_type» = value-back Field.slot-type (omega arith) i;
+        «frame_type» = value-back Field.frame-type (omega arith) i;
+        availability = value-back Field.streams (omega arith) i;
+        «ts_id» = (ap firsts (row-back Field.identifiers (omega arith)) ∙ firsts-paired (s .«ts_id») (s .«original_network_id») same-count) i;
+        «original_network_id» = (ap seconds (row-back Field.identifiers (omega arith)) ∙ seconds-paired (s .«ts_id») (s .«original_network_id») same-count) i;
+        «receive_status» = row-back Field.statuses (omega arith) i;
+        «emergency_indicator» = value-back Field.emergency (omega arith) i;
+        «relative_ts_number» = row-back Field.numbers (omega arith) i;
+        «private_data» = private .privates i;
+        auxiliary = private .auxiliaries i;
+        «group_id» = private .group i;
+        «number_of_carriers» = private .carriers i;
+        «carrier_sequence» = private .sequence i;
+        «number_of_frames» = private .frames i;
+        «frame_position» = record { 0 = private .position i };
+      }
+    where
+      same-count : length (s .«ts_id») ≡ length (s .«original_network_id»)
+      same-count = t .ts-id .0 ∙ sym (t .network-id .0)
+
+private-back : (kind : Kind) (pid : ℕ) (s : Setting) → OfItsTypes s → MeetsRules kind pid s → SamePrivate (reading kind (header kind pid s)) s
+unfolding laid-out reading widthChecks absentChecks
+private-back Kind.Plain pid s t m =
+    record {
+      privates = row-back Kind.Plain pid s t m Field.privates (lit< tt);
+      auxiliaries = absent-list auxiliaryBytes (s .auxiliary) (t .auxiliaries .0) (none-at (m .fields) 8);
+      group = absent (s .«group_id») (none-at (m .fields) 9);
+      carriers = absent (s .«number_of_carriers») (none-at (m .fields) 10);
+      sequence = absent (s .«carrier_sequence») (none-at (m .fields) 11);
+      frames = absent (s .«number_of_frames») (none-at (m .fields) 12);
+      position = absent (s .«frame_position» .0) (none-at (m .fields) 13);
+    }
+private-back Kind.Extended pid s t m =
+    record {
+      privates = absent-list privateBytes (s .«private_data») (t .privates .0) (none-at (m .fields) 8);
+      auxiliaries = row-back Kind.Extended pid s t m Field.auxiliary (lit< tt);
+      group = value-back Kind.Extended pid s t m Field.group (lit< tt);
+      carriers = value-back Kind.Extended pid s t m Field.carriers (lit< tt);
+      sequence = value-back Kind.Extended pid s t m Field.sequence (lit< tt);
+      frames = value-back Kind.Extended pid s t m Field.frames (lit< tt);
+      position = value-back Kind.Extended pid s t m Field.position (lit< tt);
+    }
+
+-- ---- the answers
+
+module _ (kind : Kind) (pid : ℕ) (s : Setting) (t : OfItsTypes s) (m : MeetsRules kind pid s) where
+  same : reading kind (header kind pid s) ≡ s
+  same = reading-back kind pid s t m (private-back kind pid s t m)
+
+  packet-none : NoneHolds (packetChecks pid (header kind pid s))
+  unfolding laid-out packetChecks rowAt place
+  packet-none =
+      more (ap not (shown Field.sync-byte (omega arith)))
+      (more (ap not (shown Field.header-pid (omega arith)))
+      (more (ap₂ (λ (x y : Bool). not (x && y)) (shown Field.zeros (omega arith)) (shown Field.payload (omega arith)))
+      (more (ap not (shown Field.tsmf-sync (omega arith)))
+      (more (ap not (eq-eqb (registerOf (drop 4 (header kind pid s))) 0 (register-header kind pid s (suits kind pid s t m)))) none))))
+    where
+      shown : (f : Field) → rowWith f (table kind) < length (layout kind)
+          → eqb (value kind (header kind pid s) f) (getD (getD (content kind pid s) (rowWith f (table kind)) []) 0 0) ≡ true
+      shown f h = eq-eqb (value kind (header kind pid s) f) (getD (getD (content kind pid s) (rowWith f (table kind)) []) 0 0) (value-back kind pid s t m f h)
+
+  read-back : readRefusal kind pid (header kind pid s) ≡ 0
+  unfolding readRefusal
+  read-back =
+      first-none (more (ap not (eq-eqb (length (header kind pid s)) headerLength (length-header kind pid s)))
+      (more (ap not (m .pid-allowed)) (none-append packet-none (subst (λ (r : Setting). NoneHolds (ruleChecks kind r)) (sym same) (none-behind (widthChecks kind s) (m .fields))))))
+
+pub written-and-read-back : WrittenAndReadBack
+unfolding written readOf
+written-and-read-back kind pid s buffer t m e = (
+  not-refused kind pid (length buffer) s m e,
+  ap (λ (n : ℕ). readOf kind pid (cond (eqb n 0) (header kind pid s) buffer)) (not-refused kind pid (length buffer) s m e)
+      ∙ ap (λ (n : ℕ). answer n (reading kind (header kind pid s))) (read-back kind pid s t m)
+      ∙ ap (answer 0) (same kind pid s t m),
+)
+  where
+    answer : ℕ → Setting → Reading
+    answer n r = record { refusal = n; setting = cond (eqb n 0) r blank }

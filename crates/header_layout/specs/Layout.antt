@@ -1,0 +1,77 @@
+-- The header's layout: 01's table, row under row.
+use Prim.Native.Nat.{ℕ, suc, _*_}
+use mathlib.Core.Bool.{cond, decide}
+use mathlib.Core.List.{List, [], _∷_, _++_, map}
+use Rattle.setting.specs.declared.Kind.{Kind}
+use Rattle.counters.specs.Counters.{lastSlot, lastStream}
+use Rattle.setting.specs.Setting.{privateBytes, auxiliaryBytes}
+use Rattle.header_layout.specs.Rows.{Row}
+
+-- sync_byte
+abbrev pub syncByte : ℕ
+syncByte = 0x47
+
+-- TSMF_sync
+abbrev pub tsmfSync : ℕ
+tsmfSync = 0x1A86
+
+-- so many of an extended header's private bytes are reserved: the last ones
+abbrev pub reservedBytes : ℕ
+reservedBytes = 53
+
+-- what a row can hold. `zeros` and `payload` are the packet header's bits 000 and 0001, `streams` is the availability of the streams
+pub data Field : Type 0 where
+  reserved : Field
+  sync-byte zeros header-pid payload counter : Field
+  tsmf-sync version slot-type frame-type streams : Field
+  identifiers statuses emergency numbers : Field
+  privates auxiliary group carriers sequence frames position : Field
+  deriving Discrete as Field-discrete
+
+-- a line of the table: what the row holds, and the row: bits of a value, and how many values
+abbrev pub Line : Type 0
+Line = Field × Row
+
+-- packet_header, TSMF_sync, version_number and slot_information: bytes 0 to 8
+unfoldable pub startTable : List Line
+startTable =
+    (sync-byte, (8, 1)) ∷ (zeros, (3, 1)) ∷ (header-pid, (13, 1)) ∷ (payload, (4, 1)) ∷ (counter, (4, 1))
+    ∷ (reserved, (3, 1)) ∷ (tsmf-sync, (13, 1))
+    ∷ (version, (3, 1)) ∷ (slot-type, (1, 1)) ∷ (frame-type, (4, 1))
+    -- stream 1 in the highest bit
+    ∷ (streams, (lastStream, 1)) ∷ (reserved, (1, 1)) ∷ []
+
+-- identifiers_information, bytes 9 to 68: TS_id and original_network_id of each stream
+unfoldable pub identifierTable : List Line
+identifierTable = (identifiers, (16, 2 * lastStream)) ∷ []
+
+-- control_information, bytes 69 to 72: receive_status of each stream; emergency_indicator is the last bit
+unfoldable pub controlTable : List Line
+controlTable = (statuses, (2, lastStream)) ∷ (reserved, (1, 1)) ∷ (emergency, (1, 1)) ∷ []
+
+-- relative_TS_information, bytes 73 to 98: relative_TS_number of each slot
+unfoldable pub numberTable : List Line
+numberTable = (numbers, (4, lastSlot)) ∷ []
+
+-- private_data, bytes 99 to 183, which in an extended header are auxiliary information and the bonding fields
+unfoldable pub privateTable : Kind → List Line
+privateTable Kind.Plain = (privates, (8, privateBytes)) ∷ []
+privateTable Kind.Extended =
+    (auxiliary, (8, auxiliaryBytes)) ∷ (group, (8, 1)) ∷ (carriers, (8, 1)) ∷ (sequence, (8, 1)) ∷ (frames, (4, 1)) ∷ (position, (4, 1))
+    ∷ (reserved, (8, reservedBytes)) ∷ []
+
+-- the whole table but for the CRC, which stands behind it in 32 bits
+unfoldable pub table : Kind → List Line
+table kind = startTable ++ (identifierTable ++ (controlTable ++ (numberTable ++ privateTable kind)))
+
+-- its rows, numbered from 0
+abbrev pub rowsOf : List Line → List Row
+rowsOf = map (λ (l : Line). l .1)
+
+abbrev pub layout : Kind → List Row
+layout kind = rowsOf (table kind)
+
+-- the number of the first row that holds the field
+unfoldable pub rowWith : Field → List Line → ℕ
+rowWith f [] = 0
+rowWith f (l ∷ ls) = cond (decide (Field-discrete f (l .0))) 0 (suc (rowWith f ls))

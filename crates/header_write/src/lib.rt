@@ -1,0 +1,32 @@
+// The writer of the TSMF header of J.183.
+use setting::Kind;
+use setting::Setting;
+ghost use mathlib.Core.Path.{_≡_};
+ghost use lib.ListN.{length};
+ghost use Rattle.header_write.specs.Writing.{writeRefusal, written};
+
+mod packed;
+mod writer;
+
+// Writes the setting's header into the lent 188 bytes. Answers 0, or the refusal's number and leaves the buffer as it was.
+pub fn write(buffer: &mut [u8], pid: u16, kind: Kind, s: Setting) -> u8
+    ensures { λ r. ⌜ r ≡ writeRefusal kind pid s (length (now (buffer .entry))) ⌝ }
+    ensures { λ _. ⌜ now (buffer .exit) ≡ written kind pid s (now (buffer .entry)) ⌝ }
+{
+    if buffer.len() != header_layout::HEADER_LENGTH {
+        return 1;
+    }
+    if !setting::pid_allowed(pid) {
+        return 2;
+    }
+    let width = setting_widths::width_refusal(kind, s);
+    if width != 0 {
+        return width;
+    }
+    let rule = setting_rules::rule_refusal(kind, s);
+    if rule != 0 {
+        return rule;
+    }
+    writer::write_header(buffer, pid, kind, s);
+    0
+}

@@ -1,0 +1,22 @@
+-- What a packet is that arrives, and what it leaves in the store.
+use Prim.Native.Nat.{ℕ, _*_}
+use mathlib.Core.Bool.{cond}
+use mathlib.Core.List.{List}
+use lib.Dec.{ltb, eqb}
+use Rattle.slices.specs.Slices.{over}
+use Rattle.setting.specs.declared.Kind.{Kind}
+use Rattle.counters.specs.Counters.{lastSlot}
+use Rattle.header_check.specs.Checking.{readRefusal}
+use Rattle.packet.specs.Packets.{packetLength, unfit}
+use Rattle.receiver.specs.declared.Stage.{Stage}
+use Rattle.receiver.specs.Table.{Sort, good, broken, other, storedOf}
+
+-- a good header is one that the reader accepts; a broken packet lacks 0x47 or bears the header PID without being one
+unfoldable pub sortOf : Kind → ℕ → List ℕ → Sort
+sortOf kind pid p = cond (eqb (readRefusal kind pid p) 0) good (cond (unfit pid p) broken other)
+
+-- the store: a packet that is no header and not broken stands in slot k + 1, at 188 × k, while there is one
+unfoldable pub storeAfter : Stage → Sort → List ℕ → List ℕ → List ℕ
+storeAfter stage good p store = store
+storeAfter stage broken p store = store
+storeAfter stage other p store = cond (ltb (storedOf stage) lastSlot) (over (packetLength * storedOf stage) p store) store

@@ -1,0 +1,49 @@
+-- What each exported call answers and leaves: the receiver's own call under the coding of its state.
+use Prim.Native.Nat.{ℕ}
+use mathlib.Core.Bool.{cond, not}
+use mathlib.Core.List.{List, [], _∷_}
+use lib.Dec.{eqb}
+use lib.ListN.{length}
+use Rattle.setting.specs.Refusal.{firstOf, leaves}
+use Rattle.setting.specs.Rules.{pidAllowed}
+use Rattle.setting_bytes.specs.Kinds.{isKind, kindOf}
+use Rattle.receiver.specs.Receiving.{startReceiverOf, receiveOf, receiveStore, handOutOf, handOutBuffer}
+use Rattle.receiver.specs.Stages.{receiverLength}
+use Rattle.receiver.specs.States.{receiverBytes, receiverOf, eventNumber}
+
+-- start: 1, 2, and 17 for a number that is no kind
+unfoldable pub startRefused : List ℕ → ℕ → ℕ → ℕ
+startRefused state pid kind =
+    firstOf ((1, not (eqb (length state) receiverLength)) ∷ (2, not (pidAllowed pid)) ∷ (17, not (isKind kind)) ∷ [])
+
+unfoldable pub startState : List ℕ → ℕ → ℕ → List ℕ
+startState state pid kind = leaves (startRefused state pid kind) (receiverBytes (startReceiverOf (kindOf kind) pid .state)) state
+
+-- receive: 1 for a state of another length, else what `receive` answers and leaves
+unfoldable pub receiveRefused : List ℕ → List ℕ → List ℕ → ℕ
+receiveRefused state p store =
+    cond (eqb (length state) receiverLength) (receiveOf (receiverOf state) p (length store) .refusal) 1
+
+unfoldable pub receiveEvent : List ℕ → List ℕ → List ℕ → ℕ
+receiveEvent state p store =
+    cond (eqb (length state) receiverLength) (eventNumber (receiveOf (receiverOf state) p (length store) .event)) 0
+
+unfoldable pub receiveState : List ℕ → List ℕ → List ℕ → List ℕ
+receiveState state p store =
+    leaves (receiveRefused state p store) (receiverBytes (receiveOf (receiverOf state) p (length store) .state)) state
+
+unfoldable pub receiveMemory : List ℕ → List ℕ → List ℕ → List ℕ
+receiveMemory state p store = cond (eqb (length state) receiverLength) (receiveStore (receiverOf state) p store) store
+
+-- hand out: 1 for a state of another length, else what `hand_out` answers and leaves
+unfoldable pub handOutRefused : List ℕ → ℕ → List ℕ → List ℕ → ℕ
+handOutRefused state r store out =
+    cond (eqb (length state) receiverLength) (handOutOf (receiverOf state) r (length store) (length out) .refusal) 1
+
+unfoldable pub handOutPackets : List ℕ → ℕ → List ℕ → List ℕ → ℕ
+handOutPackets state r store out =
+    cond (eqb (length state) receiverLength) (handOutOf (receiverOf state) r (length store) (length out) .packets) 0
+
+unfoldable pub handOutMemory : List ℕ → ℕ → List ℕ → List ℕ → List ℕ
+handOutMemory state r store out =
+    cond (eqb (length state) receiverLength) (handOutBuffer (receiverOf state) r store out) out

@@ -1,0 +1,104 @@
+-- The receiver: what each call answers, and what it leaves.
+use Prim.Native.Nat.{ℕ, _*_, _^_}
+use mathlib.Core.Bool.{cond, not}
+use mathlib.Core.List.{List, [], _∷_, _++_}
+use lib.Dec.{ltb, eqb}
+use lib.ListN.{length, replicate}
+use Rattle.slices.specs.Slices.{someAtLeast, over}
+use Rattle.setting.specs.declared.Kind.{Kind}
+use Rattle.counters.specs.Counters.{firstStream, lastStream, lastSlot, within}
+use Rattle.setting.specs.Refusal.{Check, firstOf, leaves}
+use Rattle.setting.specs.Rules.{pidAllowed}
+use Rattle.header_layout.specs.Header.{reading}
+use Rattle.packet.specs.Packets.{packetLength}
+use Rattle.receiver.specs.declared.Stage.{Stage}
+use Rattle.receiver.specs.declared.Event.{Event}
+use Rattle.receiver.specs.declared.Row.{Row}
+use Rattle.receiver.specs.declared.Receiver.{Receiver}
+use Rattle.receiver.specs.declared.Started.{Started}
+use Rattle.receiver.specs.declared.Received.{Received}
+use Rattle.receiver.specs.declared.HandedOut.{HandedOut}
+use Rattle.receiver.specs.Store.{storeLength, numbered, slotsFor}
+use Rattle.receiver.specs.Table.{Sort, good, broken, other, rowOf, stageChecks, isReady}
+use Rattle.receiver.specs.Arriving.{sortOf, storeAfter}
+
+-- ---- the state
+
+unfoldable pub waiting : Kind → ℕ → Receiver
+waiting kind pid =
+    record { pid = pid; kind = kind; stage = Stage.Waiting; numbers = replicate lastSlot 0; before = replicate lastSlot 0 }
+
+-- the state somewhere else in the table, and behind a header that gives the slots these numbers
+unfoldable pub moved : Receiver → Stage → Receiver
+moved c stage = record { pid = c .pid; kind = c .kind; stage = stage; numbers = c .numbers; before = c .before }
+
+unfoldable pub renumbered : Receiver → Stage → List ℕ → Receiver
+renumbered c stage said = record { pid = c .pid; kind = c .kind; stage = stage; numbers = said; before = c .numbers }
+
+unfoldable pub receiverAfter : Receiver → Sort → Stage → List ℕ → Receiver
+receiverAfter c good stage said = renumbered c stage said
+receiverAfter c broken stage said = moved c stage
+receiverAfter c other stage said = moved c stage
+
+-- ---- the checks, in the table's order
+
+-- 2 and 17: a state's PID and numbers
+unfoldable pub receiverChecks : Receiver → List Check
+receiverChecks c =
+    (2, not (pidAllowed (c .pid)))
+    ∷ (stageChecks (c .stage)
+    ++ ((17, someAtLeast (2 ^ 4) (c .numbers)) ∷ (17, someAtLeast (2 ^ 4) (c .before)) ∷ []))
+
+unfoldable pub receiveRefusal : Receiver → ℕ → ℕ → ℕ
+receiveRefusal c packet store =
+    firstOf ((1, not (eqb packet packetLength)) ∷ (1, not (eqb store storeLength)) ∷ receiverChecks c)
+
+unfoldable pub handOutRefusal : Receiver → ℕ → ℕ → ℕ → ℕ
+handOutRefusal c r store out =
+    firstOf ((1, not (eqb store storeLength))
+    ∷ (receiverChecks c
+    ++ ((17, not (within firstStream lastStream r))
+    ∷ (16, not (isReady (c .stage)))
+    ∷ (15, ltb out (packetLength * slotsFor r (c .before)))
+    ∷ [])))
+
+-- ---- the calls
+
+-- a refused start gives the fresh plain state of PID 0
+unfoldable pub startReceiverOf : Kind → ℕ → Started
+startReceiverOf kind pid =
+    record {
+      refusal = firstOf ((2, not (pidAllowed pid)) ∷ []);
+      state = cond (pidAllowed pid) (waiting kind pid) (waiting Kind.Plain 0);
+    }
+
+-- the row that a packet takes
+unfoldable pub rowFor : Receiver → List ℕ → Row
+rowFor c p = rowOf (c .stage) (sortOf (c .kind) (c .pid) p) (reading (c .kind) p .«continuity_counter»)
+
+unfoldable pub receiveOf : Receiver → List ℕ → ℕ → Received
+receiveOf c p store =
+    cond (eqb (receiveRefusal c (length p) store) 0)
+    (record {
+      refusal = 0;
+      event = rowFor c p .event;
+      state = receiverAfter c (sortOf (c .kind) (c .pid) p) (rowFor c p .stage) (reading (c .kind) p .«relative_ts_number»);
+    })
+    (record { refusal = receiveRefusal c (length p) store; event = Event.Nothing; state = c })
+
+unfoldable pub receiveStore : Receiver → List ℕ → List ℕ → List ℕ
+receiveStore c p store =
+    leaves (receiveRefusal c (length p) (length store)) (storeAfter (c .stage) (sortOf (c .kind) (c .pid) p) p store) store
+
+-- how many packets the ready frame has under number r
+unfoldable pub handOutOf : Receiver → ℕ → ℕ → ℕ → HandedOut
+handOutOf c r store out =
+    record {
+      refusal = handOutRefusal c r store out;
+      packets = cond (eqb (handOutRefusal c r store out) 0) (slotsFor r (c .before)) 0;
+    }
+
+-- they stand at the front of the lent buffer, in slot order
+unfoldable pub handOutBuffer : Receiver → ℕ → List ℕ → List ℕ → List ℕ
+handOutBuffer c r store out =
+    leaves (handOutRefusal c r (length store) (length out)) (over 0 (numbered r (c .before) store) out) out

@@ -1,2 +1,0 @@
--- A receiver's state as bytes: its length, and its stage.
-pub mod Stages

@@ -1,2 +1,0 @@
--- The receiver's table.
-pub mod Table

@@ -1,2 +1,0 @@
--- Refusals by number, in the table's order.
-pub mod Refusal

@@ -1,1 +1,0 @@
-// Refusals by number: definitions in specs/, laws in proofs/. No code.

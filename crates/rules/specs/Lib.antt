@@ -1,2 +1,0 @@
--- What a setting has to obey.
-pub mod Rules

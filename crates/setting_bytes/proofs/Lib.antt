@@ -1,0 +1,5 @@
+pub mod KindsBack
+pub mod Numbers
+pub mod Back
+pub mod Parts
+pub mod Same

@@ -1,0 +1,31 @@
+-- What the calls on settings answer and leave: the rules' own calls under the coding of settings and kinds.
+use Prim.Native.Nat.{ℕ}
+use mathlib.Core.Bool.{cond, not}
+use mathlib.Core.List.{List, [], _∷_}
+use lib.Dec.{eqb}
+use lib.ListN.{length}
+use Rattle.setting.specs.Refusal.{firstOf, leaves}
+use Rattle.setting.specs.Rules.{widthChecks, ruleChecks}
+use Rattle.setting.specs.Setting.{blank}
+use Rattle.setting_bytes.specs.Kinds.{isKind, kindOf}
+use Rattle.setting_bytes.specs.Settings.{settingLength, settingBytes, settingOf}
+
+-- 1 for a setting of another length, 17 for a number that is no kind
+unfoldable pub callRefused : ℕ → ℕ → ℕ
+callRefused setting kind = firstOf ((1, not (eqb setting settingLength)) ∷ (17, not (isKind kind)) ∷ [])
+
+-- no kind is asked for: 0 is one
+unfoldable pub blankRefused : List ℕ → ℕ
+blankRefused setting = callRefused (length setting) 0
+
+unfoldable pub blankMemory : List ℕ → List ℕ
+blankMemory setting = leaves (blankRefused setting) (settingBytes blank) setting
+
+-- then the fields, or the rules
+unfoldable pub widthsRefused : List ℕ → ℕ → ℕ
+widthsRefused setting kind =
+    cond (eqb (callRefused (length setting) kind) 0) (firstOf (widthChecks (kindOf kind) (settingOf setting))) (callRefused (length setting) kind)
+
+unfoldable pub rulesRefused : List ℕ → ℕ → ℕ
+rulesRefused setting kind =
+    cond (eqb (callRefused (length setting) kind) 0) (firstOf (ruleChecks (kindOf kind) (settingOf setting))) (callRefused (length setting) kind)

@@ -1,0 +1,94 @@
+-- The checks of a setting, each with the bytes that it asks. Assumes nothing.
+use Prim.Native.Nat.{ℕ, zero, suc, _+_, _^_, _≤_, _<_}
+use mathlib.Core.Path.{_≡_, refl, ap, _∙_}
+use mathlib.Core.Bool.{not}
+use mathlib.Core.List.{List, [], _∷_, _++_}
+use native.Mathlib.Omega.{arith}
+use borrow.Author.Tests.{eq-eqb, ne-eqb}
+use lib.Dec.{leb, eqb}
+use lib.ListN.{length, getD, take, drop}
+use lib.Seq.{take-take, drop-drop, getD-take, getD-drop}
+use Rattle.slices.specs.Slices.{anyBelow, someAtLeast}
+use Rattle.counters.specs.Counters.{within}
+use Rattle.setting.specs.declared.Kind.{Kind}
+use Rattle.setting.specs.Setting.{blank}
+use Rattle.setting.specs.Refusal.{Check, firstOf}
+use Rattle.setting.specs.Rules.{byKind, absentChecks, informationChecks, widthChecks, someUnavailable, pairTwice, bondingChecks, ruleChecks}
+use Rattle.setting.specs.Announcing.{announced, announcedChecks}
+use Rattle.setting_bytes.specs.Words.{wordAt, wordsOf}
+use Rattle.setting_bytes.specs.Settings.{part, announcedLength, announcedOf, settingLength, settingOf}
+use Rattle.setting_bytes.proofs.Parts.{length-part}
+
+-- ---- a part of a part
+
+within-front : (k n m : ℕ) (l : List ℕ) → k + n ≤ m → take n (drop k (take m l)) ≡ take n (drop k l)
+within-front zero n m l h = take-take n m l (omega arith)
+within-front (suc k) n zero l h = absurd (omega arith)
+within-front (suc k) n (suc m) [] h = refl
+within-front (suc k) n (suc m) (x ∷ l) h = within-front k n m l (omega arith)
+
+part-of-part : (j k n m : ℕ) (b : List ℕ) → k + n ≤ m → part k n (part j m b) ≡ part (j + k) n b
+part-of-part j k n m b h = within-front k n m (drop j b) h ∙ ap (take n) (drop-drop k j b)
+
+byte-of-part : (j k m : ℕ) (b : List ℕ) → k < m → getD (part j m b) k 0 ≡ getD b (j + k) 0
+byte-of-part j k m b h = getD-take m (drop j b) k 0 h ∙ getD-drop j b k 0
+
+-- ---- 17
+
+-- what is announced
+pub announced-in : (b : List ℕ) → length b ≡ announcedLength → announcedChecks (announcedOf b) ≡ informationChecks (getD b 0 0) (getD b 1 0) (wordAt 2 b) (part 64 15 b) (getD b 79 0)
+unfolding announcedChecks announcedOf
+announced-in b whole = rw (eq-eqb (length b) announcedLength whole) refl
+
+-- zeros fit
+pub announced-of-zeros : (b : List ℕ) → (length b ≡ announcedLength → ⊥) → firstOf (announcedChecks (announcedOf b)) ≡ 0
+unfolding firstOf announcedChecks announcedOf announced blank someAtLeast anyBelow
+announced-of-zeros b h = rw (ne-eqb (length b) announcedLength h)
+
+-- a setting: the rows behind what is announced, and all
+abbrev pub restIn : Kind → List ℕ → List Check
+restIn kind b =
+    (17, someAtLeast (2 ^ 4) (part 82 52 b))
+    ∷ absentChecks kind (part 134 85 b) (part 219 28 b) (getD b 247 0) (getD b 248 0) (getD b 249 0) (getD b 250 0) (getD b 251 0)
+
+abbrev pub widthsIn : Kind → List ℕ → List Check
+widthsIn kind b =
+    (17, leb (2 ^ 4) (getD b 0 0)) ∷ (17, leb (2 ^ 3) (getD b 1 0)) ∷ (announcedChecks (announcedOf (part 2 80 b)) ++ restIn kind b)
+
+pub widths-in : (kind : Kind) (b : List ℕ) → length b ≡ settingLength → widthChecks kind (settingOf b) ≡ widthsIn kind b
+unfolding widthChecks settingOf announcedChecks
+widths-in kind b whole = rw (eq-eqb (length b) settingLength whole) refl
+
+pub widths-of-zeros : (kind : Kind) (b : List ℕ) → (length b ≡ settingLength → ⊥) → firstOf (widthChecks kind (settingOf b)) ≡ 0
+unfolding firstOf widthChecks absentChecks settingOf blank someAtLeast anyBelow
+widths-of-zeros Kind.Plain b h = rw (ne-eqb (length b) settingLength h)
+widths-of-zeros Kind.Extended b h = rw (ne-eqb (length b) settingLength h)
+
+-- ---- 8 to 11
+
+-- the rows of a setting
+abbrev pub rulesIn : Kind → List ℕ → List Check
+rulesIn kind b =
+    (8, not (byKind kind (eqb (getD b 3 0) 1) (within 1 2 (getD b 3 0))))
+    ∷ (9, someUnavailable (wordAt 4 b) (part 82 52 b))
+    ∷ (10, pairTwice (wordAt 4 b) (wordsOf (part 6 30 b)) (wordsOf (part 36 30 b)))
+    ∷ bondingChecks kind (getD b 248 0) (getD b 249 0) (getD b 250 0) (getD b 251 0)
+
+pub rules-in : (kind : Kind) (b : List ℕ) → length b ≡ settingLength → ruleChecks kind (settingOf b) ≡ rulesIn kind b
+unfolding ruleChecks settingOf announcedOf
+rules-in kind b whole =
+    rw (
+      eq-eqb (length b) settingLength whole,
+      eq-eqb (length (part 2 80 b)) announcedLength (length-part 2 80 b (omega arith)),
+      byte-of-part 2 1 80 b (omega arith),
+      byte-of-part 2 2 80 b (omega arith),
+      byte-of-part 2 3 80 b (omega arith),
+      part-of-part 2 4 30 80 b (omega arith),
+      part-of-part 2 34 30 80 b (omega arith),
+    ) refl
+
+-- zeros have no frame type
+pub rules-of-zeros : (kind : Kind) (b : List ℕ) → (length b ≡ settingLength → ⊥) → firstOf (ruleChecks kind (settingOf b)) ≡ 8
+unfolding firstOf ruleChecks settingOf blank
+rules-of-zeros Kind.Plain b h = rw (ne-eqb (length b) settingLength h)
+rules-of-zeros Kind.Extended b h = rw (ne-eqb (length b) settingLength h)

@@ -1,0 +1,116 @@
+// A setting's checks asked of its bytes where they stand: what the checks of a setting by value answer, without one.
+use setting_bytes::ANNOUNCED;
+use setting_bytes::ANNOUNCED_BYTES;
+use setting_bytes::AUXILIARY;
+use setting_bytes::BONDING;
+use setting_bytes::CARRIERS;
+use setting_bytes::EMERGENCY;
+use setting_bytes::FRAMES;
+use setting_bytes::NUMBERS;
+use setting_bytes::ORIGINAL_NETWORK_ID;
+use setting_bytes::POSITION;
+use setting_bytes::PRIVATE;
+use setting_bytes::RECEIVE_STATUS;
+use setting_bytes::SEQUENCE;
+use setting_bytes::SETTING_BYTES;
+use setting_bytes::TS_ID;
+use counters::FramePosition;
+use setting::Kind;
+use setting::STREAMS;
+use setting::limits;
+ghost use mathlib.Core.Path.{_≡_};
+ghost use Rattle.setting.specs.Refusal.{firstOf};
+ghost use Rattle.setting.specs.Rules.{widthChecks, ruleChecks};
+ghost use Rattle.setting.specs.Announcing.{announcedChecks};
+ghost use Rattle.setting_bytes.specs.Settings.{announcedOf, settingOf};
+
+// Where what is announced stands in a setting.
+const FRAME_TYPE: usize = ANNOUNCED + 1;
+
+const AVAILABILITY: usize = ANNOUNCED + 2;
+
+const AVAILABILITY_LOW: usize = ANNOUNCED + 3;
+
+const STREAM_IDS: usize = ANNOUNCED + TS_ID;
+
+const NETWORK_IDS: usize = ANNOUNCED + ORIGINAL_NETWORK_ID;
+
+const STATUSES: usize = ANNOUNCED + RECEIVE_STATUS;
+
+// 17 of what a header announced; of bytes of any other length than 80, that of zeros, which fit.
+pub fn announced_refusal(bytes: &[u8]) -> u8
+    ensures { λ r. ⌜ r ≡ firstOf (announcedChecks (announcedOf (now (bytes .entry)))) ⌝ }
+{
+    if bytes.len() != ANNOUNCED_BYTES {
+        return 0;
+    }
+    setting_widths::information_refusal(
+        bytes[0],
+        bytes[1],
+        setting_bytes::word(bytes[2], bytes[3]),
+        &bytes[RECEIVE_STATUS..EMERGENCY],
+        bytes[EMERGENCY],
+    )
+}
+
+// 17 of a setting; of bytes of any other length than 252, that of zeros, which fit.
+pub fn width_refusal(kind: Kind, bytes: &[u8]) -> u8
+    ensures { λ r. ⌜ r ≡ firstOf (widthChecks kind (settingOf (now (bytes .entry)))) ⌝ }
+{
+    if bytes.len() != SETTING_BYTES {
+        return 0;
+    }
+    if limits::COUNTERS <= bytes[0] {
+        return 17;
+    }
+    if limits::VERSIONS <= bytes[1] {
+        return 17;
+    }
+    let announced = announced_refusal(&bytes[ANNOUNCED..NUMBERS]);
+    if announced != 0 {
+        return announced;
+    }
+    if slices::some_at_least(&bytes[NUMBERS..PRIVATE], limits::NUMBERS) {
+        return 17;
+    }
+    setting_widths::absent_refusal(
+        kind,
+        &bytes[PRIVATE..AUXILIARY],
+        &bytes[AUXILIARY..BONDING],
+        bytes[BONDING],
+        bytes[CARRIERS],
+        bytes[SEQUENCE],
+        bytes[FRAMES],
+        FramePosition(bytes[POSITION]),
+    )
+}
+
+// 8 to 11 of a setting; of bytes of any other length than 252, those of zeros, which have no frame type.
+pub fn rule_refusal(kind: Kind, bytes: &[u8]) -> u8
+    ensures { λ r. ⌜ r ≡ firstOf (ruleChecks kind (settingOf (now (bytes .entry)))) ⌝ }
+{
+    if bytes.len() != SETTING_BYTES {
+        return 8;
+    }
+    if !setting_rules::frame_type_allowed(kind, bytes[FRAME_TYPE]) {
+        return 8;
+    }
+    let availability = setting_bytes::word(bytes[AVAILABILITY], bytes[AVAILABILITY_LOW]);
+    if setting_slots::has_unavailable(availability, &bytes[NUMBERS..PRIVATE]) {
+        return 9;
+    }
+    let mut ts_id = [0u16; STREAMS];
+    setting_bytes::read_words(&mut ts_id, &bytes[STREAM_IDS..NETWORK_IDS]);
+    let mut original_network_id = [0u16; STREAMS];
+    setting_bytes::read_words(&mut original_network_id, &bytes[NETWORK_IDS..STATUSES]);
+    if setting_pairs::has_pair_twice(availability, &ts_id, &original_network_id) {
+        return 10;
+    }
+    setting_rules::bonding_refusal(
+        kind,
+        bytes[CARRIERS],
+        bytes[SEQUENCE],
+        bytes[FRAMES],
+        FramePosition(bytes[POSITION]),
+    )
+}

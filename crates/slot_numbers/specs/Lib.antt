@@ -1,2 +1,0 @@
--- The slots' relative numbers, two a byte.
-pub mod Packed

@@ -1,2 +1,0 @@
-pub mod KindsBack
-pub mod Numbers

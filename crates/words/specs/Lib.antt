@@ -1,3 +1,0 @@
--- Numbers and kinds as bytes.
-pub mod Words
-pub mod Kinds
