@@ -1,32 +1,24 @@
--- What each exported call answers and leaves, by how the receiver's own call went. Assumes nothing.
-use Prim.Native.Nat.{ℕ, _/_, _%_, _^_, _<_, _≤_}
+-- What each call answers and leaves over its bytes, by how it went. Assumes nothing.
+use Prim.Native.Nat.{ℕ, _/_, _%_, _<_, _≤_}
 use mathlib.Core.Path.{_≡_, refl, sym, ap, _∙_}
-use mathlib.Core.Bool.{Bool, true, false, not}
+use mathlib.Core.Bool.{true, false, not}
 use mathlib.Core.List.{List, [], _∷_}
+use native.Mathlib.Decide.{ℕ-discrete}
 use native.Mathlib.Omega.{arith}
 use borrow.Author.Tests.{eq-eqb, ne-eqb, lt-ltb, le-ltb}
-use lib.ListN.{length, getD, take, drop, replicate}
-use Rattle.slices.specs.Slices.{copied, someAtLeast}
-use Rattle.slices.proofs.Front.{put}
-use Rattle.setting.specs.declared.Kind.{Kind}
+use lib.ListN.{length, replicate}
+use Rattle.slices.specs.Slices.{copied}
 use Rattle.setting.specs.Refusal.{firstOf, none}
 use Rattle.setting.specs.Rules.{pidAllowed}
 use Rattle.setting.proofs.Refusals.{answers, passed, first-none, kept, written}
 use Rattle.setting_bytes.specs.Kinds.{isKind, kindOf}
-use Rattle.setting_bytes.proofs.KindsBack.{kind-same}
-use Rattle.receiver.specs.declared.Stage.{Stage}
-use Rattle.receiver.specs.declared.Received.{Received}
-use Rattle.receiver.specs.declared.HandedOut.{HandedOut}
-use Rattle.receiver.specs.declared.Step.{Step}
-use Rattle.receiver.specs.Receiving.{waiting, startReceiverOf, receiveOf, handOutOf}
-use Rattle.receiver.specs.InPlace.{numbersLength, numbersOf, stepOf, receiveStep, receiveNumbers, receiveInto, handOutWith, handOutInto}
-use Rattle.receiver.proofs.Lent.{lent-step, lent-numbers, lent-store, lent-frame, lent-buffer, keeps, refused-keeps}
 use Rattle.setting_bytes.specs.Words.{wordBytes}
-use Rattle.receiver.specs.Stages.{receiverLength, stageBytes}
-use Rattle.receiver.specs.States.{receiverBytes, receiverOf, eventNumber}
-use Rattle.receiver.proofs.Parts.{zeros-packed, renewed-bytes, put-back, lent, lent-length, said-whole, said-numbers}
-use Rattle.receiver.proofs.Uncoded.{no-kind}
-use Rattle.receiver.specs.Calls.{startRefused, startState, receiveRefused, receiveEvent, receiveState, receiveMemory, handOutRefused, handOutPackets, handOutMemory}
+use Rattle.setting_bytes.proofs.KindsBack.{kind-same}
+use Rattle.receiver.specs.declared.HandedOut.{HandedOut}
+use Rattle.receiver.specs.Receiving.{waiting, receiveRefusal, receiveOf, receiveStore, handOutRefusal, handOutOf, handOutBuffer}
+use Rattle.receiver.specs.Bytes.{receiverLength, stageBytes, receiverBytes, receiverOf, eventNumber}
+use Rattle.receiver.specs.Calls.{lentRefusal, startRefused, startState, receiveRefused, receiveEvent, receiveState, receiveMemory, handOutRefused, handOutPackets, handOutMemory}
+use Rattle.receiver.proofs.Bytes.{zeros-packed}
 
 -- ---- start
 
@@ -56,10 +48,6 @@ module _ (state : List ℕ) (pid kind : ℕ) where
       pub start-no-kind : 1 < kind → Starts 17 state
       start-no-kind k = refused (sym (by-kind ∙ answers 17 [] (ap not (le-ltb kind 2 (omega arith))))) (λ z. omega (arith, z))
 
-      fresh : startReceiverOf (kindOf kind) pid .state ≡ waiting (kindOf kind) pid
-      unfolding startReceiverOf
-      fresh = rw p refl
-
       -- zeros, and over them PID and kind
       pub starts : kind ≤ 1 → {zeros after : List ℕ} → zeros ≡ replicate (length state) 0
           → after ≡ copied zeros (pid / 256 ∷ pid % 256 ∷ kind ∷ []) → Starts 0 after
@@ -68,18 +56,9 @@ module _ (state : List ℕ) (pid kind : ℕ) where
           let granted = sym (by-kind ∙ passed 17 [] (ap not (lt-ltb kind 2 (omega arith))) ∙ first-none none) in
           let none-yet : zeros ≡ replicate receiverLength 0 = n ∙ ap (λ (m : ℕ). replicate m 0) l in
           let bytes : receiverBytes (waiting (kindOf kind) pid) ≡ pid / 256 ∷ pid % 256 ∷ kind ∷ replicate 55 0 = rw (zeros-packed, kind-same kind (omega arith)) refl in
-          (granted, e ∙ rw none-yet (sym bytes) ∙ ap receiverBytes (sym fresh) ∙ written granted _ state refl)
+          (granted, e ∙ rw none-yet (sym bytes) ∙ written granted _ state refl)
 
 -- ---- receive
-
--- beside a number that is no kind nothing is accepted
-accepted-kind : (state p : List ℕ) (store : ℕ) → receiveOf (receiverOf state) p store .refusal ≡ 0 → isKind (getD state 2 0) ≡ true
-unfolding receiverOf
-accepted-kind state p store e = by-kind (isKind (getD state 2 0)) refl
-  where
-    by-kind : (t : Bool) → isKind (getD state 2 0) ≡ t → t ≡ true
-    by-kind true k = refl
-    by-kind false k = absurd (no-kind state k p store e)
 
 module _ (state p store : List ℕ) where
   -- what is asked of the answer, of the event, and of what the state and the store are then
@@ -88,63 +67,35 @@ module _ (state p store : List ℕ) where
       (n ≡ receiveRefused state p store)
       × ((event ≡ receiveEvent state p store) × ((after ≡ receiveState state p store) × (memory ≡ receiveMemory state p store)))
 
-  pub receive-no-state : (length state ≡ receiverLength → ⊥) → Receives 1 0 state store
-  unfolding receiveRefused receiveEvent receiveState receiveMemory
-  receive-no-state h =
-      let other = ne-eqb (length state) receiverLength h in
-      let refusal : 1 ≡ receiveRefused state p store = rw other refl in
-      (refusal, (rw other refl, (kept refusal _ state (λ z. omega (arith, z)), rw other refl)))
+  pub receive-refused : {n : ℕ} → n ≡ lentRefusal state (receiveRefusal (receiverOf state) (length p) (length store)) → (n ≡ 0 → ⊥) → Receives n 0 state store
+  unfolding lentRefusal receiveRefused receiveEvent receiveState receiveMemory receiveOf receiveStore eventNumber
+  receive-refused {n} e h = by-length (ℕ-discrete (length state) receiverLength)
+    where
+      by-length : Dec (length state ≡ receiverLength) → Receives n 0 state store
+      by-length (yes l) =
+          let same = eq-eqb (length state) receiverLength l in
+          let own : n ≡ receiveRefusal (receiverOf state) (length p) (length store) = rw same at e in
+          let no = ne-eqb _ 0 (λ z. h (own ∙ z)) in
+          let said : n ≡ receiveRefused state p store = rw (same, no) own in
+          (said, (rw (same, no) refl, (kept said _ state h, rw same (kept own _ store h))))
+      by-length (no d) =
+          let other = ne-eqb (length state) receiverLength d in
+          let said : n ≡ receiveRefused state p store = rw other (rw other at e) in
+          (said, (rw other refl, (kept said _ state h, rw other refl)))
 
-  -- the receiver's own call, over the numbers where they stand
-  module _ (l : length state ≡ receiverLength) (w : someAtLeast (2 ^ 8) state ≡ false) {pid : ℕ} {kind : Kind} {stage : Stage}
-      (i : pid ≡ receiverOf state .pid) (k : kind ≡ receiverOf state .kind) (g : stage ≡ receiverOf state .stage)
-      {step : Step} (s : step ≡ receiveStep pid kind stage (lent state l) p (length store))
-      {after : List ℕ} (a : after ≡ receiveNumbers pid kind stage (lent state l) p (length store))
-      {memory : List ℕ} (m : memory ≡ receiveInto pid kind stage (lent state l) p store) where
-    abbrev r : Received
-    r = receiveOf (receiverOf state) p (length store)
+  module _ (l : length state ≡ receiverLength) (e : receiveRefusal (receiverOf state) (length p) (length store) ≡ 0) where
+    granted : 0 ≡ receiveOf (receiverOf state) p (length store) .refusal
+    unfolding receiveOf
+    granted = rw (eq-eqb _ 0 e) refl
 
-    answered : step ≡ stepOf r
-    answered = lent-step (receiverOf state) (lent state l) (lent-length state l) (said-whole state l) p (length store) (rw (i, k, g) at s)
-
-    left : after ≡ numbersOf (r .state)
-    left = lent-numbers (receiverOf state) (lent state l) (lent-length state l) (said-whole state l) p (length store) (rw (i, k, g) at a)
-
-    stored : memory ≡ receiveMemory state p store
-    unfolding receiveMemory
-    stored = rw (eq-eqb _ _ l) (lent-store (receiverOf state) (lent state l) (lent-length state l) (said-whole state l) p store (rw (i, k, g) at m))
-
-    refusal : step .refusal ≡ receiveRefused state p store
-    unfolding receiveRefused stepOf
-    refusal = rw (eq-eqb _ _ l) (ap (λ (t : Step). t .refusal) answered)
-
-    said-event : (event : ℕ) → event ≡ eventNumber (step .event) → event ≡ receiveEvent state p store
-    unfolding receiveEvent stepOf
-    said-event event v = rw (eq-eqb _ _ l) (v ∙ ap (λ (t : Step). eventNumber (t .event)) answered)
-
-    pub receive-refused : (event : ℕ) → event ≡ eventNumber (step .event) → (step .refusal ≡ 0 → ⊥) → Receives (step .refusal) event (put 6 numbersLength state after) memory
-    unfolding receiveState stepOf
-    receive-refused event v h =
-        let same : after ≡ drop 6 state = left ∙ ap numbersOf (refused-keeps (receiverOf state) p (length store) (λ z. h (ap (λ (t : Step). t .refusal) answered ∙ z))) ∙ said-numbers state l w in
-        let back : put 6 numbersLength state after ≡ state = ap (put 6 numbersLength state) same ∙ put-back state l in
-        (refusal, (said-event event v, (back ∙ kept refusal _ state h, stored)))
-
-    pub receives : (event : ℕ) → event ≡ eventNumber (step .event) → step .refusal ≡ 0 → (three : List ℕ)
-        → three ≡ copied (take 3 (drop 3 (put 6 numbersLength state after))) (stageBytes (step .stage))
-        → Receives 0 event (put 3 3 (put 6 numbersLength state after) three) memory
-    unfolding receiveState stepOf
-    receives event v z three b =
-        let same = keeps (receiverOf state) p (length store) in
-        let kind = accepted-kind state p (length store) (sym (ap (λ (t : Step). t .refusal) answered) ∙ z) in (
-          sym z ∙ refusal,
-          (
-            said-event event v,
-            (
-              renewed-bytes (r .state) state l w kind (same .pid) (same .kind) (ap (λ (t : Step). t .stage) answered) left b ∙ written refusal _ state z,
-              stored,
-            ),
-          ),
-        )
+    pub receives : {event : ℕ} {after memory : List ℕ} → event ≡ eventNumber (receiveOf (receiverOf state) p (length store) .event)
+        → after ≡ receiverBytes (receiveOf (receiverOf state) p (length store) .state) → memory ≡ receiveStore (receiverOf state) p store
+        → Receives 0 event after memory
+    unfolding lentRefusal receiveRefused receiveEvent receiveState receiveMemory
+    receives v a m =
+        let same = eq-eqb (length state) receiverLength l in
+        let said : 0 ≡ receiveRefused state p store = rw same granted in
+        (said, (rw same v, (a ∙ written said _ state refl, rw same m)))
 
 -- ---- hand out
 
@@ -155,22 +106,22 @@ module _ (state : List ℕ) (r : ℕ) (store out : List ℕ) where
       (n ≡ handOutRefused state r store out)
       × ((packets ≡ handOutPackets state r store out) × (buffer ≡ handOutMemory state r store out))
 
-  pub hand-no-state : (length state ≡ receiverLength → ⊥) → Hands 1 0 out
-  unfolding handOutRefused handOutPackets handOutMemory
-  hand-no-state h =
-      let other = ne-eqb (length state) receiverLength h in
-      (rw other refl, (rw other refl, rw other refl))
+  pub hand-refused : {n : ℕ} → n ≡ lentRefusal state (handOutRefusal (receiverOf state) r (length store) (length out)) → (n ≡ 0 → ⊥) → Hands n 0 out
+  unfolding lentRefusal handOutRefused handOutPackets handOutMemory handOutOf handOutBuffer
+  hand-refused {n} e h = by-length (ℕ-discrete (length state) receiverLength)
+    where
+      by-length : Dec (length state ≡ receiverLength) → Hands n 0 out
+      by-length (yes l) =
+          let same = eq-eqb (length state) receiverLength l in
+          let own : n ≡ handOutRefusal (receiverOf state) r (length store) (length out) = rw same at e in
+          (rw same own, (rw (same, ne-eqb _ 0 (λ z. h (own ∙ z))) refl, rw same (kept own _ out h)))
+      by-length (no d) =
+          let other = ne-eqb (length state) receiverLength d in
+          (rw other (rw other at e), (rw other refl, rw other refl))
 
-  pub hands : (l : length state ≡ receiverLength) {pid : ℕ} {stage : Stage} → pid ≡ receiverOf state .pid → stage ≡ receiverOf state .stage
-      → (t : HandedOut) → t ≡ handOutWith pid stage (lent state l) r (length store) (length out)
-      → (buffer : List ℕ) → buffer ≡ handOutInto pid stage (lent state l) r store out → Hands (t .refusal) (t .packets) buffer
-  unfolding handOutRefused handOutPackets handOutMemory
-  hands l i g t q buffer b =
-      let said : t ≡ handOutOf (receiverOf state) r (length store) (length out) =
-      lent-frame (receiverOf state) (lent state l) (lent-length state l) (said-whole state l) r (length store) (length out) (rw (i, g) at q) in (
-        rw (eq-eqb _ _ l) (ap (λ (u : HandedOut). u .refusal) said),
-        (
-          rw (eq-eqb _ _ l) (ap (λ (u : HandedOut). u .packets) said),
-          rw (eq-eqb _ _ l) (lent-buffer (receiverOf state) (lent state l) (lent-length state l) (said-whole state l) r store out (rw (i, g) at b)),
-        ),
-      )
+  pub hands : length state ≡ receiverLength → {t : HandedOut} {buffer : List ℕ} → t ≡ handOutOf (receiverOf state) r (length store) (length out)
+      → buffer ≡ handOutBuffer (receiverOf state) r store out → Hands (t .refusal) (t .packets) buffer
+  unfolding lentRefusal handOutRefused handOutPackets handOutMemory
+  hands l q b =
+      let same = eq-eqb (length state) receiverLength l in
+      (rw same (ap (λ (u : HandedOut). u .refusal) q), (rw same (ap (λ (u : HandedOut). u .packets) q), rw same b))

@@ -12,8 +12,7 @@ use Rattle.setting_bytes.proofs.KindsBack.{kind-back, kind-is}
 use Rattle.receiver.specs.Packed.{packedLength, packed}
 use Rattle.receiver.proofs.Packing.{length-packed, unpacked-packed}
 use Rattle.receiver.specs.declared.Stage.{Stage}
-use Rattle.receiver.specs.Stages.{stageBytes, stageOf}
-use Rattle.receiver.specs.States.{receiverBytes, receiverOf}
+use Rattle.receiver.specs.Bytes.{stageBytes, stageOf, receiverBytes, receiverOf}
 use Rattle.receiver.specs.Demands.{StateBack}
 
 -- a stage's three bytes, and the stage back from them

@@ -1,12 +1,12 @@
 pub mod Rows
 pub mod Packing
-pub mod Lent
-pub mod LentRefusal
 pub mod ReceiverChecks
 pub mod Sorts
 pub mod Store
-pub mod Answers
+pub mod LentRefusal
+pub mod Refused
+pub mod Standing
+pub mod Bytes
 pub mod Coding
-pub mod Parts
-pub mod Storing
+pub mod Answers
 pub mod Uncoded

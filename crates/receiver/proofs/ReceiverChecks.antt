@@ -7,9 +7,8 @@ use Rattle.slices.specs.Slices.{someAtLeast}
 use Rattle.setting.specs.Refusal.{Check, firstOf, NoneHolds}
 use Rattle.setting.proofs.Refusals.{first-none, numbered, numbered-append}
 use Rattle.receiver.specs.declared.Stage.{Stage}
-use Rattle.receiver.specs.declared.Receiver.{Receiver}
 use Rattle.receiver.specs.Table.{stageChecks}
-use Rattle.receiver.specs.Receiving.{receiverChecks}
+use Rattle.receiver.specs.Receiving.{Receiver, receiverChecks}
 
 -- checks that do not hold add nothing behind others
 pub none-more : (cs : List Check) {ds : List Check} → NoneHolds ds → firstOf (cs ++ ds) ≡ firstOf cs

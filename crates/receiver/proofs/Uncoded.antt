@@ -1,27 +1,23 @@
 -- Bytes that code no state are refused with 17. Assumes nothing.
 use Prim.Native.Nat.{ℕ, zero, suc}
-use mathlib.Core.Path.{_≡_, refl, sym, ap, subst, _∙_}
+use mathlib.Core.Path.{_≡_, refl, ap, _∙_}
 use mathlib.Core.Bool.{Bool, true, false, cond, not, _&&_, true≢false}
 use mathlib.Core.List.{List, [], _∷_}
 use native.Mathlib.Omega.{arith}
-use borrow.Author.Tests.{eq-eqb, ne-eqb, eqb-true}
+use borrow.Author.Tests.{eq-eqb, ne-eqb}
 use lib.Dec.{eqb}
 use lib.ListN.{length, getD}
-use Rattle.setting.specs.Refusal.{firstOf, NoneHolds}
+use Rattle.setting.specs.Refusal.{firstOf}
 use Rattle.setting.specs.Rules.{pidAllowed}
-use Rattle.setting.proofs.Refusals.{passed, at-once, none-first, none-at, none-before, none-behind}
+use Rattle.setting.proofs.Refusals.{passed, at-once}
 use Rattle.packet.specs.Packets.{packetLength}
 use Rattle.setting_bytes.specs.Kinds.{isKind}
 use Rattle.receiver.specs.declared.Stage.{Stage}
-use Rattle.receiver.specs.declared.Receiver.{Receiver}
-use Rattle.receiver.specs.declared.Received.{Received}
 use Rattle.receiver.specs.Store.{storeLength}
 use Rattle.receiver.specs.Table.{stageChecks}
-use Rattle.receiver.specs.Receiving.{receiverChecks, receiveRefusal, handOutRefusal, receiveOf, handOutOf}
-use Rattle.receiver.proofs.ReceiverChecks.{receiver-numbered}
-use Rattle.receiver.specs.Stages.{noStage, stageOf}
-use Rattle.receiver.specs.States.{isStage, isCoded, receiverOf}
-use Rattle.receiver.specs.Calls.{receiveRefused, handOutRefused}
+use Rattle.receiver.specs.Receiving.{Receiver, receiverChecks, receiveRefusal, handOutRefusal, receiveOf, handOutOf}
+use Rattle.receiver.specs.Bytes.{kindAt, stageAt, counterAt, storedAt, noStage, stageOf, isStage, isCoded, receiverOf}
+use Rattle.receiver.specs.Calls.{lentRefusal, receiveRefused, handOutRefused}
 use Rattle.receiver.specs.Demands.{UncodedRefused}
 
 -- ---- the stage
@@ -50,7 +46,7 @@ by-kind false staged stage e h = refl
 
 uncoded : (state : List ℕ) → isCoded state ≡ false → receiverOf state .stage ≡ noStage
 unfolding isCoded receiverOf
-uncoded state e = by-kind (isKind (getD state 2 0)) _ _ e (no-stage (getD state 3 0) (getD state 4 0) (getD state 5 0))
+uncoded state e = by-kind (isKind (getD state kindAt 0)) _ _ e (no-stage (getD state stageAt 0) (getD state counterAt 0) (getD state storedAt 0))
 
 -- ---- the calls
 
@@ -74,29 +70,8 @@ module _ (c : Receiver) (p : pidAllowed (c .pid) ≡ true) (s : c .stage ≡ noS
         let refused = receiver-refused in
         passed 1 _ (ap not (eq-eqb _ _ l)) ∙ at-once (receiverChecks c) _ (λ z. omega (arith, refused, z)) ∙ receiver-refused
 
--- nothing is accepted beside a number that is no kind
-none-accepted : (c : Receiver) (packet store : ℕ) → c .stage ≡ noStage → receiveRefusal c packet store ≡ 0 → ⊥
-unfolding receiveRefusal receiverChecks stageChecks
-none-accepted c packet store s e =
-    let all = none-first ((1, not (eqb packet packetLength)) ∷ (1, not (eqb store storeLength)) ∷ receiverChecks c) (receiver-numbered c) e in
-    let stage = subst (λ (t : Stage). NoneHolds (stageChecks t)) s (none-before (stageChecks (c .stage)) _ (none-behind ((1, not (eqb packet packetLength)) ∷ (1, not (eqb store storeLength)) ∷ (2, not (pidAllowed (c .pid))) ∷ []) all)) in
-    true≢false (none-at stage 0)
-
-by-refusal : (n : ℕ) (new old : Received) → old .refusal ≡ n → cond (eqb n 0) new old .refusal ≡ 0 → n ≡ 0
-by-refusal n new old o e = by-test (eqb n 0) refl e
-  where
-    by-test : (t : Bool) → eqb n 0 ≡ t → cond t new old .refusal ≡ 0 → n ≡ 0
-    by-test true k e = eqb-true n 0 k
-    by-test false k e = sym o ∙ e
-
-pub no-kind : (state : List ℕ) → isKind (getD state 2 0) ≡ false → (p : List ℕ) (store : ℕ) → receiveOf (receiverOf state) p store .refusal ≡ 0 → ⊥
-unfolding receiveOf receiverOf
-no-kind state k p store e =
-    none-accepted (receiverOf state) (length p) store (ap (λ (t : Bool). cond t (stageOf (getD state 3 0) (getD state 4 0) (getD state 5 0)) noStage) k)
-    (by-refusal (receiveRefusal (receiverOf state) (length p) store) _ _ refl e)
-
 pub uncoded-refused : UncodedRefused
-unfolding receiveRefused handOutRefused receiverOf
+unfolding receiveRefused handOutRefused lentRefusal receiverOf
 uncoded-refused state store l p e m =
     let none = uncoded state e in (
       λ packet q. rw (eq-eqb _ _ l) (receive-refused (receiverOf state) p none (length store) m packet q),

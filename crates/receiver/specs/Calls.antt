@@ -1,4 +1,4 @@
--- What each exported call answers and leaves: the receiver's own call under the coding of its state.
+-- What each call answers and leaves, over the bytes that it is lent.
 use Prim.Native.Nat.{ℕ}
 use mathlib.Core.Bool.{cond, not}
 use mathlib.Core.List.{List, [], _∷_}
@@ -7,9 +7,8 @@ use lib.ListN.{length}
 use Rattle.setting.specs.Refusal.{firstOf, leaves}
 use Rattle.setting.specs.Rules.{pidAllowed}
 use Rattle.setting_bytes.specs.Kinds.{isKind, kindOf}
-use Rattle.receiver.specs.Receiving.{startReceiverOf, receiveOf, receiveStore, handOutOf, handOutBuffer}
-use Rattle.receiver.specs.Stages.{receiverLength}
-use Rattle.receiver.specs.States.{receiverBytes, receiverOf, eventNumber}
+use Rattle.receiver.specs.Receiving.{waiting, receiverChecks, receiveOf, receiveStore, handOutOf, handOutBuffer}
+use Rattle.receiver.specs.Bytes.{receiverLength, receiverBytes, receiverOf, eventNumber}
 
 -- start: 1, 2, and 17 for a number that is no kind
 unfoldable pub startRefused : List ℕ → ℕ → ℕ → ℕ
@@ -17,12 +16,19 @@ startRefused state pid kind =
     firstOf ((1, not (eqb (length state) receiverLength)) ∷ (2, not (pidAllowed pid)) ∷ (17, not (isKind kind)) ∷ [])
 
 unfoldable pub startState : List ℕ → ℕ → ℕ → List ℕ
-startState state pid kind = leaves (startRefused state pid kind) (receiverBytes (startReceiverOf (kindOf kind) pid .state)) state
+startState state pid kind = leaves (startRefused state pid kind) (receiverBytes (waiting (kindOf kind) pid)) state
 
--- receive: 1 for a state of another length, else what `receive` answers and leaves
+-- 1 for a state of another length, else the refusal that the state says
+unfoldable pub lentRefusal : List ℕ → ℕ → ℕ
+lentRefusal state refusal = cond (eqb (length state) receiverLength) refusal 1
+
+-- what every call asks of a state: its length, its PID and its numbers
+unfoldable pub stateRefused : List ℕ → ℕ
+stateRefused state = lentRefusal state (firstOf (receiverChecks (receiverOf state)))
+
+-- receive: 1 for a state of another length, else what a receipt comes to by the state that the bytes say
 unfoldable pub receiveRefused : List ℕ → List ℕ → List ℕ → ℕ
-receiveRefused state p store =
-    cond (eqb (length state) receiverLength) (receiveOf (receiverOf state) p (length store) .refusal) 1
+receiveRefused state p store = lentRefusal state (receiveOf (receiverOf state) p (length store) .refusal)
 
 unfoldable pub receiveEvent : List ℕ → List ℕ → List ℕ → ℕ
 receiveEvent state p store =
@@ -35,10 +41,9 @@ receiveState state p store =
 unfoldable pub receiveMemory : List ℕ → List ℕ → List ℕ → List ℕ
 receiveMemory state p store = cond (eqb (length state) receiverLength) (receiveStore (receiverOf state) p store) store
 
--- hand out: 1 for a state of another length, else what `hand_out` answers and leaves
+-- hand out: 1 for a state of another length, else what it comes to by the state that the bytes say
 unfoldable pub handOutRefused : List ℕ → ℕ → List ℕ → List ℕ → ℕ
-handOutRefused state r store out =
-    cond (eqb (length state) receiverLength) (handOutOf (receiverOf state) r (length store) (length out) .refusal) 1
+handOutRefused state r store out = lentRefusal state (handOutOf (receiverOf state) r (length store) (length out) .refusal)
 
 unfoldable pub handOutPackets : List ℕ → ℕ → List ℕ → List ℕ → ℕ
 handOutPackets state r store out =

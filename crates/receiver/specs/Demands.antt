@@ -7,10 +7,9 @@ use lib.ListN.{length}
 use Rattle.setting.specs.Rules.{pidAllowed}
 use Rattle.packet.specs.Packets.{packetLength}
 use Rattle.setting_bytes.specs.Words.{wordAt}
-use Rattle.receiver.specs.declared.Receiver.{Receiver}
+use Rattle.receiver.specs.Receiving.{Receiver}
 use Rattle.receiver.specs.Store.{storeLength}
-use Rattle.receiver.specs.Stages.{receiverLength}
-use Rattle.receiver.specs.States.{receiverBytes, receiverOf, Codable, isCoded}
+use Rattle.receiver.specs.Bytes.{receiverLength, pidAt, receiverBytes, receiverOf, Codable, isCoded}
 use Rattle.receiver.specs.Calls.{receiveRefused, handOutRefused}
 
 -- decoding what was encoded gives the value back
@@ -23,7 +22,7 @@ abbrev pub UncodedRefused : Type 0
 UncodedRefused =
     (state store : List ℕ)
     → length state ≡ receiverLength
-    → pidAllowed (wordAt 0 state) ≡ true
+    → pidAllowed (wordAt pidAt state) ≡ true
     → isCoded state ≡ false
     → length store ≡ storeLength
     → ((p : List ℕ) → length p ≡ packetLength → receiveRefused state p store ≡ 17)

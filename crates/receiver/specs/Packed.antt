@@ -1,12 +1,12 @@
 -- The slots' relative numbers as a header has them: four bits each, the first slot's in the high half of the first byte.
-use Prim.Native.Nat.{ℕ}
+use Prim.Native.Nat.{ℕ, _*_, _/_}
 use mathlib.Core.List.{List}
 use Rattle.bits.specs.Fields.{run, cut}
 use Rattle.counters.specs.Counters.{lastSlot}
 
 -- how many bytes the numbers of slots 1 to 52 take
 abbrev pub packedLength : ℕ
-packedLength = 26
+packedLength = lastSlot * 4 / 8
 
 -- the numbers in bytes
 unfoldable pub packed : List ℕ → List ℕ

@@ -14,16 +14,28 @@ use Rattle.packet.specs.Packets.{packetLength}
 use Rattle.receiver.specs.declared.Stage.{Stage}
 use Rattle.receiver.specs.declared.Event.{Event}
 use Rattle.receiver.specs.declared.Row.{Row}
-use Rattle.receiver.specs.declared.Receiver.{Receiver}
-use Rattle.receiver.specs.declared.Started.{Started}
-use Rattle.receiver.specs.declared.Received.{Received}
 use Rattle.receiver.specs.declared.HandedOut.{HandedOut}
 use Rattle.receiver.specs.Store.{storeLength, numbered, slotsFor}
 use Rattle.receiver.specs.Table.{Sort, good, broken, other, rowOf, stageChecks, isReady}
 use Rattle.receiver.specs.Arriving.{sortOf, storeAfter}
 
--- ---- the state
+-- ---- the state, and what a packet's receipt comes to
 
+-- the slots' numbers are those of the open frame's header, and those of the header before it
+pub record Receiver : Type 0 where
+  pub pid : ℕ
+  pub kind : Kind
+  pub stage : Stage
+  pub numbers : List ℕ
+  pub before : List ℕ
+
+-- refusal 0, the event and the new state; or the refusal's number, nothing and the state as it was
+pub record Received : Type 0 where
+  pub refusal : ℕ
+  pub event : Event
+  pub state : Receiver
+
+-- a fresh one
 unfoldable pub waiting : Kind → ℕ → Receiver
 waiting kind pid =
     record { pid = pid; kind = kind; stage = Stage.Waiting; numbers = replicate lastSlot 0; before = replicate lastSlot 0 }
@@ -63,14 +75,6 @@ handOutRefusal c r store out =
     ∷ [])))
 
 -- ---- the calls
-
--- a refused start gives the fresh plain state of PID 0
-unfoldable pub startReceiverOf : Kind → ℕ → Started
-startReceiverOf kind pid =
-    record {
-      refusal = firstOf ((2, not (pidAllowed pid)) ∷ []);
-      state = cond (pidAllowed pid) (waiting kind pid) (waiting Kind.Plain 0);
-    }
 
 -- the row that a packet takes
 unfoldable pub rowFor : Receiver → List ℕ → Row

@@ -1,14 +1,15 @@
 -- The receiver's store: the packets of slots 1 to 52, and those with one number.
-use Prim.Native.Nat.{ℕ, _+_}
+use Prim.Native.Nat.{ℕ, _+_, _*_}
 use mathlib.Core.Bool.{cond}
 use mathlib.Core.List.{List, [], _∷_, _++_}
 use lib.Dec.{eqb}
 use lib.ListN.{take, drop}
+use Rattle.counters.specs.Counters.{lastSlot}
 use Rattle.packet.specs.Packets.{packetLength}
 
--- 52 packets
+-- a packet for each slot but the header's
 abbrev pub storeLength : ℕ
-storeLength = 9776
+storeLength = packetLength * lastSlot
 
 -- the packets with number r, in slot order
 unfoldable pub numbered : ℕ → List ℕ → List ℕ → List ℕ

@@ -1,7 +1,67 @@
-// The slots' relative numbers as a header has them, two a byte: what is said in specs/, and what the receiver's proofs need of it in
-// proofs/. Any bytes are numbers of streams or 0, so that there is nothing to be refused in them.
-// The receiver for callers in other languages, of which each call has its crate: what they answer and leave, and its laws.
+// The receiver: where it stands, what a packet does to it, and where its state has its parts. The state is 58 bytes that the caller lends,
+// from Rattle as from C; the packets stand in a lent store, slot i at 188 × (i − 1). What each call answers and leaves is said in specs/.
+use packet::PACKET_BYTES;
 use setting::SLOTS;
 
-// How many bytes the numbers of all slots take.
+pub mod events;
+
+// Where a receiver stands.
+pub enum Stage {
+    // No frame is open.
+    Waiting,
+    // A frame is open: its header's counter, and how many packets are stored.
+    Open(u8, u8),
+    // A frame with this counter was just opened, nothing of it is stored, and the frame before it is ready.
+    Ready(u8),
+}
+
+// What a packet did, by the receiver's table.
+pub enum Event {
+    // Nothing: the receiver waits, or the call was refused.
+    Nothing,
+    Opened,
+    Stored,
+    // The frame before is ready, and a new one opened.
+    Ready,
+    // The frame before is dropped, and a new one opened: it had less than 52 packets, or the counter did not step by one.
+    Short,
+    Jump,
+    // The open frame is dropped: by a 53rd packet, or by a broken one.
+    Long,
+    Broken,
+}
+
+// A row of the receiver's table: what happened, and where the receiver stands then.
+pub struct Row {
+    pub event: Event,
+    pub stage: Stage,
+}
+
+// What handing out comes to: refusal 0 and how many packets, or the refusal's number and 0.
+pub struct HandedOut {
+    pub refusal: u8,
+    pub packets: usize,
+}
+
+// The bytes of the store: a packet for each slot but the header's.
+pub const STORE_BYTES: usize = PACKET_BYTES * SLOTS;
+
+// How many bytes the numbers of all slots take, two a byte as a header has them.
 pub const PACKED_BYTES: usize = SLOTS * 4 / 8;
+
+// Where a state has its parts: behind the PID the kind; the stage, with the open frame's counter and how many packets of it are stored; the
+// slots' numbers by the open frame's header, and by the header before it.
+pub const KIND: usize = 2;
+
+pub const STAGE: usize = KIND + 1;
+
+pub const COUNTER: usize = STAGE + 1;
+
+pub const STORED: usize = COUNTER + 1;
+
+pub const NUMBERS: usize = STORED + 1;
+
+pub const BEFORE: usize = NUMBERS + PACKED_BYTES;
+
+// How many bytes a state takes.
+pub const RECEIVER_BYTES: usize = BEFORE + PACKED_BYTES;

@@ -6,9 +6,8 @@ use lib.Dec.{eqb}
 use Rattle.counters.specs.Counters.{firstStream, lastStream, within}
 use Rattle.setting.specs.Refusal.{Check}
 use Rattle.receiver.specs.Table.{isReady}
-use Rattle.receiver.specs.declared.Receiver.{Receiver}
 use Rattle.receiver.specs.Store.{storeLength}
-use Rattle.receiver.specs.Receiving.{receiverChecks}
+use Rattle.receiver.specs.Receiving.{Receiver, receiverChecks}
 
 -- all but 15, in the table's order
 unfoldable pub readyChecks : Receiver → ℕ → ℕ → List Check

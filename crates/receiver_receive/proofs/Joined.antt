@@ -17,14 +17,13 @@ use Rattle.header_layout.proofs.LaidOut.{laid-out}
 use Rattle.packet.specs.Packets.{packetLength}
 use Rattle.receiver.specs.Packed.{packedLength, packed, unpacked}
 use Rattle.receiver.proofs.Packing.{packed-unpacked}
-use Rattle.receiver.specs.InPlace.{numbersLength}
 
 -- a part of the numbers copied over as many zeros
 pub copied-part : (b : List ℕ) (i k : ℕ) → i + packedLength ≤ length b → k ≡ packedLength → copied (replicate packedLength 0) (take k (drop i b)) ≡ take packedLength (drop i b)
 copied-part b i k h e =
     rw e (copied-over _ _ (length-replicate {A = ℕ} packedLength 0 ∙ sym (length-take-le packedLength (drop i b) (rw length-drop (omega arith)))))
 
-pub joined : (ns a b : List ℕ) → length ns ≡ numbersLength → length a ≡ packedLength → length b ≡ packedLength
+pub joined : (ns a b : List ℕ) → length ns ≡ (packedLength + packedLength) → length a ≡ packedLength → length b ≡ packedLength
     → {x y : List ℕ} → x ≡ copied (take packedLength (drop 0 ns)) a → y ≡ copied (take packedLength (drop packedLength (put 0 packedLength ns x))) b
     → put packedLength packedLength (put 0 packedLength ns x) y ≡ a ++ b
 joined ns a b l m n {x} {y} e f =
@@ -35,7 +34,7 @@ joined ns a b l m n {x} {y} e f =
     let into₂ : length (take packedLength (drop packedLength (put 0 packedLength ns x))) ≡ packedLength =
     length-take-le packedLength (drop packedLength (put 0 packedLength ns x)) (rw length-drop (omega (arith, kept, l))) in
     let second : y ≡ b = f ∙ copied-over (take packedLength (drop packedLength (put 0 packedLength ns x))) b (into₂ ∙ sym n) in
-    front-all ns (x ++ y) _ numbersLength (front-part ns x _ y packedLength packedLength fronted (ap length second ∙ n)) (omega (arith, l))
+    front-all ns (x ++ y) _ (packedLength + packedLength) (front-part ns x _ y packedLength packedLength fronted (ap length second ∙ n)) (omega (arith, l))
     ∙ ap₂ (λ (u v : List ℕ). u ++ v) first second
 
 numbers-said : (kind : Kind) (p : List ℕ) → length p ≡ packetLength → unpacked (take packedLength (drop 73 p)) ≡ reading kind p .«relative_ts_number»

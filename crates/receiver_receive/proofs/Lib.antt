@@ -1,5 +1,4 @@
-mod Arrived
 mod Joined
 mod Receipts
 mod Sorts
-mod Steps
+mod Taking

@@ -2,24 +2,21 @@
 use Prim.Native.Nat.{ℕ}
 use mathlib.Core.Path.{_≡_, refl, sym, ap, _∙_}
 use mathlib.Core.Bool.{true, not}
-use mathlib.Core.List.{List, _∷_}
-use borrow.Author.Tests.{eq-eqb, ne-eqb, eqb-true, not-false}
+use mathlib.Core.List.{List, [], _∷_}
+use borrow.Author.Tests.{eq-eqb, eqb-true, not-false}
 use lib.Dec.{eqb}
 use lib.ListN.{length}
 use Rattle.setting.specs.declared.Setting.{Setting}
-use Rattle.setting.specs.Refusal.{NoneHolds}
-use Rattle.setting.proofs.Refusals.{none-first, none-at, kept, written}
+use Rattle.setting.specs.Refusal.{firstOf, NoneHolds}
+use Rattle.setting.proofs.Refusals.{first-none, none-first, none-at, none-behind, written}
 use Rattle.header_layout.specs.Header.{reading}
 use Rattle.packet.specs.Packets.{packetLength, unfit}
-use Rattle.receiver.specs.declared.Event.{Event}
 use Rattle.receiver.specs.declared.Row.{Row}
 use Rattle.receiver.specs.Table.{Sort, good, broken, other, rowOf}
 use Rattle.receiver.proofs.Rows.{other-counter, broken-counter}
-use Rattle.receiver.specs.declared.Received.{Received}
-use Rattle.receiver.specs.declared.Receiver.{Receiver}
 use Rattle.receiver.specs.Store.{storeLength}
 use Rattle.receiver.specs.Arriving.{sortOf, storeAfter}
-use Rattle.receiver.specs.Receiving.{rowFor, moved, renumbered, receiverAfter, receiverChecks, receiveRefusal, receiveOf, receiveStore}
+use Rattle.receiver.specs.Receiving.{Receiver, Received, rowFor, moved, renumbered, receiverAfter, receiverChecks, receiveRefusal, receiveOf, receiveStore}
 use Rattle.receiver.proofs.ReceiverChecks.{receiver-numbered}
 use Rattle.receiver_receive.proofs.Sorts.{not-stored}
 
@@ -35,6 +32,9 @@ module _ (c : Receiver) (packet store : ℕ) (e : receiveRefusal c packet store 
   pub whole-store : store ≡ storeLength
   whole-store = eqb-true store storeLength (not-false _ (none-at received-none 1))
 
+  pub sound-state : firstOf (receiverChecks c) ≡ 0
+  sound-state = first-none (none-behind ((1, not (eqb packet packetLength)) ∷ (1, not (eqb store storeLength)) ∷ []) received-none)
+
 -- ---- what it answers and leaves
 
 module _ (c : Receiver) (p : List ℕ) (store : ℕ) where
@@ -48,10 +48,6 @@ module _ (c : Receiver) (p : List ℕ) (store : ℕ) where
   -- and one that takes what a header says
   abbrev pub renumbering : Row → Setting → Received
   renumbering row said = record { refusal = 0; event = row .event; state = renumbered c (row .stage) (said .«relative_ts_number») }
-
-  pub refused-receipt : {n : ℕ} → n ≡ refusal → (n ≡ 0 → ⊥) → record { refusal = n; event = Event.Nothing; state = c } ≡ receiveOf c p store
-  unfolding receiveOf
-  refused-receipt {n} e h = rw (sym e, ne-eqb n 0 h) refl
 
   module _ (e : refusal ≡ 0) where
     taken-receipt : {s : Sort} → sortOf (c .kind) (c .pid) p ≡ s
@@ -80,10 +76,6 @@ module _ (c : Receiver) (p : List ℕ) (store : ℕ) where
           ap (λ (w : Row). renumbering w said) r ∙ ap (λ (u : Setting). renumbering (rowOf (c .stage) good (u .«continuity_counter»)) u) t ∙ sym (taken-receipt s)
 
 module _ (c : Receiver) (p store : List ℕ) where
-  pub refused-store : {n : ℕ} → n ≡ receiveRefusal c (length p) (length store) → (n ≡ 0 → ⊥) → store ≡ receiveStore c p store
-  unfolding receiveStore
-  refused-store e h = kept e _ store h
-
   module _ (e : receiveRefusal c (length p) (length store) ≡ 0) where
     pub other-store : sortOf (c .kind) (c .pid) p ≡ other → {after : List ℕ} → after ≡ storeAfter (c .stage) other p store → after ≡ receiveStore c p store
     unfolding receiveStore

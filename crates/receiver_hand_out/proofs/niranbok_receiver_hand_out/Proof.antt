@@ -1,66 +1,82 @@
--- `niranbok_receiver_hand_out` meets its contract: the receiver's own call. Assumes nothing.
-use mathlib.Core.Path.{_∙_}
+-- `niranbok_receiver_hand_out` meets its contract: it is refused, or the packets stand at the front of the buffer. Assumes nothing.
+use mathlib.Core.Path.{_≡_, refl}
+use native.Mathlib.Omega.{arith}
 use borrow.Author.Needs.{needs}
-use Rattle.receiver.proofs.Parts.{said-pid, said-stage}
-use Rattle.receiver.proofs.Answers.{hand-no-state, hands}
+use lib.ListN.{length, drop, length-drop}
+use lib.Seq.{length-take-le}
+use Rattle.setting.specs.Refusal.{firstOf}
+use Rattle.receiver.specs.Packed.{packedLength}
+use Rattle.receiver.specs.Bytes.{beforeAt, receiverLength, receiverOf}
+use Rattle.receiver.proofs.LentRefusal.{lent-accepted}
+use Rattle.receiver.proofs.Answers.{hand-refused, hands}
+use Rattle.receiver_hand_out.specs.Ready.{readyChecks}
+use Rattle.receiver_hand_out.proofs.Frames.{state-first, refused-before, handed-store, handed-number, handed-frame, handed-buffer}
 use Rattle.receiver_hand_out.proofs.niranbok_receiver_hand_out.Statement.{statement}
 use Rattle.receiver_hand_out.proofs.niranbok_receiver_hand_out.Tie as tie
 
+abbrev start : tie.Else1 → tie.Start
+start c = c .before .before .before .before .before
+
+accepted : (c : tie.Else1)
+    → (length (start c .args .state .now) ≡ receiverLength)
+    × (firstOf (readyChecks (receiverOf (start c .args .state .now)) (start c .args .r) (length (start c .args .store .now))) ≡ 0)
+accepted c = lent-accepted (start c .args .state .now) _ (c .before .ready-refusal .ensures) (c .if1 .left)
+
+
+ready-refusal-requires : tie.Need-ready-refusal-requires
+ready-refusal-requires c κs = search needs
+
 returns : tie.Need-returns
 returns c =
-    let a = c .before .before .before .before .args in
-    hand-no-state (a .state .now) (a .r) (a .store .now) (a .out .now) (c .if1 .taken)
+    let call = c .before in
+    let a = call .before .before .before .before .args in
+    let w = receiverOf (a .state .now) in
+    hand-refused (a .state .now) (a .r) (a .store .now) (a .out .now)
+    (state-first (a .state .now) _ _ (call .ready-refusal .ensures) (c .if1 .taken) (refused-before w (a .r) (length (a .store .now)) (length (a .out .now))))
+    (c .if1 .taken)
 
-shared-slice-read-word : tie.Need-shared-slice-read-word
-shared-slice-read-word c = search needs
+sub-hand-out : tie.Need-sub-hand-out
+sub-hand-out c = search needs
 
-shared-slice-read-word-2 : tie.Need-shared-slice-read-word-2
-shared-slice-read-word-2 c = search needs
+part-hand-out-start : tie.Need-part-hand-out-start
+part-hand-out-start c = search needs
 
-word-requires : tie.Need-word-requires
-word-requires c κs = search needs
+part-hand-out-end : tie.Need-part-hand-out-end
+part-hand-out-end c = omega (arith, accepted (c .before) .0)
 
-stage-in-requires : tie.Need-stage-in-requires
-stage-in-requires c κs = search needs
-
-sub-hand-out-in-place : tie.Need-sub-hand-out-in-place
-sub-hand-out-in-place c = search needs
-
-part-hand-out-in-place-start : tie.Need-part-hand-out-in-place-start
-part-hand-out-in-place-start c = search needs
-
-part-hand-out-in-place-end : tie.Need-part-hand-out-in-place-end
-part-hand-out-in-place-end c = search needs
-
-hand-out-in-place-requires : tie.Need-hand-out-in-place-requires
-hand-out-in-place-requires c κs = search needs
+hand-out-requires : tie.Need-hand-out-requires
+hand-out-requires c κs =
+    let k = c .before .before in
+    let a = start k .args in
+    let w = receiverOf (a .state .now) in (
+      length-take-le packedLength (drop beforeAt (a .state .now)) (rw length-drop (omega (arith, accepted k .0))),
+      handed-store w (a .r) _ (accepted k .1),
+      handed-number w (a .r) (length (a .store .now)) (accepted k .1),
+    )
 
 same-length : tie.Need-same-length
 same-length c = search needs
 
 returns-2 : tie.Need-returns-2
+unfolding receiverOf
 returns-2 c =
     let call = c .before .before in
-    let stage = call .before .before .before in
-    let word = stage .before in
-    let k = word .before .before .before in
-    let a = k .before .before .before .before .args in
-    hands (a .state .now) (a .r) (a .store .now) (a .out .now) (k .if1 .left)
-    (word .word .ensures ∙ said-pid (a .state .now)) (stage .stage-in .ensures ∙ said-stage (a .state .now) (k .if1 .left))
-    (call .hand-out-in-place .result) (call .hand-out-in-place .ensures .0) (call .hand-out-in-place .last .1 .1 .1 .1 .0) (call .hand-out-in-place .ensures .1)
+    let k = call .before .before .before in
+    let a = start k .args in
+    let w = receiverOf (a .state .now) in
+    hands (a .state .now) (a .r) (a .store .now) (a .out .now) (accepted k .0)
+    (handed-frame w (a .r) (a .store .now) (a .out .now) (accepted k .1) refl (call .hand-out .ensures .0))
+    (handed-buffer w (a .r) (a .store .now) (a .out .now) (accepted k .1) refl (call .hand-out .ensures .1))
 
 pub niranbok-receiver-hand-out-spec : {M : Type 1} → statement M
 niranbok-receiver-hand-out-spec =
     tie.close
     (tie.spec
+    ready-refusal-requires
     returns
-    shared-slice-read-word
-    shared-slice-read-word-2
-    word-requires
-    stage-in-requires
-    sub-hand-out-in-place
-    part-hand-out-in-place-start
-    part-hand-out-in-place-end
-    hand-out-in-place-requires
+    sub-hand-out
+    part-hand-out-start
+    part-hand-out-end
+    hand-out-requires
     same-length
     returns-2)

@@ -1,7 +1,7 @@
 -- `event_number` meets its contract, event by event. Assumes nothing.
 use mathlib.Core.Path.{refl}
 use borrow.Author.Needs.{needs}
-use Rattle.receiver.specs.States.{eventNumber}
+use Rattle.receiver.specs.Bytes.{eventNumber}
 use Rattle.receiver_receive.proofs.event_number.Statement.{statement}
 use Rattle.receiver_receive.proofs.event_number.Tie as tie
 

@@ -4,9 +4,11 @@ use mathlib.Core.Path.{refl, ap, _∙_}
 use mathlib.Core.List.{List, _++_}
 use native.Mathlib.Omega.{arith}
 use borrow.Author.Needs.{needs}
-use lib.ListN.{take, drop}
+use lib.ListN.{take, drop, length-drop}
+use lib.Seq.{length-take-le}
+use Rattle.slices.specs.Slices.{copied}
 use Rattle.receiver.specs.Packed.{packedLength}
-use Rattle.receiver_receive.proofs.Joined.{copied-part}
+use Rattle.receiver_receive.proofs.Joined.{copied-part, joined}
 use Rattle.receiver_receive.proofs.renew.Statement.{statement}
 use Rattle.receiver_receive.proofs.renew.Tie as tie
 
@@ -25,43 +27,67 @@ part-copy-end c = search needs
 copy-requires : tie.Need-copy-requires
 copy-requires c κs = search needs
 
-sub-look : tie.Need-sub-look
-sub-look c = search needs
+sub-own : tie.Need-sub-own
+sub-own c = search needs
 
-part-look-start : tie.Need-part-look-start
-part-look-start c = search needs
+part-own-start : tie.Need-part-own-start
+part-own-start c = search needs
 
-part-look-end : tie.Need-part-look-end
-part-look-end c = search needs
+part-own-end : tie.Need-part-own-end
+part-own-end c = search needs
 
 look-requires : tie.Need-look-requires
 look-requires c κs = search needs
 
-sub-join : tie.Need-sub-join
-sub-join c = search needs
+sub-copy-2 : tie.Need-sub-copy-2
+sub-copy-2 c = search needs
 
-part-join-start : tie.Need-part-join-start
-part-join-start c = search needs
+part-copy-start-2 : tie.Need-part-copy-start-2
+part-copy-start-2 c = search needs
 
-part-join-end : tie.Need-part-join-end
-part-join-end c = search needs
+part-copy-end-2 : tie.Need-part-copy-end-2
+part-copy-end-2 c = search needs
 
-slice-aggregate-join : tie.Need-slice-aggregate-join
-slice-aggregate-join c = search needs
+copy-requires-2 : tie.Need-copy-requires-2
+copy-requires-2 c κs = search needs
 
-join-requires : tie.Need-join-requires
-join-requires c κs = search needs
+add-copy : tie.Need-add-copy
+add-copy c = search needs
+
+sub-copy-3 : tie.Need-sub-copy-3
+sub-copy-3 c = search needs
+
+part-copy-start-3 : tie.Need-part-copy-start-3
+part-copy-start-3 c = search needs
+
+part-copy-end-3 : tie.Need-part-copy-end-3
+part-copy-end-3 c = search needs
+
+slice-aggregate-copy-2 : tie.Need-slice-aggregate-copy-2
+slice-aggregate-copy-2 c = search needs
+
+copy-requires-3 : tie.Need-copy-requires-3
+copy-requires-3 c κs = search needs
 
 same-length : tie.Need-same-length
 same-length c = search needs
 
 returns : tie.Need-returns
 returns c =
-    let join = c .before .before in
-    let look = join .before .before .before .before in
+    let last = c .before .before in
+    let first = last .before .before .before .before .before in
+    let look = first .before .before in
     let copy = look .before .before .before in
     let s = copy .before .before .before .before .before .before in
-    (join .join .ensures ∙ ap (λ (l : List ℕ). take packedLength (drop 73 (s .args .packet .now)) ++ l) (copy .copy .ensures ∙ copied-part (s .args .numbers .now) 0 packedLength (omega (arith, s .pre .0)) refl), look .look .ensures)
+    let a = s .args in
+    let held = copy .copy .ensures ∙ copied-part (a .numbers .now) 0 packedLength (omega (arith, s .pre .0)) refl in
+    let own = take packedLength (drop 73 (a .packet .now)) in
+    let before = take packedLength (a .numbers .now) in (
+      joined (a .numbers .now) own before (s .pre .0)
+      (length-take-le packedLength (drop 73 (a .packet .now)) (rw length-drop (omega (arith, s .pre .1)))) (length-take-le packedLength (a .numbers .now) (omega (arith, s .pre .0)))
+      (first .copy2 .ensures) (last .copy3 .ensures ∙ ap (copied _) held),
+      look .look .ensures,
+    )
 
 pub renew-spec : {M : Type 1} → statement M
 renew-spec =
@@ -72,14 +98,19 @@ renew-spec =
     part-copy-start
     part-copy-end
     copy-requires
-    sub-look
-    part-look-start
-    part-look-end
+    sub-own
+    part-own-start
+    part-own-end
     look-requires
-    sub-join
-    part-join-start
-    part-join-end
-    slice-aggregate-join
-    join-requires
+    sub-copy-2
+    part-copy-start-2
+    part-copy-end-2
+    copy-requires-2
+    add-copy
+    sub-copy-3
+    part-copy-start-3
+    part-copy-end-3
+    slice-aggregate-copy-2
+    copy-requires-3
     same-length
     returns)

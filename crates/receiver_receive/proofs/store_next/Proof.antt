@@ -1,12 +1,13 @@
--- `store_next` meets its contract: the slot was lent, and the count written. Assumes nothing.
+-- `store_next` meets its contract: the slot was lent, and stage and count are written. Assumes nothing.
 use Prim.Native.Nat.{_+_, _-_, _*_}
 use mathlib.Core.Path.{_≡_, refl, sym, _∙_}
 use native.Mathlib.Omega.{arith}
 use borrow.Author.Needs.{needs}
 use borrow.Rule.Slice.PartMut.{mid-len}
-use lib.ListN.{getD}
+use lib.ListN.{getD, length-set}
 use Rattle.slices.proofs.Front.{copied-over, put-over}
 use Rattle.packet.specs.Packets.{packetLength}
+use Rattle.receiver.specs.Bytes.{storedAt}
 use Rattle.receiver_receive.proofs.store_next.Statement.{statement}
 use Rattle.receiver_receive.proofs.store_next.Tie as tie
 
@@ -34,11 +35,16 @@ part-copy-end c = search needs
 copy-requires : tie.Need-copy-requires
 copy-requires c κs = search needs
 
+slice-write-state : tie.Need-slice-write-state
+slice-write-state c = search needs
+
 add-state : tie.Need-add-state
 add-state c = search needs
 
-slice-write-state : tie.Need-slice-write-state
-slice-write-state c = search needs
+slice-write-state-2 : tie.Need-slice-write-state-2
+slice-write-state-2 c =
+    let s = c .before .before .before .before .before .before .before .before in
+    simp length-set (omega (arith, s .pre .0 .0))
 
 same-length : tie.Need-same-length
 same-length c = search needs
@@ -50,7 +56,7 @@ returns : tie.Need-returns
 returns c =
     let call = c .before .before in
     let s = call .before .before .before .before .before .before in
-    let at = packetLength * getD (s .args .state .now) 5 0 in
+    let at = packetLength * getD (s .args .state .now) storedAt 0 in
     let room = s .pre .0 .1 in
     let long = s .pre .1 .1 in
     let lent = mid-len at (at + packetLength) (s .args .store .now) (omega arith) in
@@ -71,8 +77,9 @@ store-next-spec =
     part-copy-start
     part-copy-end
     copy-requires
-    add-state
     slice-write-state
+    add-state
+    slice-write-state-2
     same-length
     same-length-2
     returns)

@@ -1,23 +1,81 @@
 -- `take_header` meets its contract: the packet is broken, or a header. Assumes nothing.
-use mathlib.Core.Path.{_≡_, refl, sym, ap, _∙_}
+use Prim.Native.Nat.{ℕ, _+_}
+use mathlib.Core.Path.{_≡_, refl, sym, ap, ap₂, _∙_}
+use mathlib.Core.List.{List}
+use native.Mathlib.Omega.{arith}
 use borrow.Author.Needs.{needs}
+use borrow.Author.Tests.{eq-eqb}
+use lib.ListN.{length, take, drop, length-drop}
+use lib.Seq.{length-take-le}
 use Rattle.header_layout.specs.Header.{reading}
-use Rattle.receiver.specs.Table.{good, rowOf}
-use Rattle.header_check.specs.Checking.{readRefusal}
+use Rattle.header_check.specs.Checking.{readRefusal, checkedOf}
+use Rattle.setting.specs.declared.Kind.{Kind}
+use Rattle.receiver.specs.declared.Stage.{Stage}
+use Rattle.receiver.specs.Table.{good, broken, rowOf}
+use Rattle.receiver.specs.Packed.{packedLength}
 use Rattle.receiver.specs.Store.{storeLength}
-use Rattle.receiver.specs.InPlace.{receiverWith}
+use Rattle.receiver.specs.Bytes.{receiverOf, receiverLength, numbersAt}
+use Rattle.receiver.proofs.Bytes.{over-stage}
 use Rattle.receiver_receive.proofs.Sorts.{broken-sort, good-sort, checked-refusal, checked-counter}
 use Rattle.receiver_receive.proofs.Joined.{opened-is}
 use Rattle.receiver_receive.proofs.Receipts.{whole-packet, broken-receipt, good-receipt}
-use Rattle.receiver_receive.proofs.Steps.{kept-step, header-step}
+use Rattle.receiver_receive.proofs.Taking.{keeps, renews, renewed, renewed-length}
 use Rattle.receiver_receive.proofs.take_header.Statement.{statement}
 use Rattle.receiver_receive.proofs.take_header.Tie as tie
 
-abbrev start : tie.After-check → tie.Start
-start c = c .before .before .before
+-- from the header's check back to the function's start
+abbrev staged : tie.After-check → tie.After-stage-in
+staged c = c .before
 
-said-refusal : (c : tie.After-check) → c .check .result .refusal ≡ readRefusal (start c .args .kind) (start c .args .pid) (start c .args .packet .now)
-said-refusal c = checked-refusal _ _ _ (c .check .ensures)
+abbrev kinded : tie.After-check → tie.After-kind-of
+kinded c = staged c .before .before
+
+abbrev worded : tie.After-check → tie.After-word
+worded c = kinded c .before .before
+
+abbrev start : tie.After-check → tie.Start
+start c = worded c .before .before .before .before .before
+
+module _ (c : tie.After-check) where
+  abbrev b : List ℕ
+  b = start c .args .state .now
+
+  -- PID, kind and stage are those that the bytes say
+  said-pid : worded c .word .result ≡ receiverOf b .pid
+  unfolding receiverOf
+  said-pid = worded c .word .ensures
+
+  said-kind : kinded c .kind-of .result ≡ receiverOf b .kind
+  unfolding receiverOf
+  said-kind = kinded c .kind-of .ensures
+
+  said-stage : staged c .stage-in .result ≡ receiverOf b .stage
+  unfolding receiverOf
+  said-stage = staged c .stage-in .ensures ∙ rw (eq-eqb _ _ (start c .pre .0 .0)) refl
+
+  checked : c .check .result ≡ checkedOf (receiverOf b .kind) (receiverOf b .pid) (start c .args .packet .now)
+  checked = c .check .ensures ∙ ap₂ (λ (k : Kind) (n : ℕ). checkedOf k n (start c .args .packet .now)) said-kind said-pid
+
+  said-refusal : c .check .result .refusal ≡ readRefusal (receiverOf b .kind) (receiverOf b .pid) (start c .args .packet .now)
+  said-refusal = checked-refusal (receiverOf b .kind) (receiverOf b .pid) (start c .args .packet .now) checked
+
+slice-read-word : tie.Need-slice-read-word
+slice-read-word c = search needs
+
+slice-read-word-2 : tie.Need-slice-read-word-2
+slice-read-word-2 c = search needs
+
+word-requires : tie.Need-word-requires
+word-requires c κs = search needs
+
+slice-read-kind-of : tie.Need-slice-read-kind-of
+slice-read-kind-of c = search needs
+
+kind-of-requires : tie.Need-kind-of-requires
+kind-of-requires c κs = search needs
+
+stage-in-requires : tie.Need-stage-in-requires
+stage-in-requires c κs = search needs
 
 check-requires : tie.Need-check-requires
 check-requires c κs = search needs
@@ -25,63 +83,93 @@ check-requires c κs = search needs
 broken-row-requires : tie.Need-broken-row-requires
 broken-row-requires c κs = search needs
 
-accepted-requires : tie.Need-accepted-requires
-accepted-requires c κs = search needs
-
-returns : tie.Need-returns
-unfolding receiverWith
-returns c =
-    let row = c .before in
-    let check = row .before .before .before in
-    let s = start check in
-    let a = s .args in
-    let w = receiverWith (a .pid) (a .kind) (a .stage) (a .numbers .now) in
-    let sort = broken-sort (a .kind) (a .pid) (a .packet .now) (s .pre .0 .1) (λ e. row .before .if1 .taken (said-refusal check ∙ e)) in
-    kept-step (a .pid) (a .kind) (a .stage) (a .numbers .now) (a .packet .now) (s .pre .1 .0) storeLength (s .pre .0 .0) (c .accepted .ensures)
-    (broken-receipt w (a .packet .now) storeLength (s .pre .1 .1) sort (row .broken-row .ensures))
-
-renew-requires : tie.Need-renew-requires
-renew-requires c κs =
-    let s = start (c .before .before .before) in
-    let a = s .args in
-    (s .pre .0 .0, whole-packet (receiverWith (a .pid) (a .kind) (a .stage) (a .numbers .now)) _ _ (s .pre .1 .1))
-
-header-row-requires : tie.Need-header-row-requires
-header-row-requires c κs = search needs
-
-accepted-requires-2 : tie.Need-accepted-requires-2
-accepted-requires-2 c κs = search needs
+move-on-requires : tie.Need-move-on-requires
+move-on-requires c κs = search needs
 
 same-length : tie.Need-same-length
 same-length c = search needs
 
-returns-2 : tie.Need-returns-2
-unfolding receiverWith
-returns-2 c =
-    let row = c .before in
-    let renew = row .before .before .before in
-    let check = renew .before .before .before .before in
+returns : tie.Need-returns
+returns c =
+    let move = c .before .before in
+    let row = move .before in
+    let check = row .before .before .before .before in
     let s = start check in
     let a = s .args in
-    let w = receiverWith (a .pid) (a .kind) (a .stage) (a .numbers .now) in
+    let w = receiverOf (a .state .now) in
+    let sort = broken-sort (w .kind) (w .pid) (a .packet .now) (s .pre .1 .0) (λ e. row .before .before .if1 .taken (said-refusal check ∙ e)) in
+    keeps (a .state .now) (a .packet .now) storeLength (s .pre .0 .0) (s .pre .0 .1) (s .pre .1 .1) (row .broken-row .result) (move .move-on .ensures .0)
+    (broken-receipt w (a .packet .now) storeLength (s .pre .1 .1) sort (row .broken-row .ensures ∙ ap (λ (t : Stage). rowOf t broken 0) (said-stage check)))
+    (move .move-on .ensures .1 ∙ over-stage (a .state .now) (row .broken-row .result .stage))
+
+sub-renew : tie.Need-sub-renew
+sub-renew c = search needs
+
+part-renew-start : tie.Need-part-renew-start
+part-renew-start c = search needs
+
+part-renew-end : tie.Need-part-renew-end
+part-renew-end c = search needs
+
+renew-requires : tie.Need-renew-requires
+renew-requires c κs =
+    let s = start (c .before .before .before) in
+    (length-take-le (packedLength + packedLength) (drop numbersAt (s .args .state .now)) (rw length-drop (omega (arith, s .pre .0 .0))), whole-packet _ _ _ (s .pre .1 .1))
+
+header-row-requires : tie.Need-header-row-requires
+header-row-requires c κs = search needs
+
+move-on-requires-2 : tie.Need-move-on-requires-2
+move-on-requires-2 c κs =
+    let renew = c .before .before .before .before in
+    let s = start (renew .before .before .before .before) in
+    let p = s .args .packet .now in
+    renewed-length (s .args .state .now) _ (take packedLength (drop 73 p)) (s .pre .0 .0)
+    (length-take-le packedLength (drop 73 p) (rw length-drop (omega (arith, whole-packet (receiverOf (s .args .state .now)) _ _ (s .pre .1 .1))))) (renew .renew .ensures .0)
+
+same-length-2 : tie.Need-same-length-2
+same-length-2 c = search needs
+
+returns-2 : tie.Need-returns-2
+returns-2 c =
+    let move = c .before .before in
+    let row = move .before in
+    let renew = row .before .before .before .before in
+    let accepted = renew .before .before in
+    let check = accepted .before .before in
+    let s = start check in
+    let a = s .args in
+    let w = receiverOf (a .state .now) in
     let p = a .packet .now in
-    let accepts = sym (said-refusal check) ∙ renew .before .before .if1 .left in
-    header-step (a .pid) (a .kind) (a .stage) (a .numbers .now) p (s .pre .1 .0) storeLength (s .pre .0 .0) (c .accepted2 .ensures) (reading (a .kind) p)
-    (good-receipt w p storeLength (s .pre .1 .1) (good-sort (a .kind) (a .pid) p accepts) (reading (a .kind) p) refl
-    (row .header-row .ensures ∙ ap (rowOf (a .stage) good) (checked-counter (a .kind) (a .pid) p (check .check .ensures) accepts)))
-    (opened-is (a .kind) p (whole-packet w _ _ (s .pre .1 .1)) (renew .renew .ensures .1))
-    refl (renew .renew .ensures .0)
+    let accepts = sym (said-refusal check) ∙ accepted .if1 .left in
+    let own = take packedLength (drop 73 p) in
+    let said = reading (w .kind) p in
+    renews (a .state .now) p storeLength (s .pre .0 .0) (s .pre .0 .1) (s .pre .1 .1) (row .header-row .result) (move .move-on2 .ensures .0) said
+    (good-receipt w p storeLength (s .pre .1 .1) (good-sort (w .kind) (w .pid) p accepts) said refl
+    (row .header-row .ensures ∙ ap₂ (λ (t : Stage) (n : ℕ). rowOf t good n) (said-stage check) (checked-counter (w .kind) (w .pid) p (checked check) accepts)))
+    (opened-is (w .kind) p (whole-packet w _ _ (s .pre .1 .1)) (renew .renew .ensures .1))
+    (move .move-on2 .ensures .1 ∙ renewed (a .state .now) _ own (row .header-row .result .stage) (s .pre .0 .0) (renew .renew .ensures .0))
 
 pub take-header-spec : {M : Type 1} → statement M
 take-header-spec =
     tie.close
     (tie.spec
+    slice-read-word
+    slice-read-word-2
+    word-requires
+    slice-read-kind-of
+    kind-of-requires
+    stage-in-requires
     check-requires
     broken-row-requires
-    accepted-requires
+    move-on-requires
+    same-length
     returns
+    sub-renew
+    part-renew-start
+    part-renew-end
     renew-requires
     header-row-requires
-    accepted-requires-2
-    same-length
+    move-on-requires-2
+    same-length-2
     returns-2)

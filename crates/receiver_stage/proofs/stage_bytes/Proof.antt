@@ -1,7 +1,7 @@
 -- `stage_bytes` meets its contract, stage by stage. Assumes nothing.
 use mathlib.Core.Path.{refl}
 use borrow.Author.Needs.{needs}
-use Rattle.receiver.specs.Stages.{stageBytes}
+use Rattle.receiver.specs.Bytes.{stageBytes}
 use Rattle.receiver_stage.proofs.stage_bytes.Statement.{statement}
 use Rattle.receiver_stage.proofs.stage_bytes.Tie as tie
 

@@ -3,7 +3,7 @@ use mathlib.Core.Path.{refl}
 use mathlib.Core.Bool.{and-false}
 use borrow.Author.Needs.{needs}
 use borrow.Author.Tests.{ne-eqb}
-use Rattle.receiver.specs.Stages.{stageOf}
+use Rattle.receiver.specs.Bytes.{stageOf}
 use Rattle.receiver_stage.proofs.stage_of.Statement.{statement}
 use Rattle.receiver_stage.proofs.stage_of.Tie as tie
 

@@ -1,57 +1,85 @@
--- `state_refusal` meets its contract, check by check. Assumes nothing.
-use Prim.Native.Nat.{ℕ}
-use mathlib.Core.Path.{_≡_, refl, sym, ap, _∙_}
-use mathlib.Core.Bool.{not}
+-- `state_refusal` meets its contract, test by test. Assumes nothing.
+use mathlib.Core.Path.{_≡_, sym, ap, _∙_}
+use mathlib.Core.Bool.{Bool, true, false, not}
 use borrow.Author.Needs.{needs}
-use borrow.Author.Tests.{eq-eqb, ne-eqb}
-use Rattle.setting.specs.declared.Kind.{Kind}
-use Rattle.setting.specs.Refusal.{firstOf}
-use Rattle.setting.proofs.Refusals.{answers, passed}
-use Rattle.receiver.specs.declared.Receiver.{Receiver}
-use Rattle.receiver.specs.Receiving.{receiverChecks}
-use Rattle.receiver.specs.InPlace.{receiverWith, lentRefusal}
-use Rattle.receiver.proofs.Lent.{stage-alone}
+use borrow.Author.Tests.{not-false, not-true}
+use Rattle.setting.specs.Rules.{pidAllowed}
+use Rattle.setting_bytes.specs.Words.{wordAt}
+use Rattle.receiver.specs.Bytes.{pidAt}
+use Rattle.receiver.proofs.Refused.{no-state, no-pid, no-kind, its-stage}
 use Rattle.receiver_stage.proofs.state_refusal.Statement.{statement}
 use Rattle.receiver_stage.proofs.state_refusal.Tie as tie
 
--- from the place after a check that did not hold to the function's start
-abbrev start₁ : tie.Else1 → tie.Start
-start₁ c = c .before .before
-
--- the state, and the refusal of the whole
-abbrev of : tie.Start → Kind → Receiver
-of c kind = receiverWith (c .args .pid) kind (c .args .stage) (c .args .numbers .now)
-
-abbrev all : tie.Start → Kind → ℕ
-all c kind = lentRefusal (c .args .numbers .now) (firstOf (receiverChecks (of c kind)))
-
-past₁ : (c : tie.Else1) (kind : Kind) → all (start₁ c) kind ≡ firstOf (receiverChecks (of (start₁ c) kind))
-unfolding lentRefusal
-past₁ c kind = rw (eq-eqb _ _ (c .if1 .left)) refl
+-- the PID that the state says, allowed or not
+said : (c : tie.After-pid-allowed) → pidAllowed (wordAt pidAt (c .before .before .before .before .before .before .args .state .now)) ≡ c .pid-allowed .result
+said c = sym (c .pid-allowed .ensures ∙ ap pidAllowed (c .before .word .ensures))
 
 returns : tie.Need-returns
-unfolding lentRefusal
-returns c kind = rw (ne-eqb _ _ (c .if1 .taken)) refl
+returns c = no-state (c .before .before .args .state .now) (c .if1 .taken)
+
+shared-slice-read-word : tie.Need-shared-slice-read-word
+shared-slice-read-word c = search needs
+
+shared-slice-read-word-2 : tie.Need-shared-slice-read-word-2
+shared-slice-read-word-2 c = search needs
+
+word-requires : tie.Need-word-requires
+word-requires c κs = search needs
 
 pid-allowed-requires : tie.Need-pid-allowed-requires
 pid-allowed-requires c κs = search needs
 
 returns-2 : tie.Need-returns-2
-unfolding receiverChecks receiverWith
-returns-2 c kind = sym (past₁ (c .before .before) kind ∙ answers 2 _ (ap not (sym (c .before .pid-allowed .ensures)) ∙ c .if2 .taken))
+returns-2 c =
+    let asked = c .before in
+    let whole = asked .before .before .before .before in
+    sym (no-pid (whole .before .before .args .state .now) (whole .if1 .left) (said asked ∙ not-true _ (c .if2 .taken)))
+
+shared-slice-read-if3 : tie.Need-shared-slice-read-if3
+shared-slice-read-if3 c = search needs
+
+returns-3 : tie.Need-returns-3
+returns-3 c =
+    let granted = c .before .before in
+    let asked = granted .before in
+    let whole = asked .before .before .before .before in
+    sym (no-kind (whole .before .before .args .state .now) (whole .if1 .left) (said asked ∙ not-false _ (granted .if2 .left)) (c .if3 .taken))
+
+shared-slice-read-stage-refusal : tie.Need-shared-slice-read-stage-refusal
+shared-slice-read-stage-refusal c = search needs
+
+shared-slice-read-stage-refusal-2 : tie.Need-shared-slice-read-stage-refusal-2
+shared-slice-read-stage-refusal-2 c = search needs
+
+shared-slice-read-stage-refusal-3 : tie.Need-shared-slice-read-stage-refusal-3
+shared-slice-read-stage-refusal-3 c = search needs
 
 stage-refusal-requires : tie.Need-stage-refusal-requires
 stage-refusal-requires c κs = search needs
 
-returns-3 : tie.Need-returns-3
-unfolding receiverChecks receiverWith
-returns-3 c kind =
-    let k = c .before in
-    let s = start₁ (k .before .before) in
+returns-4 : tie.Need-returns-4
+returns-4 c =
+    let kind = c .before .before .before .before in
+    let granted = kind .before .before in
+    let asked = granted .before in
+    let whole = asked .before .before .before .before in
     c .stage-refusal .ensures
-    ∙ sym (past₁ (k .before .before) kind
-    ∙ passed 2 _ (ap not (sym (k .before .pid-allowed .ensures)) ∙ k .if2 .left)
-    ∙ stage-alone (s .args .numbers .now) (k .before .before .if1 .left) (s .args .stage))
+    ∙ sym (its-stage (whole .before .before .args .state .now) (whole .if1 .left) (said asked ∙ not-false _ (granted .if2 .left)) (kind .if3 .left))
 
 pub state-refusal-spec : {M : Type 1} → statement M
-state-refusal-spec = tie.close (tie.spec returns pid-allowed-requires returns-2 stage-refusal-requires returns-3)
+state-refusal-spec =
+    tie.close
+    (tie.spec
+    returns
+    shared-slice-read-word
+    shared-slice-read-word-2
+    word-requires
+    pid-allowed-requires
+    returns-2
+    shared-slice-read-if3
+    returns-3
+    shared-slice-read-stage-refusal
+    shared-slice-read-stage-refusal-2
+    shared-slice-read-stage-refusal-3
+    stage-refusal-requires
+    returns-4)

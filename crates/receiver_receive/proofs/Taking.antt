@@ -1,0 +1,175 @@
+-- What a packet does that may stand in a slot, and what a header or a broken packet does, over the state's bytes. Assumes nothing.
+use Prim.Native.Nat.{ℕ, _+_, _*_, _^_, _≤_, _<_}
+use mathlib.Core.Path.{_≡_, refl, sym, ap, ap₂, _∙_}
+use mathlib.Core.Bool.{true, false, not}
+use mathlib.Core.List.{List, [], _∷_, _++_, append-nil}
+use native.Mathlib.Omega.{arith}
+use borrow.Author.Tests.{eq-eqb, ne-eqb, lt-ltb, le-ltb}
+use lib.ListN.{length, getD, set, replicate, take, drop, length-drop, length-append, drop-of-length-le}
+use lib.Seq.{length-take-le, take-take, drop-at, drop-drop}
+use Rattle.slices.specs.Slices.{over, someAtLeast}
+use Rattle.slices.proofs.Front.{put}
+use Rattle.counters.specs.Counters.{lastSlot}
+use Rattle.setting.specs.declared.Setting.{Setting}
+use Rattle.setting.proofs.Refusals.{answers, passed}
+use Rattle.setting_bytes.specs.Kinds.{isKind}
+use Rattle.packet.specs.Packets.{packetLength, unfit}
+use Rattle.receiver.specs.declared.Stage.{Stage}
+use Rattle.receiver.specs.declared.Event.{Event}
+use Rattle.receiver.specs.declared.Row.{Row}
+use Rattle.receiver.specs.Table.{other, row, rowOf, openRow, storedOf}
+use Rattle.receiver.proofs.Rows.{kept, long}
+use Rattle.receiver.specs.Packed.{packedLength, packed}
+use Rattle.receiver.specs.Store.{storeLength}
+use Rattle.receiver.specs.Arriving.{storeAfter}
+use Rattle.receiver.specs.Receiving.{Receiver, Received, receiverChecks, receiveRefusal, receiveOf, receiveStore}
+use Rattle.receiver.specs.Bytes.{kindAt, stageAt, counterAt, storedAt, numbersAt, receiverLength, stageBytes, receiverBytes, receiverOf, eventNumber}
+use Rattle.receiver.specs.Calls.{lentRefusal, stateRefused}
+use Rattle.receiver.proofs.LentRefusal.{one-anyway}
+use Rattle.receiver.proofs.Standing.{Stands, waits, opens, readies, standing, has-kind}
+use Rattle.receiver.proofs.Bytes.{stage-length, moved-bytes, renumbered-bytes, over-stage, front-kept, counted, unstaged}
+use Rattle.receiver_receive.proofs.Sorts.{other-sort}
+use Rattle.receiver_receive.proofs.Receipts.{sound-state, keeping, renumbering, other-receipt, other-store}
+
+-- ---- the refusal
+
+module _ (b : List ℕ) (packet store : ℕ) where
+  abbrev refusal : ℕ
+  refusal = lentRefusal b (receiveRefusal (receiverOf b) packet store)
+
+  pub no-packet : (packet ≡ packetLength → ⊥) → 1 ≡ refusal
+  unfolding receiveRefusal
+  no-packet h = one-anyway b (receiveRefusal (receiverOf b) packet store) (answers 1 _ (ap not (ne-eqb packet packetLength h)))
+
+  module _ (l : packet ≡ packetLength) where
+    pub no-store : (store ≡ storeLength → ⊥) → 1 ≡ refusal
+    unfolding receiveRefusal
+    no-store h =
+        one-anyway b (receiveRefusal (receiverOf b) packet store)
+        (passed 1 _ (ap not (eq-eqb packet packetLength l)) ∙ answers 1 _ (ap not (ne-eqb store storeLength h)))
+
+    pub the-states : store ≡ storeLength → stateRefused b ≡ refusal
+    unfolding receiveRefusal stateRefused
+    the-states m =
+        ap (lentRefusal b)
+        (sym (passed 1 _ (ap not (eq-eqb packet packetLength l)) ∙ passed 1 (receiverChecks (receiverOf b)) (ap not (eq-eqb store storeLength m))))
+
+-- ---- the state's bytes
+
+-- a row's answer that keeps the numbers, and one that takes a header's, over the bytes
+module _ (b p : List ℕ) (store : ℕ) (l : length b ≡ receiverLength) (w : someAtLeast (2 ^ 8) b ≡ false) (e : receiveRefusal (receiverOf b) (length p) store ≡ 0) where
+  abbrev pub Moves : ℕ → List ℕ → Type 0
+  Moves event after = (event ≡ eventNumber (receiveOf (receiverOf b) p store .event)) × (after ≡ receiverBytes (receiveOf (receiverOf b) p store .state))
+
+  kind-is : isKind (getD b kindAt 0) ≡ true
+  kind-is = has-kind b (sound-state (receiverOf b) (length p) store e)
+
+  module _ (r : Row) {event : ℕ} (v : event ≡ eventNumber (r .event)) {after : List ℕ} where
+    pub keeps : keeping (receiverOf b) p store r ≡ receiveOf (receiverOf b) p store → after ≡ take stageAt b ++ (stageBytes (r .stage) ++ drop numbersAt b)
+        → Moves event after
+    keeps t a =
+        (v ∙ ap (λ (u : Received). eventNumber (u .event)) t, a ∙ moved-bytes b l w kind-is (r .stage) ∙ ap (λ (u : Received). receiverBytes (u .state)) t)
+
+    pub renews : (said : Setting) → renumbering (receiverOf b) p store r said ≡ receiveOf (receiverOf b) p store
+        → {opened : List ℕ} → packed (said .«relative_ts_number») ≡ opened
+        → after ≡ take stageAt b ++ (stageBytes (r .stage) ++ (opened ++ take packedLength (drop numbersAt b)))
+        → Moves event after
+    renews said t o a =
+        (v ∙ ap (λ (u : Received). eventNumber (u .event)) t,
+        a ∙ renumbered-bytes b l w kind-is (r .stage) (said .«relative_ts_number») o ∙ ap (λ (u : Received). receiverBytes (u .state)) t)
+
+-- numbers that were lent and came back, and the stage written before them
+pub renewed : (b ns opened : List ℕ) (stage : Stage) → length b ≡ receiverLength
+    → ns ≡ opened ++ take packedLength (take (packedLength + packedLength) (drop numbersAt b))
+    → over stageAt (stageBytes stage) (put numbersAt (packedLength + packedLength) b ns)
+    ≡ take stageAt b ++ (stageBytes stage ++ (opened ++ take packedLength (drop numbersAt b)))
+renewed b ns opened stage l e =
+    let rest = drop (packedLength + packedLength) (drop numbersAt b) in
+    let none : rest ≡ [] = drop-of-length-le (drop numbersAt b) {i = packedLength + packedLength} (rw length-drop (omega (arith, l))) in
+    let six : length (take numbersAt b) ≡ numbersAt = length-take-le numbersAt b (omega (arith, l)) in
+    let now = put numbersAt (packedLength + packedLength) b ns in
+    let behind : drop numbersAt now ≡ opened ++ take packedLength (drop numbersAt b) =
+    drop-at (take numbersAt b) (ns ++ rest) numbersAt six ∙ ap (λ (t : List ℕ). ns ++ t) none ∙ append-nil ns ∙ e
+    ∙ ap (λ (t : List ℕ). opened ++ t) (take-take packedLength (packedLength + packedLength) (drop numbersAt b) (omega arith)) in
+    over-stage now stage
+    ∙ ap₂ (λ (x y : List ℕ). x ++ (stageBytes stage ++ y)) (front-kept b (ns ++ rest) (omega (arith, l))) behind
+
+-- they are as many as before
+pub renewed-length : (b ns opened : List ℕ) → length b ≡ receiverLength → length opened ≡ packedLength
+    → ns ≡ opened ++ take packedLength (take (packedLength + packedLength) (drop numbersAt b))
+    → length (put numbersAt (packedLength + packedLength) b ns) ≡ receiverLength
+renewed-length b ns opened l o e =
+    let lent = take (packedLength + packedLength) (drop numbersAt b) in
+    let rest = drop (packedLength + packedLength) (drop numbersAt b) in
+    let none : rest ≡ [] = drop-of-length-le (drop numbersAt b) {i = packedLength + packedLength} (rw length-drop (omega (arith, l))) in
+    let six : length (take numbersAt b) ≡ numbersAt = length-take-le numbersAt b (omega (arith, l)) in
+    let whole : length lent ≡ packedLength + packedLength = length-take-le (packedLength + packedLength) (drop numbersAt b) (rw length-drop (omega (arith, l))) in
+    let half : length (take packedLength lent) ≡ packedLength = length-take-le packedLength lent (omega (arith, whole)) in
+    let now : length ns ≡ packedLength + packedLength = ap length e ∙ length-append opened (take packedLength lent) ∙ ap₂ _+_ o half in
+    length-append (take numbersAt b) (ns ++ rest) ∙ ap₂ _+_ six (length-append ns rest ∙ ap₂ _+_ now (ap length none))
+
+-- ---- a packet that may stand in a slot
+
+module _ (b p store : List ℕ) (l : length b ≡ receiverLength) (w : someAtLeast (2 ^ 8) b ≡ false) (u : unfit (receiverOf b .pid) p ≡ false)
+    (e : receiveRefusal (receiverOf b) (length p) (length store) ≡ 0) where
+  abbrev c : Receiver
+  c = receiverOf b
+
+  abbrev Takes : ℕ → List ℕ → List ℕ → Type 0
+  Takes event after memory =
+      (event ≡ eventNumber (receiveOf c p (length store) .event))
+      × ((after ≡ receiverBytes (receiveOf c p (length store) .state)) × (memory ≡ receiveStore c p store))
+
+  stood : Stands (getD b stageAt 0) (getD b counterAt 0) (getD b storedAt 0) (c .stage)
+  stood = standing b (sound-state c (length p) (length store) e)
+
+  by-row : (r : Row) → r ≡ rowOf (c .stage) other 0 → {after memory : List ℕ} → after ≡ take stageAt b ++ (stageBytes (r .stage) ++ drop numbersAt b)
+      → memory ≡ storeAfter (c .stage) other p store → Takes (eventNumber (r .event)) after memory
+  by-row r t a m =
+      let sort = other-sort (c .kind) (c .pid) p u in
+      let moves = keeps b p (length store) l w e r refl (other-receipt c p (length store) e sort t) a in
+      (moves .0, (moves .1, other-store c p store e sort m))
+
+  -- none is open: nothing happens
+  pub waiting-on : getD b stageAt 0 ≡ 0 → Takes 0 b store
+  unfolding rowOf stageBytes storeAfter storedOf eventNumber
+  waiting-on z = by-standing stood
+    where
+      by-standing : Stands (getD b stageAt 0) (getD b counterAt 0) (getD b storedAt 0) (c .stage) → Takes 0 b store
+      by-standing (waits t f k s) =
+          by-row (row Event.Nothing Stage.Waiting) (rw s refl) (unstaged b (omega (arith, l)) t f k) (rw s refl)
+      by-standing (opens t k s) = absurd (omega (arith, t, z))
+      by-standing (readies t k s) = absurd (omega (arith, t, z))
+
+  module _ (o : getD b stageAt 0 ≡ 0 → ⊥) where
+    -- no room: the frame is dropped
+    pub too-long : lastSlot ≤ getD b storedAt 0 → {zeros : List ℕ} → zeros ≡ replicate (length (take 3 (drop stageAt b))) 0 → Takes 6 (put stageAt 3 b zeros) store
+    unfolding rowOf stageBytes storeAfter storedOf eventNumber
+    too-long h {zeros} n = by-standing stood
+      where
+        by-standing : Stands (getD b stageAt 0) (getD b counterAt 0) (getD b storedAt 0) (c .stage) → Takes 6 (put stageAt 3 b zeros) store
+        by-standing (waits t f k s) = absurd (o t)
+        by-standing (opens t k s) =
+            by-row (row Event.Long Stage.Waiting) (sym (rw s (long (getD b counterAt 0) (getD b storedAt 0) 0 h)))
+            (ap₂ (λ (x y : List ℕ). take stageAt b ++ (x ++ y))
+            (n ∙ ap (λ (m : ℕ). replicate m 0) (length-take-le 3 (drop stageAt b) (rw length-drop (omega (arith, l))))) (drop-drop 3 stageAt b))
+            (rw s (rw (le-ltb (getD b storedAt 0) lastSlot h) refl))
+        by-standing (readies t k s) = absurd (omega (arith, k, h))
+
+    -- stored behind those that are
+    pub stored-on : getD b storedAt 0 < lastSlot
+        → Takes 2 (set (set b stageAt 1) storedAt (getD b storedAt 0 + 1)) (over (packetLength * getD b storedAt 0) p store)
+    unfolding rowOf openRow stageBytes storeAfter storedOf eventNumber
+    stored-on h = by-standing stood
+      where
+        by-standing : Stands (getD b stageAt 0) (getD b counterAt 0) (getD b storedAt 0) (c .stage)
+            → Takes 2 (set (set b stageAt 1) storedAt (getD b storedAt 0 + 1)) (over (packetLength * getD b storedAt 0) p store)
+        by-standing (waits t f k s) = absurd (o t)
+        by-standing (opens t k s) =
+            by-row (row Event.Stored (Stage.Open (getD b counterAt 0) (getD b storedAt 0 + 1)))
+            (sym (rw s (kept (getD b counterAt 0) (getD b storedAt 0) 0 h))) (counted b (getD b storedAt 0 + 1) (omega (arith, l)))
+            (rw s (rw (lt-ltb (getD b storedAt 0) lastSlot h) refl))
+        by-standing (readies t k s) =
+            by-row (row Event.Stored (Stage.Open (getD b counterAt 0) (getD b storedAt 0 + 1)))
+            (rw (s, k) refl) (counted b (getD b storedAt 0 + 1) (omega (arith, l)))
+            (rw (s, k) refl)
