@@ -14,10 +14,9 @@ use Rattle.packet.specs.Packets.{packetLength, slot, unfit}
 use Rattle.receiver.specs.declared.Stage.{Stage}
 use Rattle.receiver.specs.declared.Event.{Event}
 use Rattle.receiver.specs.declared.Row.{Row}
-use Rattle.receiver.specs.declared.Receiver.{Receiver}
 use Rattle.receiver.specs.Store.{storeLength}
 use Rattle.receiver.specs.Table.{makesReady, good, broken, other, row, openRow, rowOf}
-use Rattle.receiver.specs.Receiving.{receiveOf}
+use Rattle.receiver.specs.Receiving.{Receiver, receiveOf}
 use Rattle.receiver.proofs.Sorts.{not-good}
 use Rattle.runs.specs.Runs.{Each, none, more}
 use Rattle.runs.specs.Losses.{headerArrives, packetsArrive, arriving, Reception, freshWith, afterPacket}
@@ -25,7 +24,7 @@ use Rattle.runs.specs.Demands.{whole, headerAlone}
 use Rattle.runs.proofs.Table.{Opens, Set, event-is, row-opens, bad-row, bad-set, stored-stage, Plain, joined, afterAll, StoredAll, stored-all}
 use Rattle.runs.proofs.Vouched.{GoodFrame, good-event, good-set, good-store, good-opens, step-one, vouched-row}
 use Rattle.runs.proofs.Lost.{arrive-plain, arrive-entire, Counted, no-more, and-then}
-use Rattle.runs.proofs.Demands.{fresh-waits, waiting-set, waiting-stage}
+use Rattle.runs.proofs.Demands.{waiting-set, waiting-stage}
 use Rattle.bonded.specs.Carriers.{opensFrame, framesKept}
 
 -- what framesKept does with a packet, by its event
@@ -157,6 +156,4 @@ module _ (kind : Kind) (pid : ℕ) where
       → Counted kind pid n (fs ++ (next ∷ []))
       → framesKept [] (freshWith kind pid store) (arriving (map whole fs ++ (headerAlone next ∷ []))) ≡ fs
   fresh-kept n store fs next e l c =
-      let sent = arriving (map whole fs ++ (headerAlone next ∷ [])) in
-      ap (λ (x : Receiver). framesKept [] (record { state = x; store = store }) sent) (fresh-waits kind pid e)
-      ∙ all-kept n [] _ [] fs next (waiting-set kind pid store e l) (nothing (waiting-stage kind pid)) c
+      all-kept n [] _ [] fs next (waiting-set kind pid store e l) (nothing (waiting-stage kind pid)) c

@@ -16,8 +16,8 @@ fn main() {
     refusals::print_header_refusals();
     refusals::print_setting_refusals();
     refusals::print_call_refusals();
-    header_layout::print_lengths();
-    header_layout::print_places();
-    header_layout::print_stream_places();
-    header_layout::print_extended_places();
+    layout::print_lengths();
+    layout::print_places();
+    layout::print_stream_places();
+    layout::print_extended_places();
 }

@@ -24,7 +24,7 @@ use Rattle.setting.specs.Announcing.{announced}
 use Rattle.composer.specs.Composing.{saying}
 use Rattle.receiver.specs.declared.Stage.{Stage}
 use Rattle.receiver.specs.Store.{storeLength, numbered, slotsFor}
-use Rattle.receiver.specs.Receiving.{waiting, startReceiverOf}
+use Rattle.receiver.specs.Receiving.{waiting}
 use Rattle.runs.specs.Runs.{Call, Each, none, more, OfTypes, started, framesOf}
 use Rattle.runs.specs.Work.{Work, noWork, worksOf, slotsFilled, said, versionBehind, headedBehind, headed, frameOf}
 use Rattle.runs.specs.Composed.{headedBy}
@@ -138,10 +138,6 @@ zeros-fit : Fit 4 (replicate lastSlot 0)
 unfolding someAtLeast anyBelow
 zeros-fit = fit-some 4 (replicate lastSlot 0) refl
 
-pub fresh-waits : (kind : Kind) (pid : ℕ) → pidAllowed pid ≡ true → startReceiverOf kind pid .state ≡ waiting kind pid
-unfolding startReceiverOf
-fresh-waits kind pid e = rw e
-
 pub waiting-set : (kind : Kind) (pid : ℕ) (store : List ℕ) → pidAllowed pid ≡ true → length store ≡ storeLength → Set kind pid (record { state = waiting kind pid; store = store })
 unfolding waiting
 waiting-set kind pid store e l =
@@ -169,8 +165,7 @@ module _ (kind : Kind) (pid r : ℕ) (store out : List ℕ) (e : pidAllowed pid 
   out-of-fresh : (n : ℕ) (sent : List Sent) → Counted kind pid n (map (λ s. s .frame) sent) → Each (MayHappen kind pid) sent → InRow 0 sent
       → handedOut r out (freshWith kind pid store) (arriving sent) ≡ wanted kind pid r sent
   out-of-fresh n sent c h q =
-      ap (λ (x : _). handedOut r out (record { state = x; store = store }) (arriving sent)) (fresh-waits kind pid e)
-      ∙ comes-out kind pid r store out a sent n 0 [] fresh (waiting-set kind pid store e (a .store-long)) (nothing (waiting-stage kind pid) refl) (omega arith) c h q
+      comes-out kind pid r store out a sent n 0 [] fresh (waiting-set kind pid store e (a .store-long)) (nothing (waiting-stage kind pid) refl) (omega arith) c h q
       ∙ ap (λ (x : List ℕ). x ++ wanted kind pid r sent) (first-none kind pid r store out a sent)
 
 -- ---- demand 3

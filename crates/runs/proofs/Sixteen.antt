@@ -17,9 +17,8 @@ use Rattle.setting.specs.declared.Announced.{Announced}
 use Rattle.packet.specs.Packets.{packetLength, slot, unfit}
 use Rattle.setting.specs.Announcing.{announced}
 use Rattle.composer.specs.Composing.{saying}
-use Rattle.receiver.specs.declared.Receiver.{Receiver}
 use Rattle.receiver.specs.Store.{storeLength, numbered, slotsFor}
-use Rattle.receiver.specs.Receiving.{waiting}
+use Rattle.receiver.specs.Receiving.{Receiver, waiting}
 use Rattle.receiver.proofs.Store.{length-numbered}
 use Rattle.runs.specs.Runs.{Call, Each, none, more, started, framesOf}
 use Rattle.runs.specs.Work.{Work, numbersFilled, said, headedBehind, headed, frameOf, added, taken}
@@ -30,7 +29,7 @@ use Rattle.runs.proofs.Composed.{Good, header-read, hold, each-good}
 use Rattle.runs.proofs.Table.{Set, Plain, afterAll, StoredAll, stored-all}
 use Rattle.runs.proofs.Vouched.{GoodFrame, good-set, good-opens, good-numbers, Owes, nothing, something, vouches}
 use Rattle.runs.proofs.Lost.{slot-behind, arrive-plain, arrive-entire, Counted, and-then, each-append, wanted-missing}
-use Rattle.runs.proofs.Demands.{counted-run, first-of, fresh-waits, waiting-set, waiting-stage, map-append}
+use Rattle.runs.proofs.Demands.{counted-run, first-of, waiting-set, waiting-stage, map-append}
 use Rattle.runs.proofs.Accepts.{plan, thePid, oneSlot, thePacket, theWork, cycles, cycles-typed, zero-numbers, works-are}
 
 -- ---- lists
@@ -311,7 +310,7 @@ owes =
 comes : handedOut 1 zeros (freshWith Kind.Plain thePid zeros) (arriving sent) ≡ mixed ++ []
 unfolding handedOut
 comes =
-    ap₂ (λ (x : Receiver) (l : List (List ℕ)). handedOut 1 zeros (record { state = x; store = zeros }) l) (fresh-waits Kind.Plain thePid refl) arrives
+    ap (handedOut 1 zeros (freshWith Kind.Plain thePid zeros)) arrives
     ∙ vouches Kind.Plain thePid 1 0 0 [] zeros zeros f₀ start start-set g₀ asked (omega arith) (nothing (waiting-stage Kind.Plain thePid) refl) (packets ++ (slot 0 f₁₇ ∷ []))
     ∙ stored .quiet-then (slot 0 f₁₇ ∷ [])
     ∙ vouches Kind.Plain thePid 1 1 0 mixed zeros zeros f₁₇ full (stored .set-then) g₁₇ asked (omega arith) owes []

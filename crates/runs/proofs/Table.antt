@@ -22,12 +22,11 @@ use Rattle.packet.specs.Packets.{packetLength, unfit}
 use Rattle.receiver.specs.declared.Stage.{Stage}
 use Rattle.receiver.specs.declared.Event.{Event}
 use Rattle.receiver.specs.declared.Row.{Row}
-use Rattle.receiver.specs.declared.Receiver.{Receiver}
 use Rattle.slices.specs.Slices.{over}
 use Rattle.receiver.specs.Store.{storeLength}
 use Rattle.receiver.specs.Table.{makesReady, Sort, good, broken, other, row, openRow, rowOf, stageChecks, storedOf}
 use Rattle.receiver.specs.Arriving.{sortOf, storeAfter}
-use Rattle.receiver.specs.Receiving.{moved, receiverAfter, receiverChecks, receiveRefusal, rowFor, receiveOf, receiveStore}
+use Rattle.receiver.specs.Receiving.{Receiver, moved, receiverAfter, receiverChecks, receiveRefusal, rowFor, receiveOf, receiveStore}
 use Rattle.receiver.proofs.Sorts.{not-good}
 use Rattle.runs.specs.Runs.{Each, none, more}
 use Rattle.runs.specs.Losses.{Reception, afterPacket, handed, handedOut}

@@ -9,10 +9,9 @@ use Rattle.counters.specs.Counters.{lastSlot}
 use Rattle.header_check.specs.Checking.{readRefusal}
 use Rattle.header_read.specs.Reader.{readOf}
 use Rattle.packet.specs.Packets.{packetLength, slot}
-use Rattle.receiver.specs.declared.Receiver.{Receiver}
 use Rattle.receiver.specs.Store.{numbered}
 use Rattle.receiver.specs.Table.{makesReady}
-use Rattle.receiver.specs.Receiving.{startReceiverOf, receiveOf, receiveStore, handOutOf, handOutBuffer}
+use Rattle.receiver.specs.Receiving.{Receiver, waiting, receiveOf, receiveStore, handOutOf, handOutBuffer}
 use Rattle.runs.specs.Runs.{Each}
 
 -- ---- on the way
@@ -73,7 +72,7 @@ pub record Reception : Type 0 where
   pub store : List ℕ
 
 abbrev pub freshWith : Kind → ℕ → List ℕ → Reception
-freshWith kind pid store = record { state = startReceiverOf kind pid .state; store = store }
+freshWith kind pid store = record { state = waiting kind pid; store = store }
 
 unfoldable pub afterPacket : Reception → List ℕ → Reception
 afterPacket w p =

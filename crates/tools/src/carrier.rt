@@ -6,9 +6,9 @@ use crate::says;
 use crate::tally;
 use crate::tally::Tally;
 use receiver::RECEIVER_BYTES;
+use receiver::events;
 use packet::FRAME_BYTES;
 use packet::PACKET_BYTES;
-use receiver::Event;
 use setting::Kind;
 use setting::SLOTS;
 use setting::limits;
@@ -173,44 +173,30 @@ fn keep(c: Carrier, want: u64, part: &mut [u8], frame: &[u8]) -> Carrier
     next
 }
 
-fn keep_ready(c: Carrier, event: Event, want: u64, part: &mut [u8], frame: &[u8]) -> Carrier
+fn keep_ready(c: Carrier, event: u8, want: u64, part: &mut [u8], frame: &[u8]) -> Carrier
     requires { ⌜ (length (now part) ≡ 49878) × (length (now frame) ≡ 9964) ⌝ }
 {
-    if let Event::Ready = event {
+    if event == events::READY {
         return keep(c, want, part, frame);
     }
     c
 }
 
-// An event by its number.
-fn event_of(n: u8) -> Event {
-    match n {
-        1 => Event::Opened,
-        2 => Event::Stored,
-        3 => Event::Ready,
-        4 => Event::Short,
-        5 => Event::Jump,
-        6 => Event::Long,
-        7 => Event::Broken,
-        _ => Event::Nothing,
-    }
-}
-
-fn receive(frame: &mut [u8], part: &mut [u8], packet: &[u8]) -> Event
+fn receive(frame: &mut [u8], part: &mut [u8], packet: &[u8]) -> u8
     requires { ⌜ (length (now frame) ≡ 9964) × (length (now part) ≡ 49878) ⌝ }
 {
-    let mut event = 0u8;
+    let mut event = events::NOTHING;
     receiver_receive::niranbok_receiver_receive(
         &mut part[0..BLOCK_AT],
         packet,
         &mut frame[PACKET_BYTES..],
         &mut event,
     );
-    event_of(event)
+    event
 }
 
 // The header of the frame that is open now.
-fn hold(c: Carrier, event: Event, packet: &[u8], frame: &mut [u8], pid: u16) -> Carrier
+fn hold(c: Carrier, event: u8, packet: &[u8], frame: &mut [u8], pid: u16) -> Carrier
     requires { ⌜ length (now frame) ≡ 9964 ⌝ }
 {
     if tally::opens(event) {
@@ -220,7 +206,7 @@ fn hold(c: Carrier, event: Event, packet: &[u8], frame: &mut [u8], pid: u16) -> 
     c
 }
 
-fn counted(c: Carrier, event: Event) -> Carrier {
+fn counted(c: Carrier, event: u8) -> Carrier {
     let before = c.tally;
     let mut next = c;
     let after = tally::with_event(before, event);

@@ -9,10 +9,9 @@ use counters::RelativeNumber;
 use libc::STDIN_FILENO;
 use libc::STDOUT_FILENO;
 use packet::PACKET_BYTES;
-use receiver::NUMBERS_BYTES;
+use receiver::RECEIVER_BYTES;
 use receiver::STORE_BYTES;
-use receiver::Event;
-use receiver::Stage;
+use receiver::events;
 use setting::Kind;
 use setting::SLOTS;
 use setting::STREAMS;
@@ -147,9 +146,8 @@ pub(crate) fn number_in(s: Setting, ts_id: u16, network_id: u16) -> u8 {
     0
 }
 
-// Where the receiver stands, the stream's number in the open frame, and what happened so far.
+// The stream's number in the open frame, and what happened so far.
 struct Link {
-    stage: Stage,
     number: u8,
     tally: Tally,
     // Whether standard output takes what is written.
@@ -157,7 +155,7 @@ struct Link {
 }
 
 // The stream's number in the frame that a packet opened, or else as it was.
-fn number_after(event: Event, packet: &[u8], pid: u16, choice: Choice, number: u8) -> u8 {
+fn number_after(event: u8, packet: &[u8], pid: u16, choice: Choice, number: u8) -> u8 {
     if choice.number != 0 {
         return choice.number;
     }
@@ -184,19 +182,18 @@ fn write_packets(out: &[u8], packets: usize) -> bool
 
 // Hands out the stream's packets of a frame that just became ready. Answers how many, and more than a frame has where standard output
 // did not take them.
-fn hand_out(pid: u16, stage: Stage, numbers: &[u8], store: &[u8], number: u8) -> usize {
+fn hand_out(state: &[u8], store: &[u8], number: u8) -> usize {
     let mut out = [0u8; STORE_BYTES];
-    let r = RelativeNumber(number);
-    let handed = receiver::hand_out_in_place(pid, stage, numbers, store, &mut out, r);
-    if write_packets(&out, handed.packets) {
-        return handed.packets;
+    let mut packets = 0usize;
+    receiver_hand_out::niranbok_receiver_hand_out(state, store, &mut out, number, &mut packets);
+    if write_packets(&out, packets) {
+        return packets;
     }
     SLOTS + 1
 }
 
-fn after_ready(link: Link, pid: u16, numbers: &[u8], store: &[u8]) -> Link {
-    let stage = link.stage;
-    let packets = hand_out(pid, stage, numbers, store, link.number);
+fn after_ready(link: Link, state: &[u8], store: &[u8]) -> Link {
+    let packets = hand_out(state, store, link.number);
     let before = link.tally;
     let mut next = link;
     if SLOTS < packets {
@@ -208,9 +205,9 @@ fn after_ready(link: Link, pid: u16, numbers: &[u8], store: &[u8]) -> Link {
     next
 }
 
-fn after_event(link: Link, event: Event, pid: u16, numbers: &[u8], store: &[u8]) -> Link {
-    if let Event::Ready = event {
-        return after_ready(link, pid, numbers, store);
+fn after_event(link: Link, event: u8, state: &[u8], store: &[u8]) -> Link {
+    if event == events::READY {
+        return after_ready(link, state, store);
     }
     link
 }
@@ -219,23 +216,20 @@ fn after_event(link: Link, event: Event, pid: u16, numbers: &[u8], store: &[u8])
 fn take(
     link: Link,
     packet: &[u8],
-    numbers: &mut [u8],
+    state: &mut [u8],
     store: &mut [u8],
     pid: u16,
     choice: Choice,
 ) -> Link {
-    let stage = link.stage;
-    let step = receiver::receive_in_place(pid, Kind::Plain, stage, numbers, packet, store);
-    let event = step.event;
-    let now = step.stage;
+    let mut event = events::NOTHING;
+    receiver_receive::niranbok_receiver_receive(state, packet, store, &mut event);
     let before = link.tally;
     let counted = Link {
-        stage: now,
         number: link.number,
         tally: tally::with_event(before, event),
         taken: link.taken,
     };
-    let mut next = after_event(counted, event, pid, numbers, store);
+    let mut next = after_event(counted, event, state, store);
     next.number = number_after(event, packet, pid, choice, next.number);
     next
 }
@@ -244,7 +238,7 @@ fn take(
 fn take_block(
     link: Link,
     block: &[u8],
-    numbers: &mut [u8],
+    state: &mut [u8],
     store: &mut [u8],
     pid: u16,
     choice: Choice,
@@ -255,7 +249,7 @@ fn take_block(
     while i < packets {
         let at = PACKET_BYTES * i;
         let packet = &block[at..at + PACKET_BYTES];
-        next = take(next, packet, numbers, store, pid, choice);
+        next = take(next, packet, state, store, pid, choice);
         if !next.taken {
             return next;
         }
@@ -264,11 +258,8 @@ fn take_block(
     next
 }
 
-fn start(pid: u16) -> Link {
-    let state = receiver::start(pid, Kind::Plain).state;
-    let stage = state.stage;
+fn start() -> Link {
     Link {
-        stage,
         number: 0,
         tally: tally::none(),
         taken: true,
@@ -279,7 +270,7 @@ fn start(pid: u16) -> Link {
 fn take_all(
     fd: i32,
     block: &mut [u8],
-    numbers: &mut [u8],
+    state: &mut [u8],
     store: &mut [u8],
     pid: u16,
     choice: Choice,
@@ -291,7 +282,7 @@ fn take_all(
     let mut blocks: u64 = 0;
     while blocks < u64::MAX {
         let got = input::read_block(fd, block);
-        next = take_block(next, &block[0..got], numbers, store, pid, choice);
+        next = take_block(next, &block[0..got], state, store, pid, choice);
         if !next.taken {
             return next;
         }
@@ -309,16 +300,17 @@ fn demux(fd: i32, pid: u16, choice: Choice) {
         return;
     }
     let mut block = [0u8; BLOCK_BYTES];
-    let mut numbers = [0u8; NUMBERS_BYTES];
+    let mut state = [0u8; RECEIVER_BYTES];
     let mut store = [0u8; STORE_BYTES];
+    receiver_start::niranbok_receiver_start(&mut state, pid, 0);
     let end = take_all(
         fd,
         &mut block,
-        &mut numbers,
+        &mut state,
         &mut store,
         pid,
         choice,
-        start(pid),
+        start(),
     );
     tally::say(end.tally, pid);
 }

@@ -1,6 +1,6 @@
 // What happened to the frames of an input, and the summary of it.
 use crate::says;
-use receiver::Event;
+use receiver::events;
 
 // Counts, each of which would wrap at 2^64.
 pub(crate) struct Tally {
@@ -30,12 +30,12 @@ pub(crate) fn none() -> Tally {
 }
 
 // Whether the packet opened a frame: it is a good header.
-pub(crate) fn opens(event: Event) -> bool {
+pub(crate) fn opens(event: u8) -> bool {
     match event {
-        Event::Opened => true,
-        Event::Ready => true,
-        Event::Short => true,
-        Event::Jump => true,
+        events::OPENED => true,
+        events::READY => true,
+        events::SHORT => true,
+        events::JUMP => true,
         _ => false,
     }
 }
@@ -55,27 +55,27 @@ fn say_progress(ready: u64) {
 }
 
 // One packet more, and what it did.
-pub(crate) fn with_event(t: Tally, event: Event) -> Tally {
+pub(crate) fn with_event(t: Tally, event: u8) -> Tally {
     let mut next = t;
     next.came = more(t.came);
     if opens(event) {
         next.headers = more(t.headers);
     }
     match event {
-        Event::Ready => {
+        events::READY => {
             next.ready = more(t.ready);
             say_progress(next.ready);
         }
-        Event::Short => {
+        events::SHORT => {
             next.short = more(t.short);
         }
-        Event::Jump => {
+        events::JUMP => {
             next.jump = more(t.jump);
         }
-        Event::Long => {
+        events::LONG => {
             next.long = more(t.long);
         }
-        Event::Broken => {
+        events::BROKEN => {
             next.broken = more(t.broken);
         }
         _ => {}
