@@ -2,14 +2,14 @@
 use Prim.Native.Nat.{ℕ, zero, suc, _+_, _*_, _/_, _%_, _^_, _≤_, _<_}
 use mathlib.Core.Path.{_≡_, refl, sym, ap, ap₂, _∙_, subst}
 use native.Mathlib.Omega.{arith}
-use native.Mathlib.Nat.{add-assoc, add-comm, div-eq-of-lt, div-one, lt-of-lt-of-le, mod-eq-of-lt, mod-lt, mul-assoc, mul-mod-left, mul-one, pow-le-pow-right, pow-succ'}
+use native.Mathlib.Nat.{add-assoc, add-comm, div-eq-of-lt, lt-of-lt-of-le, mod-eq-of-lt, mod-lt, mul-assoc, mul-mod-left, mul-one, pow-le-pow-right, pow-succ'}
 use lib.Bits.{bitXor, xor-comm, xor-lt, xor-mod, xor-shifted, xor-shr, xor-zero-l, xor-zero-r}
-use lib.Dec.{lit<, lit≤}
+use lib.Dec.{lit<}
 use lib.Pow.{mod-pow-add, pow-pos, shl-exact, shl-lt, shl-shr, shr-lt, shr-mod, shr-shr, split}
 use Rattle.bits.specs.Fields.{bitsOf}
 use Rattle.bits.proofs.Laws.{bitsOf-split}
 use Rattle.crc.specs.Crc.{poly, registerFrom, shift, shifts}
-use Rattle.crc.specs.Words.{Ahead, fourBytes, held, reduced}
+use Rattle.crc.specs.Words.{Ahead, held, reduced}
 use Rattle.crc.proofs.Laws.{field-in, registerFrom-append, shift-linear, shift-low, shifts-add, shifts-linear, shifts-low, shifts-zero}
 use Rattle.crc.proofs.Xor.{bit-cases, xor-assoc, xor-shl, xor-swap}
 
@@ -81,18 +81,11 @@ reduced-up j (suc n) x e h =
 
 -- ---- n shifts on
 
-pub one-ahead : {n v e : ℕ} → v % 2 ≡ 1 → e < 2 ^ 32 → e ≡ shifts n 1 → Ahead n 1 v e
-one-ahead {n} {v} {e} z h same = record { bits = lt-of-lt-of-le h (lit≤ tt); same = reduced-low e h ∙ same ∙ ap (shifts n) (sym z) }
+pub one-ahead : {n v e : ℕ} → v % 2 ≡ 1 → Ahead n 1 1 e → Ahead n 1 v e
+one-ahead {n} z a = record { bits = a .bits; same = a .same ∙ ap (shifts n) (sym z) }
 
 pub zero-ahead : {n k v : ℕ} → v % 2 ^ k ≡ 0 → Ahead n k v 0
 zero-ahead {n} {k} {v} z = record { bits = pow-pos (32 + k); same = reduced-low 0 (lit< tt) ∙ sym (ap (shifts n) z ∙ shifts-zero n) }
-
--- 32 bits moved up as far
-up-ahead : (v : ℕ) → Ahead 32 32 v (v * 2 ^ 32 % 2 ^ 64)
-up-ahead v = record { bits = mod-lt (v * 2 ^ 32) (lit< tt); same = ap reduced out ∙ reduced-high (v % 2 ^ 32) }
-  where
-    out : v * 2 ^ 32 % 2 ^ 64 ≡ v % 2 ^ 32 * 2 ^ 32
-    out = omega arith
 
 -- w bits more, those of x from place j on
 pub more-ahead : {n k r e : ℕ} (w j x : ℕ) → k + w ≤ 32 → Ahead n k (x / 2 ^ (j + w)) r → Ahead n w (x / 2 ^ j) e
@@ -118,18 +111,11 @@ more-ahead {n} {k} {r} {e} w j x l a b = record {
     exact : r * 2 ^ w % 2 ^ 64 ≡ r * 2 ^ w
     exact = shl-exact (32 + k) w 64 (a .bits) (omega arith)
 
--- the four lowest bytes of x
-pub four-ahead : {n a b c d e : ℕ} (x : ℕ) → Ahead n 8 (x / 2 ^ 24) a → Ahead n 8 (x / 2 ^ 16) b → Ahead n 8 (x / 2 ^ 8) c → Ahead n 8 (x / 2 ^ 0) d
-    → e ≡ fourBytes a b c d → Ahead n 32 x e
-four-ahead {n} {a} {b} {c} {d} {e} x ha hb hc hd same =
-    subst (λ (v : ℕ). Ahead n 32 v e) (div-one x) (subst (Ahead n 32 (x / 2 ^ 0)) (sym same)
-    (more-ahead 8 0 x (lit≤ tt) (more-ahead 8 8 x (lit≤ tt) (more-ahead 8 16 x (lit≤ tt) ha hb) hc) hd))
-
 -- the halves of 64 bits go on as one
-halves-ahead : (n r : ℕ) {a b : ℕ} → r < 2 ^ 64 → Ahead (32 + n) 32 (r / 2 ^ 32) a → Ahead n 32 r b → reduced (bitXor a b) ≡ shifts n (reduced r)
+pub halves-ahead : (n r : ℕ) {a b : ℕ} → r < 2 ^ 64 → Ahead (n + 32) 32 (r / 2 ^ 32) a → Ahead n 32 r b → reduced (bitXor a b) ≡ shifts n (reduced r)
 unfolding reduced
 halves-ahead n r {a} {b} h ha hb =
-    reduced-linear a b ∙ ap₂ bitXor (ha .same ∙ ap (shifts (32 + n)) (shr-mod 32 32 h) ∙ shifts-add 32 n (r / 2 ^ 32)) (hb .same)
+    reduced-linear a b ∙ ap₂ bitXor (ha .same ∙ ap (shifts (n + 32)) (shr-mod 32 32 h) ∙ shifts-add n 32 (r / 2 ^ 32) ∙ shifts-swap 32 n (r / 2 ^ 32)) (hb .same)
     ∙ sym (shifts-linear n (shifts 32 (r / 2 ^ 32)) (r % 2 ^ 32))
 
 -- ---- eight bytes at once
@@ -158,11 +144,10 @@ held-first s v w hv hw =
     ∙ ap (shifts 64) (ap (λ (x : ℕ). bitXor x (reduced v)) (sym (reduced-high s)) ∙ xor-comm (reduced (s * 2 ^ 32)) (reduced v) ∙ sym (reduced-linear v (s * 2 ^ 32)))))
 
 -- eight bytes more: the first eight of the sixteen before go 128 shifts on, over the other eight to where the new ones stand
-pub held-turn : (r s w : ℕ) {a b : ℕ} → r < 2 ^ 64 → w < 2 ^ 64 → Ahead 160 32 (r / 2 ^ 32) a → Ahead 128 32 r b
-    → held s (bitXor (bitXor a b) w) ≡ registerFrom (held r s) (bitsOf 64 w)
+pub held-turn : (r s w e : ℕ) → w < 2 ^ 64 → reduced e ≡ shifts 128 (reduced r) → held s (bitXor e w) ≡ registerFrom (held r s) (bitsOf 64 w)
 unfolding held
-held-turn r s w {a} {b} hr hw ha hb =
-    ap (shifts 32) (ap (bitXor S) (reduced-linear (bitXor a b) w ∙ ap (λ (x : ℕ). bitXor x (reduced w)) (halves-ahead 128 r hr ha hb))
+held-turn r s w e hw on =
+    ap (shifts 32) (ap (bitXor S) (reduced-linear e w ∙ ap (λ (x : ℕ). bitXor x (reduced w)) on)
     ∙ sym (xor-assoc S R (reduced w)) ∙ ap (λ (x : ℕ). bitXor x (reduced w)) (xor-comm S R ∙ kept))
     ∙ sym (long-in (held r s) w hw)
   where
@@ -177,14 +162,8 @@ held-turn r s w {a} {b} hr hw ha hb =
         ap (λ (x : ℕ). bitXor x S) (shifts-add 64 64 (reduced r)) ∙ sym (shifts-linear 64 (shifts 64 (reduced r)) (reduced s))
         ∙ shifts-add 32 32 (bitXor (shifts 64 (reduced r)) (reduced s))
 
--- the register of the sixteen bytes: each four go as far on as they stand from the end
-pub held-left : (r s : ℕ) {a b e : ℕ} → r < 2 ^ 64 → s < 2 ^ 64 → Ahead 128 32 (r / 2 ^ 32) a → Ahead 96 32 r b → Ahead 64 32 (s / 2 ^ 32) e
-    → reduced (bitXor (bitXor (bitXor a b) e) (s * 2 ^ 32 % 2 ^ 64)) ≡ held r s
+-- the register of the sixteen bytes: each eight go as far on as they stand from the end
+pub held-left : (r s a b : ℕ) → reduced a ≡ shifts 96 (reduced r) → reduced b ≡ shifts 32 (reduced s) → reduced (bitXor a b) ≡ held r s
 unfolding held
-held-left r s {a} {b} {e} hr hs ha hb he =
-    ap reduced (xor-assoc (bitXor a b) e low) ∙ reduced-linear (bitXor a b) (bitXor e low)
-    ∙ ap₂ bitXor (halves-ahead 96 r hr ha hb ∙ shifts-add 64 32 (reduced r)) (halves-ahead 32 s hs he (up-ahead s))
-    ∙ sym (shifts-linear 32 (shifts 64 (reduced r)) (reduced s))
-  where
-    low : ℕ
-    low = s * 2 ^ 32 % 2 ^ 64
+held-left r s a b ha hb =
+    reduced-linear a b ∙ ap₂ bitXor (ha ∙ shifts-add 64 32 (reduced r)) hb ∙ sym (shifts-linear 32 (shifts 64 (reduced r)) (reduced s))

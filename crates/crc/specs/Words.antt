@@ -1,5 +1,5 @@
 -- What the functions promise each other by which eight bytes at once enter a register.
-use Prim.Native.Nat.{ℕ, _+_, _*_, _/_, _%_, _^_, _<_}
+use Prim.Native.Nat.{ℕ, _+_, _/_, _%_, _^_, _≤_, _<_}
 use mathlib.Core.List.{List, _++_}
 use mathlib.Core.Path.{_≡_}
 use lib.Bits.{bitXor}
@@ -20,9 +20,9 @@ pub record Ahead (n k v e : ℕ) : Type 0 where
   pub bits : e < 2 ^ (32 + k)
   pub same : reduced e ≡ shifts n (v % 2 ^ k)
 
--- four numbers of 64 bits as one, each eight places above the next
-abbrev pub fourBytes : ℕ → ℕ → ℕ → ℕ → ℕ
-fourBytes a b c d = bitXor (bitXor (bitXor (a * 2 ^ 8 % 2 ^ 64) b * 2 ^ 8 % 2 ^ 64) c * 2 ^ 8 % 2 ^ 64) d
+-- n is one of the distances, 32, 64, 96, 128 and 160 shifts, for which there is a table
+abbrev pub Tabled : ℕ → Type 0
+Tabled n = (32 ≤ n) × (n ≤ 160) × (n % 32 ≡ 0)
 
 -- the register that the bits of r and then of s leave, 64 each, from zero on
 unfoldable pub held : ℕ → ℕ → ℕ

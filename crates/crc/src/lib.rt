@@ -1,22 +1,13 @@
 // The CRC of H.222.0 over bytes.
 // The call for C that answers with a CRC register.
-ghost use Prim.Native.Nat.{_+_, _/_, _%_, _^_, _≤_, _<_};
+ghost use Prim.Native.Nat.{_+_, _%_, _≤_};
 ghost use mathlib.Core.Path.{_≡_};
 ghost use lib.ListN.{length};
 ghost use Rattle.bits.specs.Fields.{bitsOf, run};
 ghost use Rattle.crc.specs.Crc.{registerFrom, registerOf, shifts};
-ghost use Rattle.crc.specs.Words.{Ahead, LongAt, fourBytes, held};
+ghost use Rattle.crc.specs.Words.{Ahead, LongAt, Tabled, held, reduced};
 
 const POLY: u32 = 0x04C1_1DB7;
-
-// What the register 1 becomes by so many shifts.
-const ONE_64: u64 = 0x490D_678D;
-
-const ONE_96: u64 = 0xF200_AA66;
-
-const ONE_128: u64 = 0xE8A4_5605;
-
-const ONE_160: u64 = 0x17D3_315D;
 
 // The register `x` after `n` shifts. Where `n` is known the compiler makes a table of its own of the loop, eight shifts a look.
 fn shifted(x: u32, n: u32) -> u32
@@ -69,20 +60,35 @@ fn long(bytes: &[u8], i: usize) -> u64
     r
 }
 
-// The byte of `x` at place `k`, 64 shifts on. A register of 64 bits, out of which nothing falls: the compiler makes one look into a table
-// of it, if the constant stands beside the loop. So each number of shifts has such a function of its own.
-fn byte_64_on(x: u64, k: u32) -> u64
-    requires { ⌜ k < 64 ⌝ }
-    ensures { λ r. ⌜ Ahead 64 8 (x / 2 ^ k) r ⌝ }
+// The register 1 after `n` shifts, for the distances that are in use.
+fn one(n: u32) -> u64
+    requires { ⌜ Tabled n ⌝ }
+    ensures { λ r. ⌜ Ahead n 1 1 r ⌝ }
+{
+    match n {
+        32 => POLY as u64,
+        64 => 0x490D_678D,
+        96 => 0xF200_AA66,
+        128 => 0xE8A4_5605,
+        _ => 0x17D3_315D,
+    }
+}
+
+// The lowest byte of `x`, `n` shifts on. The register has 64 bits, so that nothing falls out of it. The compiler makes a loop for each
+// number of `one`, and of each loop one look into a table. It does so only where `one` stands in the loop, `r` is shifted in one place and
+// `i` counts up. With the number as an argument there would be no table, and all would take five times as long.
+fn byte_on(x: u64, n: u32) -> u64
+    requires { ⌜ Tabled n ⌝ }
+    ensures { λ r. ⌜ Ahead n 8 x r ⌝ }
 {
     let mut r: u64 = 0;
-    let mut d = (x >> k) << 56;
+    let mut d = x << 56;
     let mut i: u32 = 0;
     while i < 8 {
-        if (r ^ d) >> 63 == 1 {
-            r = (r << 1) ^ ONE_64;
-        } else {
-            r = r << 1;
+        let top = (r ^ d) >> 63;
+        r = r << 1;
+        if top == 1 {
+            r = r ^ one(n);
         }
         d = d << 1;
         i += 1;
@@ -90,126 +96,34 @@ fn byte_64_on(x: u64, k: u32) -> u64
     r
 }
 
-// The byte of `x` at place `k`, 96 shifts on.
-fn byte_96_on(x: u64, k: u32) -> u64
-    requires { ⌜ k < 64 ⌝ }
-    ensures { λ r. ⌜ Ahead 96 8 (x / 2 ^ k) r ⌝ }
+// The lowest 32 bits of `x`, `n` shifts on. The four bytes are looked up side by side: none waits for the one before it.
+fn low_on(x: u64, n: u32) -> u64
+    requires { ⌜ Tabled n ⌝ }
+    ensures { λ r. ⌜ Ahead n 32 x r ⌝ }
 {
     let mut r: u64 = 0;
-    let mut d = (x >> k) << 56;
     let mut i: u32 = 0;
-    while i < 8 {
-        if (r ^ d) >> 63 == 1 {
-            r = (r << 1) ^ ONE_96;
-        } else {
-            r = r << 1;
-        }
-        d = d << 1;
-        i += 1;
+    while i < 32 {
+        i += 8;
+        r = (r << 8) ^ byte_on(x >> (32 - i), n);
     }
     r
 }
 
-// The byte of `x` at place `k`, 128 shifts on.
-fn byte_128_on(x: u64, k: u32) -> u64
-    requires { ⌜ k < 64 ⌝ }
-    ensures { λ r. ⌜ Ahead 128 8 (x / 2 ^ k) r ⌝ }
+// The 64 bits of `x`, `n` shifts on. The high half stands 32 bits before the low one, so it goes 32 shifts further.
+fn long_on(x: u64, n: u32) -> u64
+    requires { ⌜ Tabled n × Tabled (n + 32) ⌝ }
+    ensures { λ r. ⌜ reduced r ≡ shifts n (reduced x) ⌝ }
 {
-    let mut r: u64 = 0;
-    let mut d = (x >> k) << 56;
-    let mut i: u32 = 0;
-    while i < 8 {
-        if (r ^ d) >> 63 == 1 {
-            r = (r << 1) ^ ONE_128;
-        } else {
-            r = r << 1;
-        }
-        d = d << 1;
-        i += 1;
-    }
-    r
+    low_on(x >> 32, n + 32) ^ low_on(x, n)
 }
 
-// The byte of `x` at place `k`, 160 shifts on.
-fn byte_160_on(x: u64, k: u32) -> u64
-    requires { ⌜ k < 64 ⌝ }
-    ensures { λ r. ⌜ Ahead 160 8 (x / 2 ^ k) r ⌝ }
-{
-    let mut r: u64 = 0;
-    let mut d = (x >> k) << 56;
-    let mut i: u32 = 0;
-    while i < 8 {
-        if (r ^ d) >> 63 == 1 {
-            r = (r << 1) ^ ONE_160;
-        } else {
-            r = r << 1;
-        }
-        d = d << 1;
-        i += 1;
-    }
-    r
-}
-
-// Four numbers as one, each eight places above the next.
-fn joined(a: u64, b: u64, c: u64, d: u64) -> u64
-    ensures { λ r. ⌜ r ≡ fourBytes a b c d ⌝ }
-{
-    (((((a << 8) ^ b) << 8) ^ c) << 8) ^ d
-}
-
-// The lowest 32 bits of `x`, 64 shifts on.
-fn low_64_on(x: u64) -> u64
-    ensures { λ r. ⌜ Ahead 64 32 x r ⌝ }
-{
-    joined(
-        byte_64_on(x, 24),
-        byte_64_on(x, 16),
-        byte_64_on(x, 8),
-        byte_64_on(x, 0),
-    )
-}
-
-// The lowest 32 bits of `x`, 96 shifts on.
-fn low_96_on(x: u64) -> u64
-    ensures { λ r. ⌜ Ahead 96 32 x r ⌝ }
-{
-    joined(
-        byte_96_on(x, 24),
-        byte_96_on(x, 16),
-        byte_96_on(x, 8),
-        byte_96_on(x, 0),
-    )
-}
-
-// The lowest 32 bits of `x`, 128 shifts on.
-fn low_128_on(x: u64) -> u64
-    ensures { λ r. ⌜ Ahead 128 32 x r ⌝ }
-{
-    joined(
-        byte_128_on(x, 24),
-        byte_128_on(x, 16),
-        byte_128_on(x, 8),
-        byte_128_on(x, 0),
-    )
-}
-
-// The lowest 32 bits of `x`, 160 shifts on.
-fn low_160_on(x: u64) -> u64
-    ensures { λ r. ⌜ Ahead 160 32 x r ⌝ }
-{
-    joined(
-        byte_160_on(x, 24),
-        byte_160_on(x, 16),
-        byte_160_on(x, 8),
-        byte_160_on(x, 0),
-    )
-}
-
-// The register that the sixteen bytes of `r` and `s` leave, from zero on: each four of them go as far on as they stand from the end.
+// The register that the sixteen bytes of `r` and `s` leave, from zero on: `s` goes on by the 32 bits of the register, and `r` by the 64
+// of `s` besides.
 fn left_by(r: u64, s: u64) -> u32
     ensures { λ q. ⌜ q ≡ held r s ⌝ }
 {
-    let u = low_128_on(r >> 32) ^ low_96_on(r) ^ low_64_on(s >> 32) ^ (s << 32);
+    let u = long_on(r, 96) ^ long_on(s, 32);
     shifted((u >> 32) as u32, 32) ^ (u % 0x1_0000_0000) as u32
 }
 
@@ -223,7 +137,7 @@ fn longs_in(bytes: &[u8]) -> u32
     let mut s = long(bytes, 8);
     let mut i = 16;
     while i < bytes.len() {
-        let t = low_160_on(r >> 32) ^ low_128_on(r) ^ long(bytes, i);
+        let t = long_on(r, 128) ^ long(bytes, i);
         r = s;
         s = t;
         i += 8;

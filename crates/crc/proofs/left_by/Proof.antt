@@ -1,44 +1,22 @@
--- `crc::left_by` meets its contract: each four bytes are as far on as they stand from the end, and the high half is shifted last. Assumes nothing.
-use Prim.Native.Nat.{ℕ, _*_, _%_, _^_, _<_}
+-- `crc::left_by` meets its contract: each eight bytes are as far on as they stand from the end, and the high half is shifted last. Assumes nothing.
+use Prim.Native.Nat.{ℕ, _%_, _^_}
 use mathlib.Core.Path.{ap, _∙_}
 use native.Mathlib.Omega.{arith}
-use native.Mathlib.Nat.{mod-lt}
 use borrow.Author.Needs.{needs}
 use lib.Bits.{bitXor, xor-lt}
-use lib.Dec.{lit<}
 use Rattle.crc.specs.Words.{reduced}
 use Rattle.crc.proofs.Reduced.{held-left}
 use Rattle.crc.proofs.left_by.Statement.{statement}
 use Rattle.crc.proofs.left_by.Tie as tie
 
-low-128-on-requires : tie.Need-low-128-on-requires
-low-128-on-requires c κs = search needs
+long-on-requires : tie.Need-long-on-requires
+long-on-requires c κs = search needs
 
-low-96-on-requires : tie.Need-low-96-on-requires
-low-96-on-requires c κs = search needs
-
-low-64-on-requires : tie.Need-low-64-on-requires
-low-64-on-requires c κs = search needs
+long-on-requires-2 : tie.Need-long-on-requires-2
+long-on-requires-2 c κs = search needs
 
 cast-shifted : tie.Need-cast-shifted
-cast-shifted c = omega (arith, wide)
-  where
-    a : ℕ
-    a = c .before .before .low-128-on .result
-
-    b : ℕ
-    b = c .before .low-96-on .result
-
-    e : ℕ
-    e = c .low-64-on .result
-
-    low : ℕ
-    low = c .before .before .before .args .s * 2 ^ 32 % 2 ^ 64
-
-    wide : bitXor (bitXor (bitXor a b) e) low < 2 ^ 64
-    wide =
-        xor-lt 64 (bitXor (bitXor a b) e) low (xor-lt 64 (bitXor a b) e (xor-lt 64 a b (omega arith) (omega arith)) (omega arith))
-        (mod-lt (c .before .before .before .args .s * 2 ^ 32) (lit< tt))
+cast-shifted c = omega (arith, xor-lt 64 (c .before .long-on .result) (c .long-on2 .result) (omega arith) (omega arith))
 
 shifted-requires : tie.Need-shifted-requires
 shifted-requires c κs = search needs
@@ -49,30 +27,14 @@ cast-result c = search needs
 returns : tie.Need-returns
 unfolding reduced
 returns c =
-    ap (λ (x : ℕ). bitXor x (bitXor (bitXor (bitXor a b) e) (s * 2 ^ 32 % 2 ^ 64) % 2 ^ 32)) (c .shifted .ensures)
-    ∙ held-left (c .before .before .before .before .args .r) s (omega arith) (omega arith) (c .before .before .before .low-128-on .ensures)
-    (c .before .before .low-96-on .ensures) (c .before .low-64-on .ensures)
+    ap (λ (x : ℕ). bitXor x (bitXor a b % 2 ^ 32)) (c .shifted .ensures)
+    ∙ held-left (c .before .before .before .args .r) (c .before .before .before .args .s) a b (c .before .before .long-on .ensures) (c .before .long-on2 .ensures)
   where
-    s : ℕ
-    s = c .before .before .before .before .args .s
-
     a : ℕ
-    a = c .before .before .before .low-128-on .result
+    a = c .before .before .long-on .result
 
     b : ℕ
-    b = c .before .before .low-96-on .result
-
-    e : ℕ
-    e = c .before .low-64-on .result
+    b = c .before .long-on2 .result
 
 pub left-by-spec : {M : Type 1} → statement M
-left-by-spec =
-    tie.close
-    (tie.spec
-    low-128-on-requires
-    low-96-on-requires
-    low-64-on-requires
-    cast-shifted
-    shifted-requires
-    cast-result
-    returns)
+left-by-spec = tie.close (tie.spec long-on-requires long-on-requires-2 cast-shifted shifted-requires cast-result returns)

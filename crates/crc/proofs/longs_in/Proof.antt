@@ -1,11 +1,10 @@
 -- `crc::longs_in` meets its contract. The loop's invariant: the bytes that are left, a multiple of eight, bring the register that is held to
 -- the one that is asked. The measure is how many are left. Assumes nothing.
-use Prim.Native.Nat.{ℕ, _+_, _-_, _%_, _^_, _≤_, _<_}
+use Prim.Native.Nat.{ℕ, _+_, _-_, _%_, _^_, _≤_}
 use mathlib.Core.Path.{_≡_, refl, sym, _∙_}
 use mathlib.Core.List.{List}
 use native.Mathlib.Omega.{arith}
-use lib.Bits.{bitXor, xor-lt}
-use lib.Dec.{lit<}
+use borrow.Author.Needs.{needs}
 use lib.ListN.{length, drop}
 use Rattle.bits.specs.Fields.{bitsOf, run}
 use Rattle.crc.specs.Crc.{registerFrom, registerOf}
@@ -17,7 +16,7 @@ use Rattle.crc.proofs.longs_in.Tie as tie
 
 abbrev Inv-loop : tie.InvT-loop
 Inv-loop bytes r₀ s₀ i₀ r s i =
-    (i ≤ length bytes) × (i % 8 ≡ 0) × (r < 2 ^ 64) × (s < 2 ^ 64) × (registerFrom (held r s) (run 8 (drop i bytes)) ≡ registerOf bytes)
+    (i ≤ length bytes) × (i % 8 ≡ 0) × (registerFrom (held r s) (run 8 (drop i bytes)) ≡ registerOf bytes)
 
 abbrev μ-loop : tie.MeasureT-loop
 μ-loop bytes r₀ s₀ i₀ r s i = length bytes - i
@@ -32,8 +31,6 @@ loop-holds : tie.Need-loop-holds Inv-loop μ-loop
 unfolding registerOf
 loop-holds c = (
   omega arith,
-  omega arith,
-  xor-lt 64 v _ (omega arith) (lit< tt),
   omega arith,
   turn (registerFrom ones (bitsOf 64 v)) (bitsOf 64 w) (run 8 (drop 16 m)) (c .long2 .ensures) (held-first ones v w (omega arith) (omega arith))
       ∙ turn ones (bitsOf 64 v) (run 8 (drop 8 m)) (c .before .long .ensures) refl,
@@ -51,11 +48,8 @@ loop-holds c = (
     ones : ℕ
     ones = 2 ^ 32 - 1
 
-low-160-on-requires : tie.Need-low-160-on-requires Inv-loop μ-loop
-low-160-on-requires c κs = tt
-
-low-128-on-requires : tie.Need-low-128-on-requires Inv-loop μ-loop
-low-128-on-requires c κs = tt
+long-on-requires : tie.Need-long-on-requires Inv-loop μ-loop
+long-on-requires c κs = search needs
 
 long-requires-3 : tie.Need-long-requires-3 Inv-loop μ-loop
 long-requires-3 c κs = omega arith
@@ -70,30 +64,24 @@ loop-again : tie.Need-loop-again Inv-loop μ-loop
 loop-again c = (
   omega arith,
   omega arith,
-  c .before .before .before .before .loop .inv .3,
-  xor-lt 64 (bitXor a b) w (xor-lt 64 a b (omega arith) (omega arith)) (omega arith),
-  turn (held r s) (bitsOf 64 w) (run 8 (drop (i + 8) m)) (c .long3 .ensures)
-      (held-turn r s w (c .before .before .before .before .loop .inv .2) (omega arith) (c .before .before .low-160-on .ensures) (c .before .low-128-on .ensures))
-      ∙ c .before .before .before .before .loop .inv .4,
+  turn (held r s) (bitsOf 64 w) (run 8 (drop (i + 8) m)) (c .long3 .ensures) (held-turn r s w e (omega arith) (c .before .long-on .ensures))
+      ∙ c .before .before .before .loop .inv .2,
 )
   where
     m : List ℕ
-    m = c .before .before .before .before .before .before .before .before .args .bytes .now
+    m = c .before .before .before .before .before .before .before .args .bytes .now
 
     r : ℕ
-    r = c .before .before .before .before .loop .r
+    r = c .before .before .before .loop .r
 
     s : ℕ
-    s = c .before .before .before .before .loop .s
+    s = c .before .before .before .loop .s
 
     i : ℕ
-    i = c .before .before .before .before .loop .i
+    i = c .before .before .before .loop .i
 
-    a : ℕ
-    a = c .before .before .low-160-on .result
-
-    b : ℕ
-    b = c .before .low-128-on .result
+    e : ℕ
+    e = c .before .long-on .result
 
     w : ℕ
     w = c .long3 .result
@@ -105,7 +93,7 @@ returns : tie.Need-returns Inv-loop μ-loop
 returns c =
     c .left-by .ensures
     ∙ sym (none-left (held (c .before .before .loop .r) (c .before .before .loop .s)) (c .before .before .before .before .before .before .args .bytes .now) (c .before .before .loop .i) (omega arith))
-    ∙ c .before .before .loop .inv .4
+    ∙ c .before .before .loop .inv .2
 
 pub longs-in-spec : {M : Type 1} → statement M
 longs-in-spec =
@@ -116,8 +104,7 @@ longs-in-spec =
     long-requires
     long-requires-2
     loop-holds
-    low-160-on-requires
-    low-128-on-requires
+    long-on-requires
     long-requires-3
     add-i
     loop-less
