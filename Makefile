@@ -1,13 +1,15 @@
 # `make tools` proves and builds mux, demux, bond and unbond; `make run` the lister, and lists the sample; `make test` is the gate;
 # `make board` makes the archive for C; `make bench` measures, `make count` counts instructions; `make memory` runs the comparison under
-# valgrind; `make real` takes real streams through the tools. Measuring and valgrind take an archive for the machine's own processor.
-.PHONY: tools names rust-test tools-test real run test board archive archive-test limits-test board-test native bench count memory vectors x86-64
+# valgrind; `make real` takes real streams through the tools; `make map` writes the map of the crates. What lacks is installed, and said;
+# `make setup` does that apart. Measuring and valgrind take an archive for the machine's own processor.
+.PHONY: tools names rust-test tools-test real run test board archive archive-test limits-test board-test native bench count memory vectors \
+	setup map map-test
 SHELL = /bin/bash
 .SHELLFLAGS = -o pipefail -c
 
-BOARD = board_numbers board_counters board_setting board_crc board_header_write board_header_read board_packet composer_start \
-	composer_begin composer_put composer_close board_receiver_start board_receiver_receive board_receiver_hand_out \
-	board_bond board_gather
+# The crates with functions for C (`#[no_mangle]`).
+BOARD = counters setting crc packet setting_calls header_calls composer_start composer_begin composer_put composer_close \
+	receiver_start receiver_receive receiver_hand_out bond_calls
 
 # The archive and the programs are for x86-64. On another processor an emulator runs them, and Debian's cross compilers make what is
 # linked with the archive.
@@ -30,28 +32,31 @@ export QEMU_CPU ?= Nehalem
 export NIRANBOK_PART ?= 4
 endif
 
-# Installs the emulator and the cross compilers where they are needed and lack.
-x86-64:
+# The emulator and the cross compilers, where they are needed and lack. On x86-64 there is nothing to install.
+setup:
 ifdef EMULATOR
-	@command -v $(EMULATOR) $(CROSS_CC) /usr/bin/rustc >/dev/null && [ -d /usr/lib/rustlib/x86_64-unknown-linux-gnu ] || \
-	{ dpkg --add-architecture amd64 && apt-get -q update && DEBIAN_FRONTEND=noninteractive apt-get -q install -y --no-install-recommends \
-	qemu-user gcc-x86-64-linux-gnu libc6-dev-amd64-cross rustc-web libstd-rust-web-dev:amd64; } >/dev/null
+	@scripts/install.sh 'the programs and the archive are for x86-64, and this machine is not (about a minute)' \
+	qemu-user=$(EMULATOR) gcc-x86-64-linux-gnu=$(CROSS_CC) libc6-dev-amd64-cross=/usr/x86_64-linux-gnu/include/stdio.h \
+	rustc-web=/usr/bin/rustc libstd-rust-web-dev:amd64=/usr/lib/rustlib/x86_64-unknown-linux-gnu
+else
+	@:
 endif
 
 # One program with four names, in target/tools.
-tools: x86-64
-	rt check tools | tail -n 1
-	$(MAKE) --no-print-directory names
+tools: setup
+	@scripts/prove.sh tools
+	@$(MAKE) --no-print-directory names
 
 # Its names, where it is built.
-names: x86-64
-	mkdir -p target/tools
+names: setup
+	@mkdir -p target/tools
 ifdef EMULATOR
-	for name in mux demux bond unbond; do printf '#!/bin/sh\nexec $(EMULATOR) -0 %s %s "$$@"\n' $$name $(CURDIR)/target/bin/tools \
+	@for name in mux demux bond unbond; do printf '#!/bin/sh\nexec $(EMULATOR) -0 %s %s "$$@"\n' $$name $(CURDIR)/target/bin/tools \
 	>target/tools/$$name; chmod +x target/tools/$$name; done
 else
-	for name in mux demux bond unbond; do ln -sf ../bin/tools target/tools/$$name; done
+	@for name in mux demux bond unbond; do ln -sf ../bin/tools target/tools/$$name; done
 endif
+	@echo 'target/tools has mux, demux, bond and unbond'
 
 # The independent programs' own tests, and the tests of the tools made ready.
 rust-test:
@@ -61,82 +66,104 @@ rust-test:
 tools-test: names
 	cd compare && cargo test --quiet -p tools
 
-# Two streams by ffmpeg, multiplexed, taken apart and compared, whole and with packets lost.
-real: tools
-	command -v ffmpeg >/dev/null || apt-get install -y ffmpeg
+# Two streams by ffmpeg, multiplexed, taken apart and compared, whole and with packets lost. Here and below what lacks is installed first:
+# the proofs take minutes.
+real: setup
+	@scripts/install.sh 'it makes the real streams' ffmpeg=ffmpeg
+	@$(MAKE) --no-print-directory tools
 	examples/real.sh target/tools/mux target/tools/demux
 
-run: x86-64
-	rt check lister
+run: setup
+	@scripts/prove.sh lister
 	$(EMULATOR) target/bin/lister < samples/recording.ts
 
-# The proofs, the wrong programs and the programs (`rt ci`, from nothing), and all the tests. The last line printed is rt's.
+# The proofs, the wrong programs and the programs (`rt ci`, from nothing), and all the tests. Where all is well the last line printed is
+# rt's; else it names what failed, and make's own line comes behind it.
 test:
-	@compare/gate.sh $(BOARD)
+	@scripts/gate.sh $(BOARD)
+
+# The map of the crates, docs/MAP.md, from crates.txt and the crates' head comments; and the page held to what would be written.
+map:
+	@scripts/install.sh 'the script of the map is written in it' python3=python3
+	scripts/map.py
+
+map-test:
+	@scripts/install.sh 'the script of the map is written in it' python3=python3
+	scripts/map.py --check
 
 # The board interface as one archive, target/board/libniranbok.a, for include/niranbok.h.
 board:
-	rt check $(BOARD) | tail -n 1
-	$(MAKE) --no-print-directory archive
+	@scripts/prove.sh $(BOARD)
+	@$(MAKE) --no-print-directory archive
 
-# The same where its crates are proved, so many of them at once, in a folder of its own.
+# The same where its crates are proved, so many of them at once, in a folder of its own. rt makes a library of each crate, whose object
+# exports the functions of that crate alone and keeps the code of those below it to itself; so no function is there twice, and
+# exports.sh holds the archive to that.
 AT_ONCE ?= 2
 ARCHIVE ?= target/board
 archive:
-	rm -rf $(ARCHIVE)
-	mkdir -p $(ARCHIVE)
-	printf '%s\n' $(BOARD) | xargs -P $(AT_ONCE) -n 1 compare/staticlib.sh $(ARCHIVE)
-	ar rcs $(ARCHIVE)/libniranbok.a $(ARCHIVE)/roots/*/*.o
+	@rm -rf $(ARCHIVE)
+	@mkdir -p $(ARCHIVE)
+	@printf '%s\n' $(BOARD) | xargs -P $(AT_ONCE) -n 1 scripts/staticlib.sh $(ARCHIVE)
+	@ar rcs $(ARCHIVE)/libniranbok.a $(ARCHIVE)/roots/*/*.o
+	@scripts/exports.sh $(ARCHIVE)/libniranbok.a
 
 # The example in C, and both implementations over the same inputs, with the archive that is there.
-archive-test: x86-64
+archive-test: setup
 	$(CROSS_CC) -std=c99 -Wall -Wextra -Werror -Iinclude examples/board.c target/board/libniranbok.a -o target/board/board
 	$(EMULATOR) target/board/board
 	cd compare && $(CROSS_CARGO) test --quiet -p board --tests
 
 # The header's constants, held to the program that is there.
-limits-test: x86-64
-	compare/limits.sh $(EMULATOR) target/bin/limits
+limits-test: setup
+	scripts/limits.sh $(EMULATOR) target/bin/limits
 
 # All of the board interface's.
-board-test: board
-	rt check limits | tail -n 1
-	$(MAKE) --no-print-directory archive-test limits-test
+board-test: setup board
+	@scripts/prove.sh limits
+	@$(MAKE) --no-print-directory archive-test limits-test
 
 # An archive to measure and to watch: the product's, or, since a time under the emulator says nothing, the same proved modules compiled for
 # this machine's own processor.
 native:
 ifdef EMULATOR
-	rt check $(BOARD) | tail -n 1
-	compare/native.sh
-	RATTLE_HOME=$(CURDIR)/target/native $(MAKE) --no-print-directory ARCHIVE=$(NATIVE) archive
+	@scripts/prove.sh $(BOARD)
+	scripts/native.sh
+	@RATTLE_HOME=$(CURDIR)/target/native $(MAKE) --no-print-directory ARCHIVE=$(NATIVE) archive
 else
-	$(MAKE) --no-print-directory board
+	@$(MAKE) --no-print-directory board
 endif
 
 # Both implementations and bare copies, measured in one run; then the lister and the tools, which are for x86-64 alone.
-bench: native
+bench:
+ifndef EMULATOR
+	@scripts/install.sh 'it says how much memory the tools take' time=/usr/bin/time
+endif
+	@$(MAKE) --no-print-directory native
 	cd compare && NIRANBOK_LIB=$(CURDIR)/$(NATIVE) cargo run --quiet --release -p board --bin bench
 ifndef EMULATOR
-	$(MAKE) --no-print-directory tools
-	rt check lister | tail -n 1
-	compare/lister.sh target/bin/lister
-	compare/tools.sh target/bin/tools
+	@scripts/prove.sh tools lister
+	scripts/lister.sh target/bin/lister
+	scripts/tools.sh target/bin/tools
 endif
 
-# The benchmark's rows in counted instructions, under the emulator, which is installed.
-count: board x86-64
-	command -v qemu-x86_64 >/dev/null || apt-get -q install -y qemu-user
+# The benchmark's rows in counted instructions, under the emulator, on x86-64 too.
+count: setup
+	@scripts/install.sh 'it counts the instructions' qemu-user=qemu-x86_64
+	@$(MAKE) --no-print-directory board
 	cd compare && $(CROSS_CARGO) build --quiet --release -p board --bin bench
-	compare/count.sh $(BENCH)
+	scripts/count.sh $(BENCH)
 
 # The same comparison, shorter, with every access watched.
-memory: native
+memory:
+	@scripts/install.sh 'it watches every access' valgrind=valgrind
+	@$(MAKE) --no-print-directory native
 	cd compare && NIRANBOK_LIB=$(CURDIR)/$(NATIVE) cargo test --quiet -p board --no-run
-	compare/memory.sh
+	scripts/memory.sh
 
 # Makes the vectors and expected outputs again, from programs that share nothing with the crates.
 vectors:
+	@scripts/install.sh 'it makes the CRCs that the vectors have' python3-crcmod=/usr/lib/python3/dist-packages/crcmod
 	/usr/bin/python3 vectors/crc_vectors.py
 	/usr/bin/python3 vectors/frames.py
 	vectors/make_cases.sh

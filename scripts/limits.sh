@@ -1,9 +1,9 @@
-#!/bin/sh
+#!/bin/bash
 # Holds the constants of include/niranbok.h to what the program `limits` prints: each line of it becomes
 # an assertion that the C compiler checks, and each range, refusal, length and place of the header must
 # have such a line.
-#   compare/limits.sh LIMITS, or the command that starts it
-set -e
+#   scripts/limits.sh LIMITS, or the command that starts it
+set -euo pipefail
 cd "$(dirname "$0")/.."
 work=$(mktemp -d)
 trap 'rm -rf "$work"' EXIT

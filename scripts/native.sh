@@ -1,8 +1,8 @@
-#!/bin/sh
+#!/bin/bash
 # A shadow of the kit, in target/native, whose compiler makes the same proved modules for this machine's own processor: for measuring
 # where the archive for x86-64 could only be emulated. `RATTLE_HOME=target/native rt staticlib CRATE` then uses it.
-#   compare/native.sh
-set -e
+#   scripts/native.sh
+set -euo pipefail
 cd "$(dirname "$0")/.."
 home=$(cd "$(dirname "$(readlink -f "$(command -v rt)")")/.." && pwd -P)
 machine=$(uname -m)

@@ -1,10 +1,10 @@
-#!/bin/sh
+#!/bin/bash
 # The rates of mux, demux, bond and unbond on a gigabyte in the page cache, best of three, and their memory, beside `cat`'s of what they
 # read. Bond writes files, and the `cat` beside it does. Needs 4 GB in $TMPDIR, else in /tmp.
-#   compare/tools.sh TOOLS
-set -e
+#   scripts/tools.sh TOOLS
+set -euo pipefail
 tools=$(realpath "$1")
-cd "$(dirname "$0")"
+cd "$(dirname "$0")/../compare"
 work=$(mktemp -d)
 trap 'rm -rf "$work"' EXIT
 packets=5319149
@@ -18,14 +18,17 @@ target/release/recording "$packets" "$work/stream"
 cd "$work"
 
 # A recording's own headers bear another PID: it is a stream like any.
-mux='mux 0x1FFE 52 1 1 stream'
-demux='demux 0x1FFE 1 frames'
-bond='bond 0x1FFE 1 1 1 stream 3 52 carrier1 4 52 carrier2'
-unbond='unbond 0x1FFE 1 1 carrier1 carrier2'
-"$tools" $mux >frames 2>said
-"$tools" $demux 2>said | cmp - stream
-"$tools" $bond 2>said
-"$tools" $unbond 2>said | cmp -n "$((packets * 188))" - stream
+mux=(mux 0x1FFE 52 1 1 stream)
+demux=(demux 0x1FFE 1 frames)
+bond=(bond 0x1FFE 1 1 1 stream 3 52 carrier1 4 52 carrier2)
+unbond=(unbond 0x1FFE 1 1 carrier1 carrier2)
+"$tools" "${mux[@]}" >frames 2>said
+"$tools" "${demux[@]}" 2>said | cmp - stream
+"$tools" "${bond[@]}" 2>said
+# The last super frame is filled up, so more comes back than was sent; a pipe that stops reading there would fail unbond.
+"$tools" "${unbond[@]}" >copy 2>said
+cmp -n "$((packets * 188))" copy stream
+rm copy
 
 rate() { # OUTPUT BYTES NAME COMMAND..
     output=$1
@@ -42,12 +45,12 @@ rate() { # OUTPUT BYTES NAME COMMAND..
     echo "$name: $((bytes * 1000 / best)) MB/s, $(cat memory) kB"
 }
 size() { cat "$@" | wc -c; }
-rate /dev/null "$(size stream)" 'mux' "$tools" $mux
+rate /dev/null "$(size stream)" 'mux' "$tools" "${mux[@]}"
 rate /dev/null "$(size stream)" 'cat of the stream' cat stream
-rate /dev/null "$(size frames)" 'demux' "$tools" $demux
+rate /dev/null "$(size frames)" 'demux' "$tools" "${demux[@]}"
 rate /dev/null "$(size frames)" 'cat of the frames' cat frames
-rate /dev/null "$(size stream)" 'bond, two carriers' "$tools" $bond
+rate /dev/null "$(size stream)" 'bond, two carriers' "$tools" "${bond[@]}"
 rate copy "$(size stream)" 'cat of the stream to a file' cat stream
 rm copy
-rate /dev/null "$(size carrier1 carrier2)" 'unbond, two carriers' "$tools" $unbond
+rate /dev/null "$(size carrier1 carrier2)" 'unbond, two carriers' "$tools" "${unbond[@]}"
 rate /dev/null "$(size carrier1 carrier2)" 'cat of the carriers' cat carrier1 carrier2

@@ -1,7 +1,7 @@
-#!/bin/sh
+#!/bin/bash
 # The lister's rate on a recording of 100 MB in the page cache, best of five, beside the reference's and `cat`'s.
-#   compare/lister.sh LISTER
-set -e
+#   scripts/lister.sh LISTER
+set -euo pipefail
 cd "$(dirname "$0")/.."
 work=$(mktemp -d)
 trap 'rm -rf "$work"' EXIT
