@@ -2,7 +2,7 @@
 // it, in each round the same ones and F further on: so those of one round are noted, and gone through once for each round.
 use bond_group::headers::CARRIERS;
 use bond_group::headers::FRAMES;
-use setting::SLOTS;
+use counters::SLOTS;
 ghost use mathlib.Core.Path.{_≡_};
 ghost use mathlib.Core.List.{_++_};
 ghost use Prim.Native.Nat.{ℕ, _+_, _*_, _≤_, _<_};

@@ -5,7 +5,7 @@
 // The composer for callers in other languages, of which each call has its crate: what they answer and leave, and its laws.
 use setting::Announced;
 use setting::Kind;
-use setting::SLOTS;
+use counters::SLOTS;
 use setting::Setting;
 use setting_bytes::ANNOUNCED;
 use setting_bytes::ANNOUNCED_BYTES;

@@ -5,7 +5,7 @@ use composer::LAST;
 use composer::OPEN;
 use composer::PLAN;
 use composer::SETTING;
-use setting::SLOTS;
+use counters::SLOTS;
 use setting::limits;
 ghost use mathlib.Core.Path.{_≡_};
 ghost use lib.ListN.{length};

@@ -5,7 +5,7 @@ use composer::FILLED;
 use composer::LAST;
 use composer::OPEN;
 use composer::SETTING;
-use setting::SLOTS;
+use counters::SLOTS;
 use setting::Setting;
 ghost use mathlib.Core.Path.{_≡_};
 ghost use mathlib.Core.Bool.{cond};

@@ -7,7 +7,7 @@ use composer::FILLED;
 use composer::PLAN;
 use counters::RelativeNumber;
 use packet::PACKET_BYTES;
-use setting::SLOTS;
+use counters::SLOTS;
 ghost use mathlib.Core.Path.{_≡_};
 ghost use Rattle.composer.specs.Calls.{putRefused, putPlaced, putState, putMemory};
 

@@ -1,6 +1,6 @@
 // The slots of a frame: slot i is the 188 bytes at 188 × i, and bit i - 1 of a number that has slots. A byte of 1 marks a filled one.
 use packet::PACKET_BYTES;
-use setting::SLOTS;
+use counters::SLOTS;
 ghost use Prim.Native.Nat.{ℕ, _*_, _^_, _≤_, _<_};
 ghost use mathlib.Core.Path.{_≡_};
 ghost use mathlib.Core.Bool.{false};

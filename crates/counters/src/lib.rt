@@ -97,6 +97,11 @@ impl FramePosition {
     }
 }
 
+// How many slots carry packets, and how many streams a header knows.
+pub const SLOTS: usize = Slot::LAST as usize;
+
+pub const STREAMS: usize = RelativeNumber::LAST as usize;
+
 // How many contents the availability field has: there is a bit for each stream.
 pub const AVAILABILITIES: u16 = 1 << RelativeNumber::LAST;
 

@@ -2,8 +2,8 @@
 // reader of whole headers is made of it.
 use counters::FramePosition;
 use setting::Kind;
-use setting::SLOTS;
-use setting::STREAMS;
+use counters::SLOTS;
+use counters::STREAMS;
 ghost use mathlib.Core.Path.{_≡_};
 ghost use Rattle.header_check.specs.Checking.{checkedOf};
 

@@ -2,8 +2,8 @@
 use crate::Checked;
 use counters::FramePosition;
 use setting::Kind;
-use setting::SLOTS;
-use setting::STREAMS;
+use counters::SLOTS;
+use counters::STREAMS;
 ghost use mathlib.Core.Path.{_≡_};
 ghost use Prim.Native.Nat.{_+_, _*_, _<_};
 ghost use lib.ListN.{length, getD};

@@ -2,8 +2,8 @@
 // What stands in them is said in specs/, and what the writer's and the reader's proofs need of it is proved in proofs/.
 use setting::AUXILIARY_BYTES;
 use setting::PRIVATE_BYTES;
-use setting::SLOTS;
-use setting::STREAMS;
+use counters::SLOTS;
+use counters::STREAMS;
 
 pub const HEADER_LENGTH: usize = 188;
 // The CRC runs from here on.

@@ -4,7 +4,7 @@ use header_check::Checked;
 use setting::AUXILIARY_BYTES;
 use setting::Kind;
 use setting::PRIVATE_BYTES;
-use setting::STREAMS;
+use counters::STREAMS;
 use setting::Setting;
 ghost use mathlib.Core.Path.{_≡_};
 ghost use lib.ListN.{length, take, drop};

@@ -2,8 +2,8 @@
 use libc::STDOUT_FILENO;
 use setting::AUXILIARY_BYTES;
 use setting::PRIVATE_BYTES;
-use setting::SLOTS;
-use setting::STREAMS;
+use counters::SLOTS;
+use counters::STREAMS;
 
 fn print_length(name: &[u8], bytes: u64) {
     io::write_all(STDOUT_FILENO, b"length\t");

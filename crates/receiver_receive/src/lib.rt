@@ -11,7 +11,7 @@ use receiver::STAGE;
 use receiver::STORED;
 use receiver::STORE_BYTES;
 use receiver::events;
-use setting::SLOTS;
+use counters::SLOTS;
 ghost use mathlib.Core.Path.{_≡_};
 ghost use mathlib.Core.Bool.{true, false};
 ghost use mathlib.Core.List.{_++_};

@@ -5,7 +5,7 @@ use receiver::RECEIVER_BYTES;
 use receiver::STAGE;
 use receiver::STORED;
 use receiver::Stage;
-use setting::SLOTS;
+use counters::SLOTS;
 use setting::limits;
 ghost use mathlib.Core.Path.{_≡_};
 ghost use mathlib.Core.Bool.{cond};

@@ -3,7 +3,7 @@
 use receiver::Event;
 use receiver::Row;
 use receiver::Stage;
-use setting::SLOTS;
+use counters::SLOTS;
 ghost use mathlib.Core.Path.{_≡_};
 ghost use Rattle.receiver.specs.Table.{good, broken, other, openRow, rowOf};
 

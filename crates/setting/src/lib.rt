@@ -4,19 +4,14 @@
 // number stands in a crate of its own: 2 here, 17 in widths, 8 to 11 in setting_rules.
 // What of a header decides on the next header's version: taken from its setting.
 use counters::FramePosition;
-use counters::RelativeNumber;
-use counters::Slot;
+use counters::SLOTS;
+use counters::STREAMS;
 ghost use mathlib.Core.Path.{_≡_};
 ghost use Rattle.setting.specs.Setting.{blank};
 ghost use Rattle.setting.specs.Rules.{pidAllowed};
 ghost use Rattle.setting.specs.Announcing.{announced};
 
 pub mod limits;
-
-// How many slots carry packets, and how many streams a header knows.
-pub const SLOTS: usize = Slot::LAST as usize;
-
-pub const STREAMS: usize = RelativeNumber::LAST as usize;
 
 // The bytes of the private data; in an extended header the first are auxiliary information.
 pub const PRIVATE_BYTES: usize = 85;

@@ -5,8 +5,8 @@
 use setting::AUXILIARY_BYTES;
 use setting::Kind;
 use setting::PRIVATE_BYTES;
-use setting::SLOTS;
-use setting::STREAMS;
+use counters::SLOTS;
+use counters::STREAMS;
 ghost use mathlib.Core.Path.{_≡_};
 ghost use Prim.Native.Nat.{_*_, _+_};
 ghost use Rattle.setting_bytes.specs.Words.{wordsRead};

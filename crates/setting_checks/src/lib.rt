@@ -16,7 +16,7 @@ use setting_bytes::SETTING_BYTES;
 use setting_bytes::TS_ID;
 use counters::FramePosition;
 use setting::Kind;
-use setting::STREAMS;
+use counters::STREAMS;
 use setting::limits;
 ghost use mathlib.Core.Path.{_≡_};
 ghost use Rattle.setting.specs.Refusal.{firstOf};

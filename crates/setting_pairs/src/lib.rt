@@ -1,6 +1,6 @@
 // 10: two available streams with equal identifier pairs.
 use counters::RelativeNumber;
-use setting::STREAMS;
+use counters::STREAMS;
 ghost use mathlib.Core.Path.{_≡_};
 ghost use Prim.Native.Nat.{ℕ, _<_};
 ghost use mathlib.Core.Bool.{false};

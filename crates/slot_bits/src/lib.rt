@@ -1,5 +1,5 @@
 // Slots as bits of one number, made of bytes: a slot that is told leaves its share, and the shares of eight slots are a byte.
-use setting::SLOTS;
+use counters::SLOTS;
 ghost use mathlib.Core.Path.{_≡_};
 ghost use Prim.Native.Nat.{_*_, _≤_};
 ghost use lib.ListN.{length};

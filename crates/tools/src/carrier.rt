@@ -10,7 +10,7 @@ use receiver::events;
 use packet::FRAME_BYTES;
 use packet::PACKET_BYTES;
 use setting::Kind;
-use setting::SLOTS;
+use counters::SLOTS;
 use setting::limits;
 ghost use mathlib.Core.Path.{_≡_};
 ghost use Prim.Native.Nat.{_≤_, _<_};

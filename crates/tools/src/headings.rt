@@ -10,7 +10,7 @@ use bond_group::Bond;
 use packet::FRAME_BYTES;
 use packet::PACKET_BYTES;
 use setting::Kind;
-use setting::SLOTS;
+use counters::SLOTS;
 use setting::Setting;
 use setting::limits;
 ghost use mathlib.Core.Path.{_≡_};
