@@ -7,9 +7,8 @@ use native.Mathlib.Omega.{arith}
 use borrow.Author.Tests.{eqb-true}
 use lib.Dec.{eqb}
 use Rattle.setting.specs.Refusal.{Check, firstOf}
-use Rattle.composer.specs.declared.Composer.{Composer}
 use Rattle.packet.specs.Packets.{frameLength}
-use Rattle.composer.specs.Composing.{lengthCheck, answer}
+use Rattle.composer.specs.Composing.{Composer, lengthCheck, answer}
 
 -- n is the refusal, and m what the code found it to be
 module _ {m n : ℕ} (e : m ≡ n) where

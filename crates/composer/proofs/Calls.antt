@@ -5,9 +5,8 @@ use mathlib.Core.Bool.{Bool}
 use mathlib.Core.List.{List, _++_}
 use borrow.Author.Tests.{eq-eqb, ne-eqb}
 use lib.ListN.{length, drop}
-use Rattle.composer.specs.declared.Answer.{Answer}
 use Rattle.composer.specs.Slots.{cleared, placedBy, marksAfter, frameAfter}
-use Rattle.composer.specs.Composing.{opened, marked, closed, closing, answer, beginRefusal, beginOf, begunFrame, putRefusal, putOf, putFrame, closeRefusal, closeOf, closedFrame}
+use Rattle.composer.specs.Composing.{Answer, opened, marked, closed, closing, answer, beginRefusal, beginOf, begunFrame, putRefusal, putOf, putFrame, closeRefusal, closeOf, closedFrame}
 use Rattle.composer.proofs.Answers.{granted}
 use Rattle.header_layout.specs.Header.{header}
 use Rattle.packet.specs.Packets.{packetLength}

@@ -14,8 +14,7 @@ use Rattle.setting.specs.Refusal.{Check, firstOf}
 use Rattle.setting.specs.declared.Kind.{Kind}
 use Rattle.setting.proofs.Refusals.{answers, passed}
 use Rattle.packet.specs.Packets.{packetLength, frameLength}
-use Rattle.composer.specs.Composing.{stateChecks, answer, beginOf, putOf, closeOf, beginRefusal, putRefusal, closeRefusal}
-use Rattle.composer.specs.declared.Composer.{Composer}
+use Rattle.composer.specs.Composing.{Composer, stateChecks, answer, beginOf, putOf, closeOf, beginRefusal, putRefusal, closeRefusal}
 use Rattle.setting_bytes.specs.Words.{wordBytes, wordAt}
 use Rattle.setting_bytes.specs.Kinds.{isKind, kindNumber}
 use Rattle.setting_bytes.specs.Settings.{part, announcedBytes, settingLength, settingBytes, settingOf}
@@ -59,7 +58,7 @@ module _ (c : Composer) (n : Long-state c) where
   a = announcedBytes (c .last)
 
   abbrev o : List ℕ
-  o = markByte (c .«is_open») ∷ []
+  o = markByte (c .is-open) ∷ []
 
   abbrev s : List ℕ
   s = settingBytes (c .setting)
@@ -78,7 +77,7 @@ module _ (c : Composer) (n : Long-state c) where
   unfolding composerBytes
   last-part = part-behind 5 0 80 (frontBytes c) (a ++ (o ++ (s ++ m))) (length-front c) ∙ part-first 80 a (o ++ (s ++ m)) a-long
 
-  open-byte : getD (composerBytes c) 85 0 ≡ markByte (c .«is_open»)
+  open-byte : getD (composerBytes c) 85 0 ≡ markByte (c .is-open)
   unfolding composerBytes
   open-byte = byte-behind 5 80 (frontBytes c) (a ++ (o ++ (s ++ m))) (length-front c) ∙ byte-behind 80 0 a (o ++ (s ++ m)) a-long
 
@@ -114,7 +113,7 @@ module _ (c : Composer) (n : Long-state c) where
 
   coded : isCoded (composerBytes c) ≡ true
   unfolding isCoded
-  coded = rw (kind-byte, kind-is (c .kind), open-byte, lt-ltb (markByte (c .«is_open»)) 2 (mark-low (c .«is_open»)), marks-part, no-other (c .filled)) refl
+  coded = rw (kind-byte, kind-is (c .kind), open-byte, lt-ltb (markByte (c .is-open)) 2 (mark-low (c .is-open)), marks-part, no-other (c .filled)) refl
 
   back : settingOf s ≡ c .setting → composerOf (composerBytes c) ≡ c
   unfolding composerOf
@@ -129,7 +128,7 @@ module _ (c : Composer) (n : Long-state c) where
         last-part,
         announced-back (c .last) (n .streams),
         open-byte,
-        mark-back (c .«is_open»),
+        mark-back (c .is-open),
         setting-part,
         e,
         marks-part,

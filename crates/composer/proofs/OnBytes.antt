@@ -17,9 +17,8 @@ use Rattle.setting_bytes.specs.Settings.{settingLength, announcedBytes, setting
 use Rattle.setting_bytes.proofs.Parts.{length-announced}
 use Rattle.setting_bytes.proofs.Back.{long, length-setting, setting-back}
 use Rattle.setting.specs.Announcing.{announced}
-use Rattle.composer.specs.declared.Composer.{Composer}
 use Rattle.composer.specs.Slots.{takes, marksAfter}
-use Rattle.composer.specs.Composing.{opened, marked, closedWith, closed, answer, beginRefusal, beginOf, begunFrame, putRefusal, putOf, putFrame, closeRefusal, closeOf, closedFrame}
+use Rattle.composer.specs.Composing.{Composer, opened, marked, closedWith, closed, answer, beginRefusal, beginOf, begunFrame, putRefusal, putOf, putFrame, closeRefusal, closeOf, closedFrame}
 use Rattle.composer.specs.States.{composerLength, markByte, composerBytes, composerOf, OfItsTypes}
 use Rattle.composer.proofs.Parts.{frontBytes, length-front}
 use Rattle.composer.specs.Calls.{beginRefused, beginState, beginMemory, putRefused, putPlaced, putState, putMemory, closeRefused, closeState, closeMemory}
@@ -46,8 +45,8 @@ length-composer c t =
     let ls : length s ≡ 252 = length-setting (c .setting) (long (c .setting) (t .setting)) in
     let lm : length m ≡ 52 = length-map (c .filled) markByte ∙ t .marks in
     rw (
-      length-append (frontBytes c) (a ++ (markByte (c .«is_open») ∷ [] ++ (s ++ m))),
-      length-append a (markByte (c .«is_open») ∷ [] ++ (s ++ m)),
+      length-append (frontBytes c) (a ++ (markByte (c .is-open) ∷ [] ++ (s ++ m))),
+      length-append a (markByte (c .is-open) ∷ [] ++ (s ++ m)),
       length-append s m,
       length-front c,
     ) (omega arith)

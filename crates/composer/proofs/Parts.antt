@@ -1,4 +1,5 @@
 -- The parts of a state's bytes. Assumes nothing.
+use Rattle.composer.specs.Composing.{Composer}
 use Prim.Native.Nat.{ℕ}
 use mathlib.Core.Path.{_≡_, refl}
 use mathlib.Core.List.{List, [], _∷_, _++_}
@@ -8,7 +9,6 @@ use Rattle.counters.specs.Counters.{lastSlot}
 use Rattle.setting_bytes.specs.Words.{wordBytes}
 use Rattle.setting_bytes.specs.Kinds.{kindNumber}
 use Rattle.setting_bytes.proofs.Parts.{Streams, Long}
-use Rattle.composer.specs.declared.Composer.{Composer}
 use Rattle.composer.specs.States.{composerLength, whole}
 
 -- bytes of a state's length are taken as they are

@@ -8,9 +8,8 @@ use lib.ListN.{drop}
 use Rattle.setting.specs.Refusal.{Check, NoneHolds, none, more}
 use Rattle.setting.specs.Rules.{pidAllowed, widthChecks, ruleChecks}
 use Rattle.setting.proofs.Refusals.{none-at, none-before}
-use Rattle.composer.specs.declared.Composer.{Composer}
 use Rattle.setting.specs.Announcing.{announcedChecks}
-use Rattle.composer.specs.Composing.{asked, stateChecks, openRuleChecks, markChecks, openChecks}
+use Rattle.composer.specs.Composing.{Composer, asked, stateChecks, openRuleChecks, markChecks, openChecks}
 
 -- ---- checks behind the first, and checks that are asked
 
@@ -28,7 +27,7 @@ none-asked (c ∷ cs) e (more f h) = more (sym (ap (λ (x : Bool). x && c .1) e)
 
 -- an open frame's setting meets the rules, and the state's PID and numbers are in range
 pub record Passes (c : Composer) : Type 0 where
-  pub is-open : c .«is_open» ≡ true
+  pub is-open : c .is-open ≡ true
   pub pid : pidAllowed (c .pid) ≡ true
   pub counter : c .counter < 2 ^ 4
   pub version : c .version < 2 ^ 3
@@ -38,7 +37,7 @@ pub record Passes (c : Composer) : Type 0 where
 pub passes : (c : Composer) → NoneHolds (stateChecks c) → NoneHolds (openChecks c) → Passes c
 unfolding stateChecks announcedChecks openChecks openRuleChecks
 passes c h g =
-    let e = not-false (c .«is_open») (none-at g 0) in
+    let e = not-false (c .is-open) (none-at g 0) in
     record {
       is-open = e;
       pid = not-false (pidAllowed (c .pid)) (none-at h 0);

@@ -10,9 +10,8 @@ use Rattle.setting.specs.Refusal.{Check, firstOf, NoneHolds, none, more}
 use Rattle.setting.specs.Rules.{absentChecks, widthChecks, bondingChecks, ruleChecks}
 use Rattle.setting.proofs.Refusals.{first-none, numbered, numbered-append, none-first}
 use Rattle.setting.specs.declared.Announced.{Announced}
-use Rattle.composer.specs.declared.Composer.{Composer}
 use Rattle.setting.specs.Announcing.{announcedChecks}
-use Rattle.composer.specs.Composing.{asked, stateChecks, openRuleChecks, markChecks, openChecks}
+use Rattle.composer.specs.Composing.{Composer, asked, stateChecks, openRuleChecks, markChecks, openChecks}
 
 -- ---- asked
 
@@ -57,14 +56,14 @@ announced-none a e = none-first (announcedChecks a) refl e
 
 pub state-numbered : (c : Composer) → numbered (stateChecks c) ≡ true
 unfolding stateChecks announcedChecks
-state-numbered c = numbered-asked (c .«is_open») (widthChecks (c .kind) (c .setting)) (widths-numbered (c .kind) (c .setting))
+state-numbered c = numbered-asked (c .is-open) (widthChecks (c .kind) (c .setting)) (widths-numbered (c .kind) (c .setting))
 
 pub state-none : (c : Composer) → firstOf (stateChecks c) ≡ 0 → NoneHolds (stateChecks c)
 state-none c e = none-first (stateChecks c) (state-numbered c) e
 
 pub open-rules-numbered : (c : Composer) → numbered (openRuleChecks c) ≡ true
 unfolding openRuleChecks
-open-rules-numbered c = numbered-asked (c .«is_open») (ruleChecks (c .kind) (c .setting)) (rules-numbered (c .kind) (c .setting))
+open-rules-numbered c = numbered-asked (c .is-open) (ruleChecks (c .kind) (c .setting)) (rules-numbered (c .kind) (c .setting))
 
 pub open-rules-none : (c : Composer) → firstOf (openRuleChecks c) ≡ 0 → NoneHolds (openRuleChecks c)
 open-rules-none c e = none-first (openRuleChecks c) (open-rules-numbered c) e

@@ -80,7 +80,7 @@ module _ (b : List ℕ) (long : length b ≡ composerLength) (fit : Fit 8 b) (co
   unfolding composerOf
   last-same = announced-same (part 5 80 b) (length-part 5 80 b (omega arith)) (fit-part 5 80 b fit)
 
-  open-same : markByte (composerOf b .«is_open») ∷ [] ≡ part 85 1 b
+  open-same : markByte (composerOf b .is-open) ∷ [] ≡ part 85 1 b
   unfolding composerOf
   open-same = rw (mark-same (getD b 85 0) (ltb-true (getD b 85 0) 2 open-test)) (part-first-byte 85 0 b (omega arith))
 

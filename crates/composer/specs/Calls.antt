@@ -1,4 +1,4 @@
--- What each exported call answers and leaves: the composer's own call under the coding of its state and of a setting.
+-- What each call answers and leaves, over the bytes that it is lent.
 use Prim.Native.Nat.{ℕ}
 use mathlib.Core.Bool.{Bool, cond, not, _&&_}
 use mathlib.Core.List.{List, [], _∷_}
@@ -6,7 +6,7 @@ use lib.Dec.{eqb}
 use lib.ListN.{length}
 use Rattle.setting.specs.Refusal.{firstOf, leaves}
 use Rattle.setting.specs.Rules.{pidAllowed}
-use Rattle.composer.specs.Composing.{startOf, beginOf, begunFrame, putOf, putFrame, closeOf, closedFrame}
+use Rattle.composer.specs.Composing.{fresh, beginOf, begunFrame, putOf, putFrame, closeOf, closedFrame}
 use Rattle.setting_bytes.specs.Kinds.{isKind, kindOf}
 use Rattle.setting_bytes.specs.Settings.{settingLength, settingOf}
 use Rattle.composer.specs.States.{composerLength, composerBytes, composerOf}
@@ -17,7 +17,7 @@ startRefused state pid kind =
     firstOf ((1, not (eqb (length state) composerLength)) ∷ (2, not (pidAllowed pid)) ∷ (17, not (isKind kind)) ∷ [])
 
 unfoldable pub startState : List ℕ → ℕ → ℕ → List ℕ
-startState state pid kind = leaves (startRefused state pid kind) (composerBytes (startOf (kindOf kind) pid .state)) state
+startState state pid kind = leaves (startRefused state pid kind) (composerBytes (fresh (kindOf kind) pid)) state
 
 -- begin: 1 for a state or a setting of another length, else what `begin` answers and leaves
 abbrev pub beginLent : List ℕ → List ℕ → Bool

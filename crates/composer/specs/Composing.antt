@@ -6,19 +6,39 @@ use lib.Dec.{leb, eqb}
 use lib.ListN.{length, drop, replicate}
 use Rattle.setting.specs.declared.Kind.{Kind}
 use Rattle.setting.specs.declared.Setting.{Setting}
+use Rattle.setting.specs.declared.Announced.{Announced}
 use Rattle.counters.specs.Counters.{firstStream, lastStream, lastSlot, within, available}
 use Rattle.setting.specs.Refusal.{Check, firstOf, leaves}
 use Rattle.setting.specs.Rules.{pidAllowed, widthChecks, ruleChecks}
 use Rattle.setting.specs.Setting.{blank}
 use Rattle.header_layout.specs.Header.{header}
 use Rattle.setting.specs.Announcing.{announced, differ, announcedChecks}
-use Rattle.composer.specs.declared.Composer.{Composer}
-use Rattle.composer.specs.declared.Answer.{Answer}
-use Rattle.composer.specs.declared.Placed.{Placed}
 use Rattle.packet.specs.Packets.{packetLength, frameLength}
 use Rattle.composer.specs.Slots.{cleared, marksAfter, placedBy, someUnfit, frameAfter, someUnplanned, numbersOf}
 
--- ---- the state
+-- ---- the state, and what a call answers
+
+-- counter, version and what was announced are the last closed header's. Setting and filled slots are the open frame's
+pub record Composer : Type 0 where
+  pub pid : ℕ
+  pub kind : Kind
+  pub counter : ℕ
+  pub version : ℕ
+  pub last : Announced
+  pub is-open : Bool
+  pub setting : Setting
+  pub filled : List Bool
+
+-- refusal 0 and the new state, or the refusal's number and the state as it was
+pub record Answer : Type 0 where
+  pub refusal : ℕ
+  pub state : Composer
+
+-- also how many packets were placed, 0 on a refusal
+pub record Placed : Type 0 where
+  pub refusal : ℕ
+  pub placed : ℕ
+  pub state : Composer
 
 -- a run's state before its first begin: no header was closed yet, and the one before the first would have had counter 15 and
 -- version 7 and announced another frame type
@@ -30,7 +50,7 @@ fresh kind pid =
       counter = 15;
       version = 7;
       last = announced blank;
-      «is_open» = false;
+      is-open = false;
       setting = blank;
       filled = replicate lastSlot false;
     }
@@ -44,7 +64,7 @@ opened c s =
       counter = c .counter;
       version = c .version;
       last = c .last;
-      «is_open» = true;
+      is-open = true;
       setting = s;
       filled = replicate lastSlot false;
     }
@@ -58,7 +78,7 @@ marked c marks =
       counter = c .counter;
       version = c .version;
       last = c .last;
-      «is_open» = c .«is_open»;
+      is-open = c .is-open;
       setting = c .setting;
       filled = marks;
     }
@@ -106,7 +126,7 @@ closedWith c counter version =
       counter = counter;
       version = version;
       last = announced (c .setting);
-      «is_open» = false;
+      is-open = false;
       setting = blank;
       filled = replicate lastSlot false;
     }
@@ -133,15 +153,15 @@ stateChecks c =
     (2, not (pidAllowed (c .pid)))
     ∷ (17, leb (2 ^ 4) (c .counter))
     ∷ (17, leb (2 ^ 3) (c .version))
-    ∷ (announcedChecks (c .last) ++ asked (c .«is_open») (widthChecks (c .kind) (c .setting)))
+    ∷ (announcedChecks (c .last) ++ asked (c .is-open) (widthChecks (c .kind) (c .setting)))
 
 -- 8 to 11: its setting's rules while a frame is open
 unfoldable pub openRuleChecks : Composer → List Check
-openRuleChecks c = asked (c .«is_open») (ruleChecks (c .kind) (c .setting))
+openRuleChecks c = asked (c .is-open) (ruleChecks (c .kind) (c .setting))
 
 -- 17, behind those: a filled mark on a slot planned 0
 unfoldable pub markChecks : Composer → List Check
-markChecks c = (17, c .«is_open» && someUnplanned (c .setting .«relative_ts_number») (c .filled)) ∷ []
+markChecks c = (17, c .is-open && someUnplanned (c .setting .«relative_ts_number») (c .filled)) ∷ []
 
 abbrev pub lengthCheck : ℕ → Check
 lengthCheck lent = (1, not (eqb lent frameLength))
@@ -153,7 +173,7 @@ beginRefusal c s lent =
 
 -- 16, and what is asked of an open frame
 unfoldable pub openChecks : Composer → List Check
-openChecks c = (16, not (c .«is_open»)) ∷ (openRuleChecks c ++ markChecks c)
+openChecks c = (16, not (c .is-open)) ∷ (openRuleChecks c ++ markChecks c)
 
 -- 13 and 12: a stream that is to be placed, and its packets
 unfoldable pub streamChecks : Composer → ℕ → List ℕ → List Check
@@ -176,10 +196,6 @@ closeRefusal c lent = firstOf (lengthCheck lent ∷ (stateChecks c ++ openChecks
 -- what one answers that makes a new state: refusal 0 and it, or the refusal's number and the old one
 unfoldable pub answer : ℕ → Composer → Composer → Answer
 answer refusal new old = record { refusal = refusal; state = cond (eqb refusal 0) new old }
-
--- a refused start gives the fresh plain state of PID 0
-unfoldable pub startOf : Kind → ℕ → Answer
-startOf kind pid = answer (firstOf ((2, not (pidAllowed pid)) ∷ [])) (fresh kind pid) (fresh Kind.Plain 0)
 
 unfoldable pub beginOf : Composer → Setting → ℕ → Answer
 beginOf c s lent = answer (beginRefusal c s lent) (opened c s) c

@@ -6,12 +6,11 @@ use mathlib.Core.List.{List}
 use lib.ListN.{length}
 use Rattle.setting.specs.Rules.{pidAllowed}
 use Rattle.packet.specs.Packets.{packetLength, frameLength}
-use Rattle.composer.specs.declared.Composer.{Composer}
 use Rattle.setting_bytes.specs.Words.{wordAt}
 use Rattle.setting.specs.declared.Setting.{Setting}
 use Rattle.setting.specs.Setting.{OfItsTypes as SettingOfItsTypes}
 use Rattle.setting_bytes.specs.Settings.{settingLength, settingBytes}
-use Rattle.composer.specs.Composing.{beginOf, begunFrame, putOf, putFrame, closeOf, closedFrame}
+use Rattle.composer.specs.Composing.{Composer, beginOf, begunFrame, putOf, putFrame, closeOf, closedFrame}
 use Rattle.composer.specs.States.{composerLength, composerBytes, composerOf, isCoded, OfItsTypes}
 use Rattle.composer.specs.Calls.{beginRefused, beginState, beginMemory, putRefused, putPlaced, putState, putMemory, closeRefused, closeState, closeMemory}
 

@@ -1,5 +1,5 @@
--- A composer's state as bytes, and what bytes say as a state.
-use Prim.Native.Nat.{ℕ}
+-- A composer's state as its 390 bytes, and what bytes say as a state.
+use Prim.Native.Nat.{ℕ, _+_, _-_}
 use mathlib.Core.Path.{_≡_}
 use mathlib.Core.Bool.{Bool, cond, not, _&&_}
 use mathlib.Core.List.{List, [], _∷_, _++_, map}
@@ -10,11 +10,57 @@ use Rattle.counters.specs.Counters.{lastSlot, lastStream}
 use Rattle.setting.specs.Setting.{Array, OfItsTypes as SettingOfItsTypes}
 use Rattle.setting_bytes.specs.Words.{wordBytes, wordAt}
 use Rattle.setting_bytes.specs.Kinds.{isKind, kindOf, kindNumber}
-use Rattle.setting_bytes.specs.Settings.{part, announcedBytes, announcedOf, settingBytes, settingOf}
-use Rattle.composer.specs.declared.Composer.{Composer}
+use Rattle.setting_bytes.specs.Settings.{part, announcedAt, announcedLength, availabilityAt, numbersAt, settingLength, announcedBytes, announcedOf, settingBytes, settingOf}
+use Rattle.composer.specs.Composing.{Composer}
 
+-- ---- the places, each behind the one before it
+
+-- the PID, in two bytes, and the kind
+abbrev pub pidAt : ℕ
+pidAt = 0
+
+abbrev pub kindAt : ℕ
+kindAt = pidAt + 2
+
+-- counter and version of the last closed header, and what it announced
+abbrev pub counterAt : ℕ
+counterAt = kindAt + 1
+
+abbrev pub versionAt : ℕ
+versionAt = counterAt + 1
+
+abbrev pub lastAt : ℕ
+lastAt = versionAt + 1
+
+-- whether a frame is open, its setting, and a byte for each slot that says whether it is filled
+abbrev pub openAt : ℕ
+openAt = lastAt + announcedLength
+
+abbrev pub settingAt : ℕ
+settingAt = openAt + 1
+
+abbrev pub filledAt : ℕ
+filledAt = settingAt + settingLength
+
+-- how many bytes a state has
 abbrev pub composerLength : ℕ
-composerLength = 390
+composerLength = filledAt + lastSlot
+
+-- how many of them speak of the open frame
+abbrev pub openLength : ℕ
+openLength = composerLength - openAt
+
+-- where the open frame's setting has what it announces, its availability, and its plan
+abbrev pub saidAt : ℕ
+saidAt = settingAt + announcedAt
+
+abbrev pub streamsAt : ℕ
+streamsAt = saidAt + availabilityAt
+
+abbrev pub planAt : ℕ
+planAt = settingAt + numbersAt
+
+-- ---- the state
 
 -- what the code's types say of a state, as far as its lists and its setting go
 pub record OfItsTypes (c : Composer) : Type 0 where
@@ -33,7 +79,7 @@ unfoldable pub composerBytes : Composer → List ℕ
 composerBytes c =
     (wordBytes (c .pid ∷ []) ++ (kindNumber (c .kind) ∷ c .counter ∷ c .version ∷ []))
     ++ (announcedBytes (c .last)
-    ++ ((markByte (c .«is_open») ∷ [])
+    ++ ((markByte (c .is-open) ∷ [])
     ++ (settingBytes (c .setting)
     ++ map markByte (c .filled))))
 
@@ -43,7 +89,7 @@ marksOf bytes = map (λ (n : ℕ). eqb n 1) bytes
 
 -- whether bytes are a state's, whatever its numbers: the kind is one, and every mark is 0 or 1
 unfoldable pub isCoded : List ℕ → Bool
-isCoded b = isKind (getD b 2 0) && (ltb (getD b 85 0) 2 && not (someAtLeast 2 (part 338 52 b)))
+isCoded b = isKind (getD b kindAt 0) && (ltb (getD b openAt 0) 2 && not (someAtLeast 2 (part filledAt lastSlot b)))
 
 -- bytes that are no state's get a counter that no header has, so that every call refuses them with 17
 abbrev pub noCounter : ℕ
@@ -52,14 +98,14 @@ noCounter = 255
 unfoldable pub composerOf : List ℕ → Composer
 composerOf b =
     record {
-      pid = wordAt 0 b;
-      kind = kindOf (getD b 2 0);
-      counter = cond (isCoded b) (getD b 3 0) noCounter;
-      version = getD b 4 0;
-      last = announcedOf (part 5 80 b);
-      «is_open» = eqb (getD b 85 0) 1;
-      setting = settingOf (part 86 252 b);
-      filled = marksOf (part 338 52 b);
+      pid = wordAt pidAt b;
+      kind = kindOf (getD b kindAt 0);
+      counter = cond (isCoded b) (getD b counterAt 0) noCounter;
+      version = getD b versionAt 0;
+      last = announcedOf (part lastAt announcedLength b);
+      is-open = eqb (getD b openAt 0) 1;
+      setting = settingOf (part settingAt settingLength b);
+      filled = marksOf (part filledAt lastSlot b);
     }
 
 -- bytes of a state's length are taken as they are, any others for zeros

@@ -8,9 +8,8 @@ use borrow.Author.Tests.{eq-eqb, leb-false}
 use Rattle.setting.specs.Refusal.{Check, firstOf}
 use Rattle.setting.proofs.Refusals.{passed, at-once, none-at}
 use Rattle.setting.specs.declared.Setting.{Setting}
-use Rattle.composer.specs.declared.Composer.{Composer}
 use Rattle.packet.specs.Packets.{frameLength}
-use Rattle.composer.specs.Composing.{stateChecks, beginRefusal}
+use Rattle.composer.specs.Composing.{Composer, stateChecks, beginRefusal}
 use Rattle.composer.proofs.Answers.{frame-lent}
 use Rattle.composer.proofs.Refusals.{state-none}
 

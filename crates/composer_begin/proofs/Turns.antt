@@ -14,8 +14,7 @@ use Rattle.setting.specs.declared.Setting.{Setting}
 use Rattle.setting.specs.Refusal.{Check, firstOf, NoneHolds}
 use Rattle.setting.specs.Rules.{bondingChecks, ruleChecks}
 use Rattle.setting.proofs.Refusals.{numbered, none-first}
-use Rattle.composer.specs.declared.Composer.{Composer}
-use Rattle.composer.specs.Composing.{asked, inTurn, openRuleChecks}
+use Rattle.composer.specs.Composing.{Composer, asked, inTurn, openRuleChecks}
 use Rattle.composer.proofs.Refusals.{rules-numbered, open-rules-numbered}
 
 -- two lists with the same numbers, which rise from n on

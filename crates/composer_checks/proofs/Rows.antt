@@ -27,7 +27,7 @@ module _ (b : List ℕ) where
   shown = announcedChecks (composerOf b .last)
 
   abbrev widths : List Check
-  widths = asked (composerOf b .«is_open») (widthChecks (composerOf b .kind) (composerOf b .setting))
+  widths = asked (composerOf b .is-open) (widthChecks (composerOf b .kind) (composerOf b .setting))
 
   pub at-pid : pidAllowed (wordAt 0 b) ≡ false → rows ≡ 2
   unfolding stateChecks composerOf

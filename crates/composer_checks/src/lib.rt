@@ -33,7 +33,7 @@ fn is_coded(bytes: &[u8]) -> bool
 // 17: the setting's fields while a frame is open.
 fn open_width_refusal(bytes: &[u8]) -> u8
     requires { ⌜ length (now bytes) ≡ composerLength ⌝ }
-    ensures { λ r. ⌜ r ≡ firstOf (asked (composerOf (now (bytes .entry)) .«is_open») (widthChecks (composerOf (now (bytes .entry)) .kind) (composerOf (now (bytes .entry)) .setting))) ⌝ }
+    ensures { λ r. ⌜ r ≡ firstOf (asked (composerOf (now (bytes .entry)) .is-open) (widthChecks (composerOf (now (bytes .entry)) .kind) (composerOf (now (bytes .entry)) .setting))) ⌝ }
 {
     if bytes[OPEN] != 1 {
         return 0;

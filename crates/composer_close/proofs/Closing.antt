@@ -18,9 +18,8 @@ use Rattle.header_layout.specs.Header.{headerLength, header}
 use Rattle.header_write.specs.Writing.{writeRefusal, written}
 use Rattle.header_layout.specs.Meets.{MeetsRules}
 use Rattle.header_write.proofs.Calls.{made, not-refused}
-use Rattle.composer.specs.declared.Composer.{Composer}
 use Rattle.setting.specs.Announcing.{differ, announced}
-use Rattle.composer.specs.Composing.{nextCounter, nextVersion, saying, closing, closedWith, closed}
+use Rattle.composer.specs.Composing.{Composer, nextCounter, nextVersion, saying, closing, closedWith, closed}
 use Rattle.composer_close.proofs.Said.{version-narrow, said-meets}
 use Rattle.composer.proofs.Passed.{Passes}
 use Rattle.composer.specs.States.{composerLength, composerBytes, composerOf}

@@ -3,9 +3,8 @@ use Prim.Native.Nat.{ℕ}
 use mathlib.Core.Path.{_≡_}
 use mathlib.Core.List.{_∷_, _++_}
 use Rattle.setting.proofs.Refusals.{none-first, none-before, none-behind, numbered-append}
-use Rattle.composer.specs.declared.Composer.{Composer}
 use Rattle.packet.specs.Packets.{frameLength}
-use Rattle.composer.specs.Composing.{stateChecks, lengthCheck, openChecks, closeRefusal}
+use Rattle.composer.specs.Composing.{Composer, stateChecks, lengthCheck, openChecks, closeRefusal}
 use Rattle.composer.proofs.Answers.{frame-lent}
 use Rattle.composer.proofs.Refusals.{state-numbered, open-numbered}
 use Rattle.composer.proofs.Passed.{none-drop, Passes, passes}

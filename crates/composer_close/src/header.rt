@@ -1,26 +1,24 @@
 // What the header of an open frame says: its setting, with the run's counter and version, and with the slots that were filled.
-use setting::Announced;
 use composer::COMPOSER_BYTES;
+use composer::COUNTER;
 use composer::FILLED;
 use composer::LAST;
 use composer::OPEN;
+use composer::PLAN;
+use composer::SAID;
 use composer::SETTING;
+use composer::VERSION;
 use counters::SLOTS;
 use setting::Setting;
 ghost use mathlib.Core.Path.{_≡_};
-ghost use mathlib.Core.Bool.{cond};
-ghost use Prim.Native.Nat.{_+_, _%_, _<_};
+ghost use mathlib.Core.Bool.{false};
+ghost use Prim.Native.Nat.{_^_, _<_};
 ghost use lib.ListN.{length};
 ghost use Rattle.counters.specs.Counters.{lastSlot};
-ghost use Rattle.setting.specs.Announcing.{announced, differ};
+ghost use Rattle.slices.specs.Slices.{someAtLeast};
 ghost use Rattle.composer.specs.Slots.{numbersOf};
-ghost use Rattle.composer.specs.Composing.{closing};
+ghost use Rattle.composer.specs.Composing.{nextVersion, closing};
 ghost use Rattle.composer.specs.States.{composerLength, composerOf, marksOf};
-
-// Where the last closed header's counter and version stand in the state.
-pub(crate) const COUNTER: usize = 3;
-
-pub(crate) const VERSION: usize = 4;
 
 // The numbers that the header gives the slots: a filled slot's is the planned one, an empty slot's 0. A byte of 1 marks a filled one.
 fn number(numbers: &mut [u8], filled: &[u8])
@@ -36,12 +34,15 @@ fn number(numbers: &mut [u8], filled: &[u8])
     }
 }
 
-// The version of the open frame's header: raised where it announces something else than the last one.
-fn next_version(version: u8, s: Setting, last: Announced) -> u8
-    requires { ⌜ version < 8 ⌝ }
-    ensures { λ r. ⌜ r ≡ cond (differ (announced s) last) ((version + 1) % 8) version ⌝ }
+// The version of the open frame's header: raised where it announces something else than the last one. Both stand in the state as bytes,
+// and differ where the bytes do.
+fn next_version(state: &[u8]) -> u8
+    requires { ⌜ (length (now state) ≡ composerLength) × (someAtLeast (2 ^ 8) (now state) ≡ false) ⌝ }
+    requires { ⌜ composerOf (now state) .version < 8 ⌝ }
+    ensures { λ r. ⌜ r ≡ nextVersion (composerOf (now (state .entry))) ⌝ }
 {
-    if setting_changes::differs(setting::announce(s), last) {
+    let version = state[VERSION];
+    if slices::differ(&state[SAID..PLAN], &state[LAST..OPEN]) {
         return (version + 1) % 8;
     }
     version
@@ -49,17 +50,15 @@ fn next_version(version: u8, s: Setting, last: Announced) -> u8
 
 // The setting that the open frame's header says.
 pub(crate) fn header_setting(state: &[u8]) -> Setting
-    requires { ⌜ length (now state) ≡ composerLength ⌝ }
+    requires { ⌜ (length (now state) ≡ composerLength) × (someAtLeast (2 ^ 8) (now state) ≡ false) ⌝ }
     requires { ⌜ (composerOf (now state) .counter < 16) × (composerOf (now state) .version < 8) ⌝ }
     ensures { λ r. ⌜ r ≡ closing (composerOf (now (state .entry))) ⌝ }
 {
     let mut said = setting_read::setting_of(&state[SETTING..FILLED]);
-    let last = setting_read::announced_of(&state[LAST..OPEN]);
-    let version = next_version(state[VERSION], said, last);
     let mut numbers = said.relative_ts_number;
     number(&mut numbers, &state[FILLED..COMPOSER_BYTES]);
     said.continuity_counter = (state[COUNTER] + 1) % 16;
-    said.version_number = version;
+    said.version_number = next_version(state);
     said.relative_ts_number = numbers;
     said
 }

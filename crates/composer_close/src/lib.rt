@@ -1,25 +1,24 @@
-// The call for C that closes an open frame: its header says the slots that were filled. The run's state is lent bytes.
+// The call that closes an open frame: its header says the slots that were filled. The run's state is lent bytes.
 mod header;
 
-use setting_bytes::ANNOUNCED;
-use setting_bytes::ANNOUNCED_BYTES;
 use composer::COMPOSER_BYTES;
+use composer::COUNTER;
+use composer::KIND;
 use composer::LAST;
 use composer::OPEN;
 use composer::PLAN;
-use composer::SETTING;
+use composer::SAID;
+use composer::VERSION;
 use packet::FRAME_BYTES;
 use packet::PACKET_BYTES;
+use setting_bytes::ANNOUNCED_BYTES;
 ghost use mathlib.Core.Path.{_≡_};
 ghost use mathlib.Core.List.{_∷_, _++_};
 ghost use lib.ListN.{length, take, replicate};
-ghost use Rattle.setting_bytes.specs.Settings.{part};
+ghost use Rattle.setting_bytes.specs.Settings.{part, announcedLength};
 ghost use Rattle.composer.specs.Composing.{closeRefusal};
-ghost use Rattle.composer.specs.States.{composerLength, composerOf};
+ghost use Rattle.composer.specs.States.{counterAt, saidAt, openLength, composerLength, composerOf};
 ghost use Rattle.composer.specs.Calls.{closeRefused, closeState, closeMemory};
-
-// Where what the open frame's setting announces stands, up to its plan.
-const SAID: usize = SETTING + ANNOUNCED;
 
 fn close_refusal(state: &[u8], lent: usize) -> u8
     requires { ⌜ length (now state) ≡ composerLength ⌝ }
@@ -38,12 +37,12 @@ fn close_refusal(state: &[u8], lent: usize) -> u8
 // Leaves no frame open: what its setting announced is now what the last header announced, and zeros stand behind it.
 fn end_frame(state: &mut [u8], counter: u8, version: u8)
     requires { ⌜ length (now state) ≡ composerLength ⌝ }
-    ensures { λ _. ⌜ now (state .exit) ≡ take 3 (now (state .entry)) ++ (counter ∷ version ∷ (part 88 80 (now (state .entry)) ++ replicate 305 0)) ⌝ }
+    ensures { λ _. ⌜ now (state .exit) ≡ take counterAt (now (state .entry)) ++ (counter ∷ version ∷ (part saidAt announcedLength (now (state .entry)) ++ replicate openLength 0)) ⌝ }
 {
     let mut announced = [0u8; ANNOUNCED_BYTES];
     slices::copy(&mut announced, &state[SAID..PLAN]);
-    state[header::COUNTER] = counter;
-    state[header::VERSION] = version;
+    state[COUNTER] = counter;
+    state[VERSION] = version;
     slices::copy(&mut state[LAST..OPEN], &announced);
     slices::fill(&mut state[OPEN..COMPOSER_BYTES], 0);
 }
@@ -65,7 +64,7 @@ pub extern "C" fn niranbok_composer_close(state: &mut [u8], frame: &mut [u8]) ->
     slices::look(state);
     let said = header::header_setting(state);
     let pid = setting_bytes::word(state[0], state[1]);
-    let kind = setting_bytes::kind_of(state[2]);
+    let kind = setting_bytes::kind_of(state[KIND]);
     // What passed the checks is not refused here.
     header_write::write(&mut frame[0..PACKET_BYTES], pid, kind, said);
     end_frame(state, said.continuity_counter, said.version_number);

@@ -11,10 +11,9 @@ use Rattle.slices.proofs.Any.{both}
 use Rattle.counters.specs.Counters.{firstStream, lastStream, within}
 use Rattle.setting.specs.Refusal.{Check, NoneHolds}
 use Rattle.setting.proofs.Refusals.{none-first, none-at, none-before, none-behind, numbered-append}
-use Rattle.composer.specs.declared.Composer.{Composer}
 use Rattle.packet.specs.Packets.{packetLength, frameLength}
 use Rattle.composer.specs.Slots.{someUnfit}
-use Rattle.composer.specs.Composing.{stateChecks, lengthCheck, openChecks, streamChecks, putRefusal}
+use Rattle.composer.specs.Composing.{Composer, stateChecks, lengthCheck, openChecks, streamChecks, putRefusal}
 use Rattle.composer.proofs.Answers.{frame-lent}
 use Rattle.composer.proofs.Refusals.{state-numbered, open-numbered}
 use Rattle.composer.proofs.Passed.{none-drop, Passes, passes}

@@ -10,9 +10,8 @@ use Rattle.setting.specs.declared.Setting.{Setting}
 use Rattle.counters.specs.Counters.{lastSlot, lastStream}
 use Rattle.setting.specs.Setting.{blank}
 use Rattle.header_layout.specs.Header.{header}
-use Rattle.composer.specs.declared.Composer.{Composer}
 use Rattle.setting.specs.Announcing.{announced}
-use Rattle.composer.specs.Composing.{nextCounter, nextVersion}
+use Rattle.composer.specs.Composing.{Composer, nextCounter, nextVersion}
 use Rattle.receiver.specs.declared.Stage.{Stage}
 use Rattle.receiver.specs.declared.Row.{Row}
 use Rattle.bond_places.specs.Order.{framePackets, Place, comesBefore, picked, sorted}
@@ -70,7 +69,7 @@ nextAfter counter version =
       counter = counter;
       version = version;
       last = announced blank;
-      «is_open» = true;
+      is-open = true;
       setting = first;
       filled = replicate lastSlot false;
     } in

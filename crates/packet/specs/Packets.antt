@@ -1,9 +1,10 @@
 -- Packets of 188 bytes, of which a frame has a header and one for each slot.
-use Prim.Native.Nat.{ℕ, _*_}
+use Prim.Native.Nat.{ℕ, _+_, _*_}
 use mathlib.Core.Bool.{Bool, not, _||_}
 use mathlib.Core.List.{List, [], _∷_}
 use lib.Dec.{eqb}
 use lib.ListN.{length, take, drop, replicate}
+use Rattle.counters.specs.Counters.{lastSlot}
 use Rattle.setting.specs.Refusal.{firstOf}
 use Rattle.header_layout.specs.Layout.{syncByte, Field}
 use Rattle.header_layout.specs.Header.{startValue}
@@ -11,9 +12,9 @@ use Rattle.header_layout.specs.Header.{startValue}
 abbrev pub packetLength : ℕ
 packetLength = 188
 
--- 53 packets
+-- the header and a packet for each slot: 9,964 bytes
 abbrev pub frameLength : ℕ
-frameLength = 9964
+frameLength = packetLength * (lastSlot + 1)
 
 -- slot i: the 188 bytes that start at 188 × i. Slot 0 is the header
 unfoldable pub slot : ℕ → List ℕ → List ℕ

@@ -20,18 +20,17 @@ use Rattle.setting.proofs.Checked.{width-none, rule-none}
 use Rattle.setting.proofs.Fields.{fit-some}
 use Rattle.header_layout.specs.Rows.{place, rowAt}
 use Rattle.header_layout.specs.Layout.{startTable, rowWith}
-use Rattle.composer.specs.declared.Composer.{Composer}
 use Rattle.packet.specs.Packets.{packetLength, frameLength, unfit}
 use Rattle.composer.specs.Slots.{marksAfter, someUnfit, someUnplanned}
 use Rattle.setting.specs.Announcing.{announced, differ, announcedChecks}
-use Rattle.composer.specs.Composing.{fresh, opened, marked, nextCounter, nextVersion, closedWith, closed, asked, inTurn, stateChecks, openRuleChecks, markChecks, openChecks, streamChecks, beginRefusal, putRefusal, closeRefusal}
+use Rattle.composer.specs.Composing.{Composer, fresh, opened, marked, nextCounter, nextVersion, closedWith, closed, asked, inTurn, stateChecks, openRuleChecks, markChecks, openChecks, streamChecks, beginRefusal, putRefusal, closeRefusal}
 use Rattle.composer.proofs.Refusals.{ask-all, ask-none}
 use Rattle.composer_close.proofs.Said.{version-narrow}
 use Rattle.runs.specs.Runs.{Call, begin, put, close, Each, none, more, OfTypes, Run, started, refusalOf, after}
 use Rattle.runs.specs.Work.{Work, added, workAfter, doneBy, worksOf, noWork, numbersFilled}
 use Rattle.runs.proofs.Carried.{length-slots}
 use Rattle.runs.proofs.Held.{begun-run, put-run, closed-run, begun-work, put-work, Opened, Sound, sound-after, begin-none, put-none, close-one}
-use Rattle.runs.proofs.Composed.{fresh-run, sound-start}
+use Rattle.runs.proofs.Composed.{sound-start}
 
 -- ---- the setting and the packet
 
@@ -145,11 +144,11 @@ pub record Fine (c : Composer) : Type 0 where
 -- no frame is open, or one with the setting is
 pub record Idle (c : Composer) : Type 0 where
   pub fine : Fine c
-  pub shut : c .«is_open» ≡ false
+  pub shut : c .is-open ≡ false
 
 pub record Busy (c : Composer) (marks : List Bool) : Type 0 where
   pub fine : Fine c
-  pub is-open : c .«is_open» ≡ true
+  pub is-open : c .is-open ≡ true
   pub setting-is : c .setting ≡ oneSlot
   pub marks-are : c .filled ≡ marks
 
@@ -166,7 +165,7 @@ in-turn-none none q = q
 in-turn-none (more e h) none = more e h
 in-turn-none (more e h) (more f q) = more e (more f (in-turn-none h q))
 
-fine-state : (c : Composer) → Fine c → NoneHolds (asked (c .«is_open») (widthChecks (c .kind) (c .setting))) → NoneHolds (stateChecks c)
+fine-state : (c : Composer) → Fine c → NoneHolds (asked (c .is-open) (widthChecks (c .kind) (c .setting))) → NoneHolds (stateChecks c)
 unfolding stateChecks
 fine-state c f w =
     more (ap (λ (n : ℕ). not (pidAllowed n)) (f .pid-is))
@@ -186,7 +185,7 @@ begin-accepted c i =
 busy-state : (c : Composer) (marks : List Bool) → Busy c marks → NoneHolds (stateChecks c)
 busy-state c marks b =
     fine-state c (b .fine)
-    (asked-none (c .«is_open») (subst (λ (k : Kind). NoneHolds (widthChecks k (c .setting))) (sym (b .fine .kind-is)) (subst (λ (s : Setting). NoneHolds (widthChecks Kind.Plain s)) (sym (b .setting-is)) one-widths)))
+    (asked-none (c .is-open) (subst (λ (k : Kind). NoneHolds (widthChecks k (c .setting))) (sym (b .fine .kind-is)) (subst (λ (s : Setting). NoneHolds (widthChecks Kind.Plain s)) (sym (b .setting-is)) one-widths)))
 
 one-plan : oneSlot .«relative_ts_number» ≡ plan
 unfolding oneSlot
@@ -200,7 +199,7 @@ unfolding openChecks openRuleChecks markChecks
 busy-open c marks b u =
     more (ap not (b .is-open))
     (none-append
-    (asked-none (c .«is_open») (subst (λ (k : Kind). NoneHolds (ruleChecks k (c .setting))) (sym (b .fine .kind-is)) (subst (λ (s : Setting). NoneHolds (ruleChecks Kind.Plain s)) (sym (b .setting-is)) one-rules)))
+    (asked-none (c .is-open) (subst (λ (k : Kind). NoneHolds (ruleChecks k (c .setting))) (sym (b .fine .kind-is)) (subst (λ (s : Setting). NoneHolds (ruleChecks Kind.Plain s)) (sym (b .setting-is)) one-rules)))
     (more (ap₂ _&&_ (b .is-open) (ap₂ someUnplanned (busy-plan c marks b) (b .marks-are) ∙ u)) none))
 
 one-available : available (oneSlot .availability) 1 ≡ true
@@ -371,6 +370,5 @@ fresh-idle =
     }
 
 pub works-are : (n : ℕ) → worksOf (started Kind.Plain thePid) noWork (cycles n) ≡ replicate n theWork
-works-are n =
-    works-of n (started Kind.Plain thePid) noWork (sound-start Kind.Plain thePid refl)
-    (subst (λ (v : Run). Idle (v .state)) (sym (fresh-run Kind.Plain thePid refl)) fresh-idle)
+unfolding started
+works-are n = works-of n (started Kind.Plain thePid) noWork (sound-start Kind.Plain thePid) fresh-idle

@@ -25,7 +25,7 @@ use Rattle.header_layout.proofs.Whole.{length-header}
 use Rattle.setting.specs.declared.Announced.{Announced}
 use Rattle.packet.specs.Packets.{packetLength, frameLength, nullPacket, slot, unfit}
 use Rattle.setting.specs.Announcing.{announced, differ}
-use Rattle.composer.specs.Composing.{saying, fresh, answer, startOf}
+use Rattle.composer.specs.Composing.{saying, fresh}
 use Rattle.receiver.specs.Store.{numbered, slotsFor}
 use Rattle.runs.specs.Runs.{Call, Each, none, more, OfTypes, started, framesOf}
 use Rattle.runs.specs.Work.{Work, noWork, worksOf, slotsFilled, numbersFilled, said, versionBehind, headedBehind, headed, frameOf}
@@ -38,16 +38,9 @@ use Rattle.runs.proofs.Held.{Sound, Done, holds, all-done}
 
 -- ---- the start
 
-pub fresh-run : (kind : Kind) (pid : ℕ) → pidAllowed pid ≡ true → started kind pid ≡ record { state = fresh kind pid; frame = [] }
-unfolding started startOf answer firstOf
-fresh-run kind pid e = rw e
-
-fresh-sound : (kind : Kind) (pid : ℕ) → Sound kind pid (record { state = fresh kind pid; frame = [] }) noWork
-unfolding fresh noWork
-fresh-sound kind pid = record { kind-is = refl; pid-is = refl; whole = λ n. refl; opened-as = λ e. absurd (false≢true e) }
-
-pub sound-start : (kind : Kind) (pid : ℕ) → pidAllowed pid ≡ true → Sound kind pid (started kind pid) noWork
-sound-start kind pid e = rw (fresh-run kind pid e) (fresh-sound kind pid)
+pub sound-start : (kind : Kind) (pid : ℕ) → Sound kind pid (started kind pid) noWork
+unfolding started fresh noWork
+sound-start kind pid = record { kind-is = refl; pid-is = refl; whole = λ n. refl; opened-as = λ e. absurd (false≢true e) }
 
 -- ---- the first header
 
@@ -71,17 +64,17 @@ first-headed kind pid (k ∷ ks) (more d ds) = rw (first-differs (k .setting) (t
 
 module _ (kind : Kind) (pid : ℕ) (calls : List Call) (e : pidAllowed pid ≡ true) (t : Each OfTypes calls) where
   pub works-done : Each (Done kind pid) (worksOf (started kind pid) noWork calls)
-  works-done = all-done kind pid (started kind pid) noWork calls (sound-start kind pid e) t
+  works-done = all-done kind pid (started kind pid) noWork calls (sound-start kind pid) t
 
   started-numbers : (started kind pid .state .counter ≡ 15) × (started kind pid .state .version ≡ 7) × (started kind pid .state .last ≡ announced blank)
-  unfolding fresh
-  started-numbers = rw (fresh-run kind pid e) (refl, refl, refl)
+  unfolding started fresh
+  started-numbers = (refl, refl, refl)
 
   pub hold : framesOf (started kind pid) calls ≡ map (frameOf kind pid) (headedBy kind pid calls)
   hold =
       let n = started-numbers in
       let ks = worksOf (started kind pid) noWork calls in
-      holds kind pid (started kind pid) noWork calls (sound-start kind pid e) t
+      holds kind pid (started kind pid) noWork calls (sound-start kind pid) t
       ∙ ap₂ (λ (x y : ℕ). map (frameOf kind pid) (headedBehind x y (started kind pid .state .last) ks)) (n .0) (n .1)
       ∙ ap (λ (x : Announced). map (frameOf kind pid) (headedBehind 15 7 x ks)) (n .2)
       ∙ ap (map (frameOf kind pid)) (first-headed kind pid ks works-done)

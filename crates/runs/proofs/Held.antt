@@ -16,11 +16,10 @@ use Rattle.setting.specs.Refusal.{NoneHolds, leaves}
 use Rattle.setting.specs.Rules.{widthChecks, ruleChecks}
 use Rattle.header_layout.specs.Header.{header}
 use Rattle.setting.specs.declared.Announced.{Announced}
-use Rattle.composer.specs.declared.Composer.{Composer}
 use Rattle.packet.specs.Packets.{packetLength, frameLength}
 use Rattle.composer.specs.Slots.{nulls, cleared, slotsAfter, marksAfter, someUnfit, frameAfter}
 use Rattle.setting.specs.Announcing.{announced}
-use Rattle.composer.specs.Composing.{opened, marked, nextCounter, nextVersion, closing, closedWith, closed, answer, beginOf, begunFrame, putOf, putFrame, closeOf, closedFrame}
+use Rattle.composer.specs.Composing.{Composer, opened, marked, nextCounter, nextVersion, closing, closedWith, closed, answer, beginOf, begunFrame, putOf, putFrame, closeOf, closedFrame}
 use Rattle.composer_begin.proofs.Passed.{begin-passed}
 use Rattle.composer_put.proofs.Passed.{PutPassed, put-passed}
 use Rattle.composer_close.proofs.Passed.{ClosePassed, close-passed}
@@ -110,7 +109,7 @@ pub record Sound (kind : Kind) (pid : ℕ) (w : Run) (k : Work) : Type 0 where
   pub kind-is : w .state .kind ≡ kind
   pub pid-is : w .state .pid ≡ pid
   pub whole : EachWhole (k .lent)
-  pub opened-as : w .state .«is_open» ≡ true → Opened pid w k
+  pub opened-as : w .state .is-open ≡ true → Opened pid w k
 
 drop-front : (front rest : List ℕ) → packetLength ≤ length front → drop packetLength (take packetLength front ++ rest) ≡ rest
 drop-front front rest h = drop-at (take packetLength front) rest packetLength (length-take-le packetLength front h)

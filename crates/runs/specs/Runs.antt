@@ -7,8 +7,7 @@ use lib.ListN.{length}
 use Rattle.setting.specs.declared.Kind.{Kind}
 use Rattle.setting.specs.declared.Setting.{Setting}
 use Rattle.setting.specs.Setting.{OfItsTypes}
-use Rattle.composer.specs.declared.Composer.{Composer}
-use Rattle.composer.specs.Composing.{beginRefusal, putRefusal, closeRefusal, startOf, beginOf, begunFrame, putOf, putFrame, closeOf, closedFrame}
+use Rattle.composer.specs.Composing.{Composer, beginRefusal, putRefusal, closeRefusal, fresh, beginOf, begunFrame, putOf, putFrame, closeOf, closedFrame}
 
 -- a call of a run. A begin lends a buffer and a setting, a put a stream and its number. Put and close lend the buffer of the
 -- frame that was begun last, as the calls before left it
@@ -34,7 +33,7 @@ pub record Run : Type 0 where
   pub frame : List ℕ
 
 unfoldable pub started : Kind → ℕ → Run
-started kind pid = record { state = startOf kind pid .state; frame = [] }
+started kind pid = record { state = fresh kind pid; frame = [] }
 
 -- the number that a call answers
 unfoldable pub refusalOf : Run → Call → ℕ

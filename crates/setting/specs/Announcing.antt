@@ -3,8 +3,7 @@ use Prim.Native.Nat.{ℕ}
 use mathlib.Core.Bool.{Bool, not, _||_}
 use mathlib.Core.List.{List}
 use lib.Dec.{eqb}
-use lib.ListN.{length, getD}
-use Rattle.slices.specs.Slices.{anyBelow}
+use Rattle.slices.specs.Slices.{someDiffer}
 use Rattle.setting.specs.declared.Setting.{Setting}
 use Rattle.setting.specs.Refusal.{Check}
 use Rattle.setting.specs.Rules.{informationChecks}
@@ -23,10 +22,7 @@ announced s =
       «emergency_indicator» = s .«emergency_indicator»;
     }
 
--- whether two lists of the same length differ somewhere
-unfoldable pub someDiffer : List ℕ → List ℕ → Bool
-someDiffer xs ys = anyBelow (length xs) (λ i. not (eqb (getD xs i 0) (getD ys i 0)))
-
+-- whether two headers announce different things
 unfoldable pub differ : Announced → Announced → Bool
 differ a b =
     not (eqb (a .«slot_allocation_type») (b .«slot_allocation_type»))

@@ -3,3 +3,4 @@ pub mod Numbers
 pub mod Back
 pub mod Parts
 pub mod Same
+pub mod Differing

@@ -1,11 +1,12 @@
 -- A setting's layout in bytes, field behind field in the setting's own order, and what bytes say as a setting.
-use Prim.Native.Nat.{ℕ}
+use Prim.Native.Nat.{ℕ, _+_, _*_}
 use mathlib.Core.Bool.{cond}
 use mathlib.Core.List.{List, [], _∷_, _++_}
 use lib.Dec.{eqb}
 use lib.ListN.{length, getD, take, drop}
+use Rattle.counters.specs.Counters.{lastSlot, lastStream}
 use Rattle.setting.specs.declared.Setting.{Setting}
-use Rattle.setting.specs.Setting.{blank}
+use Rattle.setting.specs.Setting.{privateBytes, auxiliaryBytes, blank}
 use Rattle.setting.specs.declared.Announced.{Announced}
 use Rattle.setting.specs.Announcing.{announced}
 use Rattle.setting_bytes.specs.Words.{wordBytes, wordAt, wordsOf}
@@ -14,10 +15,33 @@ use Rattle.setting_bytes.specs.Words.{wordBytes, wordAt, wordsOf}
 abbrev pub part : ℕ → ℕ → List ℕ → List ℕ
 part k n bytes = take n (drop k bytes)
 
--- ---- what decides on the version: 80 bytes
+-- ---- what decides on the version: its places, each behind the one before it
 
+abbrev pub slotTypeAt : ℕ
+slotTypeAt = 0
+
+abbrev pub frameTypeAt : ℕ
+frameTypeAt = slotTypeAt + 1
+
+-- the availability and the identifiers have two bytes each
+abbrev pub availabilityAt : ℕ
+availabilityAt = frameTypeAt + 1
+
+abbrev pub tsIdAt : ℕ
+tsIdAt = availabilityAt + 2
+
+abbrev pub networkIdAt : ℕ
+networkIdAt = tsIdAt + 2 * lastStream
+
+abbrev pub statusesAt : ℕ
+statusesAt = networkIdAt + 2 * lastStream
+
+abbrev pub emergencyAt : ℕ
+emergencyAt = statusesAt + lastStream
+
+-- how many bytes it has: 80
 abbrev pub announcedLength : ℕ
-announcedLength = 80
+announcedLength = emergencyAt + 1
 
 unfoldable pub announcedBytes : Announced → List ℕ
 announcedBytes a =
@@ -32,20 +56,54 @@ unfoldable pub announcedOf : List ℕ → Announced
 announcedOf b =
     cond (eqb (length b) announcedLength)
     (record {
-      «slot_allocation_type» = getD b 0 0;
-      «frame_type» = getD b 1 0;
-      availability = wordAt 2 b;
-      «ts_id» = wordsOf (part 4 30 b);
-      «original_network_id» = wordsOf (part 34 30 b);
-      «receive_status» = part 64 15 b;
-      «emergency_indicator» = getD b 79 0;
+      «slot_allocation_type» = getD b slotTypeAt 0;
+      «frame_type» = getD b frameTypeAt 0;
+      availability = wordAt availabilityAt b;
+      «ts_id» = wordsOf (part tsIdAt (2 * lastStream) b);
+      «original_network_id» = wordsOf (part networkIdAt (2 * lastStream) b);
+      «receive_status» = part statusesAt lastStream b;
+      «emergency_indicator» = getD b emergencyAt 0;
     })
     (announced blank)
 
--- ---- a setting: 252 bytes
+-- ---- a setting: its places, each behind the one before it
 
+abbrev pub counterAt : ℕ
+counterAt = 0
+
+abbrev pub versionAt : ℕ
+versionAt = counterAt + 1
+
+abbrev pub announcedAt : ℕ
+announcedAt = versionAt + 1
+
+abbrev pub numbersAt : ℕ
+numbersAt = announcedAt + announcedLength
+
+abbrev pub privateAt : ℕ
+privateAt = numbersAt + lastSlot
+
+abbrev pub auxiliaryAt : ℕ
+auxiliaryAt = privateAt + privateBytes
+
+abbrev pub groupAt : ℕ
+groupAt = auxiliaryAt + auxiliaryBytes
+
+abbrev pub carriersAt : ℕ
+carriersAt = groupAt + 1
+
+abbrev pub sequenceAt : ℕ
+sequenceAt = carriersAt + 1
+
+abbrev pub framesAt : ℕ
+framesAt = sequenceAt + 1
+
+abbrev pub positionAt : ℕ
+positionAt = framesAt + 1
+
+-- how many bytes it has: 252
 abbrev pub settingLength : ℕ
-settingLength = 252
+settingLength = positionAt + 1
 
 unfoldable pub settingBytes : Setting → List ℕ
 settingBytes s =
@@ -61,22 +119,22 @@ unfoldable pub settingOf : List ℕ → Setting
 settingOf b =
     cond (eqb (length b) settingLength)
     (record {
-      «continuity_counter» = getD b 0 0;
-      «version_number» = getD b 1 0;
-      «slot_allocation_type» = announcedOf (part 2 80 b) .«slot_allocation_type»;
-      «frame_type» = announcedOf (part 2 80 b) .«frame_type»;
-      availability = announcedOf (part 2 80 b) .availability;
-      «ts_id» = announcedOf (part 2 80 b) .«ts_id»;
-      «original_network_id» = announcedOf (part 2 80 b) .«original_network_id»;
-      «receive_status» = announcedOf (part 2 80 b) .«receive_status»;
-      «emergency_indicator» = announcedOf (part 2 80 b) .«emergency_indicator»;
-      «relative_ts_number» = part 82 52 b;
-      «private_data» = part 134 85 b;
-      auxiliary = part 219 28 b;
-      «group_id» = getD b 247 0;
-      «number_of_carriers» = getD b 248 0;
-      «carrier_sequence» = getD b 249 0;
-      «number_of_frames» = getD b 250 0;
-      «frame_position» = record { 0 = getD b 251 0 };
+      «continuity_counter» = getD b counterAt 0;
+      «version_number» = getD b versionAt 0;
+      «slot_allocation_type» = announcedOf (part announcedAt announcedLength b) .«slot_allocation_type»;
+      «frame_type» = announcedOf (part announcedAt announcedLength b) .«frame_type»;
+      availability = announcedOf (part announcedAt announcedLength b) .availability;
+      «ts_id» = announcedOf (part announcedAt announcedLength b) .«ts_id»;
+      «original_network_id» = announcedOf (part announcedAt announcedLength b) .«original_network_id»;
+      «receive_status» = announcedOf (part announcedAt announcedLength b) .«receive_status»;
+      «emergency_indicator» = announcedOf (part announcedAt announcedLength b) .«emergency_indicator»;
+      «relative_ts_number» = part numbersAt lastSlot b;
+      «private_data» = part privateAt privateBytes b;
+      auxiliary = part auxiliaryAt auxiliaryBytes b;
+      «group_id» = getD b groupAt 0;
+      «number_of_carriers» = getD b carriersAt 0;
+      «carrier_sequence» = getD b sequenceAt 0;
+      «number_of_frames» = getD b framesAt 0;
+      «frame_position» = record { 0 = getD b positionAt 0 };
     })
     blank

@@ -1,7 +1,5 @@
-// Numbers of 16 bits and kinds as bytes, as a caller in another language keeps them.
-// Settings as bytes, in a fixed layout: what a caller in another language keeps and hands over. The fields stand in the setting's own
-// order, numbers of 16 bits with the high byte first. Here the layout alone; the code stands in announced_reader,
-// announced_writer, setting_reader and setting_writer.
+// Settings, kinds and numbers of 16 bits as bytes, as a caller keeps them and hands them over. The fields of a setting stand in its own
+// order, numbers of 16 bits with the high byte first.
 use setting::AUXILIARY_BYTES;
 use setting::Kind;
 use setting::PRIVATE_BYTES;
@@ -10,7 +8,7 @@ use counters::STREAMS;
 ghost use mathlib.Core.Path.{_≡_};
 ghost use Prim.Native.Nat.{_*_, _+_};
 ghost use Rattle.setting_bytes.specs.Words.{wordsRead};
-ghost use Rattle.setting_bytes.specs.Kinds.{kindOf, kindNumber};
+ghost use Rattle.setting_bytes.specs.Kinds.{kindOf};
 
 // A number of 16 bits from its two bytes.
 pub fn word(high: u8, low: u8) -> u16
@@ -43,22 +41,14 @@ pub fn kind_of(n: u8) -> Kind
     Kind::Plain
 }
 
-pub fn kind_number(kind: Kind) -> u8
-    ensures { λ r. ⌜ r ≡ kindNumber kind ⌝ }
-{
-    match kind {
-        Kind::Plain => 0,
-        Kind::Extended => 1,
-    }
-}
+// What a header announces: its parts stand one behind the other, identifiers in two bytes each.
+pub const SLOT_ALLOCATION_TYPE: usize = 0;
 
-// How many bytes what a header announces takes, and a setting.
-pub const ANNOUNCED_BYTES: usize = 80;
+pub const FRAME_TYPE: usize = SLOT_ALLOCATION_TYPE + 1;
 
-pub const SETTING_BYTES: usize = 252;
+pub const AVAILABILITY: usize = FRAME_TYPE + 1;
 
-// Where the parts of what is announced start, and those of a setting.
-pub const TS_ID: usize = 4;
+pub const TS_ID: usize = AVAILABILITY + 2;
 
 pub const ORIGINAL_NETWORK_ID: usize = TS_ID + 2 * STREAMS;
 
@@ -66,7 +56,14 @@ pub const RECEIVE_STATUS: usize = ORIGINAL_NETWORK_ID + 2 * STREAMS;
 
 pub const EMERGENCY: usize = RECEIVE_STATUS + STREAMS;
 
-pub const ANNOUNCED: usize = 2;
+pub const ANNOUNCED_BYTES: usize = EMERGENCY + 1;
+
+// A setting: counter and version, what it announces, and the rest in the setting's own order.
+pub const COUNTER: usize = 0;
+
+pub const VERSION: usize = COUNTER + 1;
+
+pub const ANNOUNCED: usize = VERSION + 1;
 
 pub const NUMBERS: usize = ANNOUNCED + ANNOUNCED_BYTES;
 
@@ -74,13 +71,15 @@ pub const PRIVATE: usize = NUMBERS + SLOTS;
 
 pub const AUXILIARY: usize = PRIVATE + PRIVATE_BYTES;
 
-// Where the bonding fields start, and those behind the first.
+// The bonding fields, the group's id first.
 pub const BONDING: usize = AUXILIARY + AUXILIARY_BYTES;
 
 pub const CARRIERS: usize = BONDING + 1;
 
-pub const SEQUENCE: usize = BONDING + 2;
+pub const SEQUENCE: usize = CARRIERS + 1;
 
-pub const FRAMES: usize = BONDING + 3;
+pub const FRAMES: usize = SEQUENCE + 1;
 
-pub const POSITION: usize = BONDING + 4;
+pub const POSITION: usize = FRAMES + 1;
+
+pub const SETTING_BYTES: usize = POSITION + 1;

@@ -3,3 +3,4 @@ pub mod Front
 mod Most
 pub mod Toward
 mod Whole
+pub mod Differing

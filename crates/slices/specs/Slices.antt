@@ -1,8 +1,8 @@
 -- Slices of bytes: copied, filled, tested.
 use Prim.Native.Nat.{ℕ, zero, suc, _+_}
-use mathlib.Core.Bool.{Bool, false, _||_}
+use mathlib.Core.Bool.{Bool, false, not, _||_}
 use mathlib.Core.List.{List, _∷_, _++_}
-use lib.Dec.{leb}
+use lib.Dec.{leb, eqb}
 use lib.ListN.{length, getD, take, drop}
 
 -- the list `into` with the elements of `from` over its front, as many as there is room for
@@ -21,6 +21,14 @@ anyBelow (suc n) test = anyBelow n test || test n
 -- whether some element is `limit` or more
 unfoldable pub someAtLeast : ℕ → List ℕ → Bool
 someAtLeast limit xs = anyBelow (length xs) (λ i. leb limit (getD xs i 0))
+
+-- whether two lists of the same length differ somewhere
+unfoldable pub someDiffer : List ℕ → List ℕ → Bool
+someDiffer xs ys = anyBelow (length xs) (λ i. not (eqb (getD xs i 0) (getD ys i 0)))
+
+-- whether two lists differ, in their lengths or somewhere
+unfoldable pub unlike : List ℕ → List ℕ → Bool
+unlike xs ys = not (eqb (length xs) (length ys)) || someDiffer xs ys
 
 -- whether k is among the numbers
 pub data Among (k : ℕ) : List ℕ → Type 0 where

@@ -3,7 +3,7 @@ ghost use mathlib.Core.Path.{_≡_};
 ghost use mathlib.Core.Bool.{false};
 ghost use Prim.Native.Nat.{_≤_, _<_};
 ghost use lib.ListN.{length, replicate};
-ghost use Rattle.slices.specs.Slices.{copied, someAtLeast};
+ghost use Rattle.slices.specs.Slices.{copied, someAtLeast, unlike};
 
 // How many bytes are copied at a time.
 const AT_A_TIME: usize = 16;
@@ -90,6 +90,23 @@ pub fn some_at_least(xs: &[u8], limit: u8) -> bool
         i += 1;
     }
     limit <= most
+}
+
+// Whether two slices differ, in their lengths or somewhere.
+pub fn differ(xs: &[u8], ys: &[u8]) -> bool
+    ensures { λ r. ⌜ r ≡ unlike (now (xs .entry)) (now (ys .entry)) ⌝ }
+{
+    if xs.len() != ys.len() {
+        return true;
+    }
+    let mut i = 0;
+    while i < xs.len() {
+        if xs[i] != ys[i] {
+            return true;
+        }
+        i += 1;
+    }
+    false
 }
 
 // What is handed over as a byte is below 256.

@@ -7,8 +7,7 @@ use borrow.Author.Needs.{needs}
 use borrow.Author.Tests.{eq-eqb, ne-eqb}
 use Rattle.setting.specs.Refusal.{firstOf}
 use Rattle.setting.proofs.Refusals.{answers, passed, onward, at-once}
-use Rattle.composer.specs.declared.Composer.{Composer}
-use Rattle.composer.specs.Composing.{stateChecks, openChecks, closeRefusal}
+use Rattle.composer.specs.Composing.{Composer, stateChecks, openChecks, closeRefusal}
 use Rattle.composer.proofs.Refusals.{state-none}
 use Rattle.composer.specs.States.{composerOf}
 use Rattle.composer.proofs.Parts.{whole-same}

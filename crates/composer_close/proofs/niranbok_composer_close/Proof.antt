@@ -71,7 +71,7 @@ header-setting-requires : tie.Need-header-setting-requires
 header-setting-requires c κs =
     let checks = passed (c .before) in
     let p = past checks .open-state in
-    (long checks, (p .counter, p .version))
+    ((long checks, c .before .look .ensures), (p .counter, p .version))
 
 slice-read-word : tie.Need-slice-read-word
 slice-read-word c = omega (arith, long (passed (looked (c .before))))

@@ -5,7 +5,6 @@ use borrow.Author.Needs.{needs}
 use borrow.Author.Tests.{eq-eqb, ne-eqb, lt-ltb, le-ltb, not-true, not-false}
 use lib.ListN.{length}
 use Rattle.setting.specs.Refusal.{firstOf, leaves}
-use Rattle.composer.specs.Composing.{answer, startOf}
 use Rattle.composer.specs.States.{composerLength}
 use Rattle.composer.specs.Calls.{startRefused, startState}
 use Rattle.composer_start.proofs.niranbok_composer_start.Statement.{statement}
@@ -42,7 +41,7 @@ same-length : tie.Need-same-length
 same-length c = search needs
 
 returns-4 : tie.Need-returns-4
-unfolding startRefused startState firstOf leaves answer startOf
+unfolding startRefused startState firstOf leaves
 returns-4 c =
     let written = c .before .before in
     let numbered = written .before .before in

@@ -10,9 +10,8 @@ use Rattle.setting.specs.Refusal.{Check, firstOf}
 use Rattle.setting.specs.Rules.{widthChecks, ruleChecks}
 use Rattle.setting.proofs.Refusals.{answers, passed, onward, at-once}
 use Rattle.setting.proofs.Checked.{width-none}
-use Rattle.composer.specs.Composing.{stateChecks, openRuleChecks, markChecks, inTurn, beginRefusal}
+use Rattle.composer.specs.Composing.{Composer, stateChecks, openRuleChecks, markChecks, inTurn, beginRefusal}
 use Rattle.composer.proofs.Refusals.{state-none}
-use Rattle.composer.specs.declared.Composer.{Composer}
 use Rattle.setting_bytes.specs.Settings.{settingOf}
 use Rattle.composer.specs.States.{composerOf}
 use Rattle.composer.proofs.Parts.{whole-same}

@@ -32,7 +32,7 @@ both c =
     ap₂ lesser
     (c .before .before .before .open-rule-refusal .ensures ∙ ap (λ (l : List ℕ). firstOf (openRuleChecks (composerOf l))) (whole-same b (start c .pre)))
     (c .rule-refusal .ensures ∙ ap (λ (k : Kind). firstOf (ruleChecks k new)) (c .before .kind-of .ensures ∙ sym (kind-there b)))
-    ∙ sym (in-turn (omega arith) (rules-rise (run .kind) (run .setting) new (run .«is_open»)))
+    ∙ sym (in-turn (omega arith) (rules-rise (run .kind) (run .setting) new (run .is-open)))
 
 open-rule-refusal-requires : tie.Need-open-rule-refusal-requires
 open-rule-refusal-requires c κs = search needs

@@ -12,14 +12,8 @@ use Rattle.composer_close.proofs.header.header_setting.Tie as tie
 abbrev begun : tie.After-setting-of → tie.Start
 begun c = c .before .before .before
 
-abbrev set-up : tie.After-announced-of → tie.After-setting-of
-set-up c = c .before .before
-
-abbrev told : tie.After-next-version → tie.After-announced-of
-told c = c .before .before
-
-abbrev versed : tie.After-number → tie.After-next-version
-versed c = c .before .before .before .before
+abbrev numbered : tie.After-number → tie.After-setting-of
+numbered c = c .before .before .before .before
 
 sub-setting-of : tie.Need-sub-setting-of
 sub-setting-of c = search needs
@@ -32,25 +26,6 @@ part-setting-of-end c = search needs
 
 setting-of-requires : tie.Need-setting-of-requires
 setting-of-requires c κs = search needs
-
-sub-announced-of : tie.Need-sub-announced-of
-sub-announced-of c = search needs
-
-part-announced-of-start : tie.Need-part-announced-of-start
-part-announced-of-start c = search needs
-
-part-announced-of-end : tie.Need-part-announced-of-end
-part-announced-of-end c = search needs
-
-announced-of-requires : tie.Need-announced-of-requires
-announced-of-requires c κs = search needs
-
-shared-slice-read-next-version : tie.Need-shared-slice-read-next-version
-shared-slice-read-next-version c = search needs
-
-next-version-requires : tie.Need-next-version-requires
-unfolding composerOf
-next-version-requires c κs = begun (set-up (c .before)) .pre .1 .1
 
 slice-aggregate-number : tie.Need-slice-aggregate-number
 slice-aggregate-number c = search needs
@@ -72,20 +47,22 @@ shared-slice-read-said c = search needs
 
 add-said : tie.Need-add-said
 add-said c =
-    let start = begun (set-up (told (versed (c .before .before)))) in
+    let start = begun (numbered (c .before .before)) in
     let there = counter-there (start .args .state .now) (start .pre .1 .0) in
     omega (arith, there, start .pre .1 .0)
+
+next-version-requires : tie.Need-next-version-requires
+next-version-requires c κs =
+    let start = begun (numbered (c .before .before)) in
+    (start .pre .0, start .pre .1 .1)
 
 returns : tie.Need-returns
 unfolding saying
 returns c =
-    let numbered = c .before .before in
-    let version = versed numbered in
-    let last = told version in
-    let setting = set-up last in
+    let number = c .before .before .before in
+    let setting = numbered number in
     let start = begun setting in
-    closing-read (start .args .state .now) (start .pre .1 .0) _ _ _ _ (setting .setting-of .ensures) (last .announced-of .ensures) (version .next-version .ensures)
-    (numbered .number .ensures)
+    closing-read (start .args .state .now) (start .pre .1 .0) _ _ _ (setting .setting-of .ensures) (c .next-version .ensures) (number .number .ensures)
 
 pub header-setting-spec : {M : Type 1} → statement M
 header-setting-spec =
@@ -95,12 +72,6 @@ header-setting-spec =
     part-setting-of-start
     part-setting-of-end
     setting-of-requires
-    sub-announced-of
-    part-announced-of-start
-    part-announced-of-end
-    announced-of-requires
-    shared-slice-read-next-version
-    next-version-requires
     slice-aggregate-number
     sub-number
     part-number-start
@@ -108,4 +79,5 @@ header-setting-spec =
     number-requires
     shared-slice-read-said
     add-said
+    next-version-requires
     returns)
