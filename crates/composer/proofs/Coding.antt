@@ -17,14 +17,15 @@ use Rattle.packet.specs.Packets.{packetLength, frameLength}
 use Rattle.composer.specs.Composing.{Composer, stateChecks, answer, beginOf, putOf, closeOf, beginRefusal, putRefusal, closeRefusal}
 use Rattle.setting_bytes.specs.Words.{wordBytes, wordAt}
 use Rattle.setting_bytes.specs.Kinds.{isKind, kindNumber}
-use Rattle.setting_bytes.specs.Settings.{part, announcedBytes, settingLength, settingBytes, settingOf}
+use Rattle.setting_bytes.specs.Settings.{part, announcedBytes, settingLength, settingBytes, settingOf, announcedLength}
 use Rattle.setting_bytes.proofs.Parts.{length-announced}
 use Rattle.setting_bytes.proofs.Back.{part-behind, part-first, byte-behind, long, announced-back, length-setting, setting-back}
 use Rattle.setting_bytes.proofs.KindsBack.{kind-back, kind-is}
-use Rattle.composer.specs.States.{composerLength, markByte, composerBytes, isCoded, noCounter, composerOf}
+use Rattle.composer.specs.States.{composerLength, markByte, composerBytes, isCoded, noCounter, composerOf, counterAt, filledAt, lastAt, openAt, settingAt}
 use Rattle.composer.specs.Calls.{beginRefused, putRefused, closeRefused}
 use Rattle.composer.specs.Demands.{StateBack, Uncoded, UncodedRefused}
 use Rattle.composer.proofs.Parts.{frontBytes, length-front, Long-state}
+use Rattle.counters.specs.Counters.{lastSlot}
 
 -- ---- marks
 
@@ -66,28 +67,28 @@ module _ (c : Composer) (n : Long-state c) where
   abbrev m : List ℕ
   m = map markByte (c .filled)
 
-  a-long : length a ≡ 80
+  a-long : length a ≡ announcedLength
   a-long = length-announced (c .last) (n .streams)
 
-  s-long : length s ≡ 252
+  s-long : length s ≡ settingLength
   s-long = length-setting (c .setting) (n .setting)
 
   -- the parts, where they stand
-  last-part : part 5 80 (composerBytes c) ≡ a
+  last-part : part lastAt announcedLength (composerBytes c) ≡ a
   unfolding composerBytes
   last-part = part-behind 5 0 80 (frontBytes c) (a ++ (o ++ (s ++ m))) (length-front c) ∙ part-first 80 a (o ++ (s ++ m)) a-long
 
-  open-byte : getD (composerBytes c) 85 0 ≡ markByte (c .is-open)
+  open-byte : getD (composerBytes c) openAt 0 ≡ markByte (c .is-open)
   unfolding composerBytes
-  open-byte = byte-behind 5 80 (frontBytes c) (a ++ (o ++ (s ++ m))) (length-front c) ∙ byte-behind 80 0 a (o ++ (s ++ m)) a-long
+  open-byte = byte-behind lastAt announcedLength (frontBytes c) (a ++ (o ++ (s ++ m))) (length-front c) ∙ byte-behind 80 0 a (o ++ (s ++ m)) a-long
 
-  setting-part : part 86 252 (composerBytes c) ≡ s
+  setting-part : part settingAt settingLength (composerBytes c) ≡ s
   unfolding composerBytes
   setting-part =
       part-behind 5 81 252 (frontBytes c) (a ++ (o ++ (s ++ m))) (length-front c) ∙ part-behind 80 1 252 a (o ++ (s ++ m)) a-long
       ∙ part-behind 1 0 252 o (s ++ m) refl ∙ part-first 252 s m s-long
 
-  marks-part : part 338 52 (composerBytes c) ≡ m
+  marks-part : part filledAt lastSlot (composerBytes c) ≡ m
   unfolding composerBytes
   marks-part =
       let l = length-map (c .filled) markByte ∙ n .marks in
@@ -146,7 +147,7 @@ state-back c t =
 -- the counter refuses them
 no-state : (state : List ℕ) → Uncoded state → (rest : List Check) → firstOf (stateChecks (composerOf state) ++ rest) ≡ 17
 unfolding stateChecks composerOf
-no-state state u rest = passed 2 _ (ap not (u .pid-allowed)) ∙ answers 17 _ (ap (λ (t : Bool). leb 16 (cond t (getD state 3 0) noCounter)) (u .no-state))
+no-state state u rest = passed 2 _ (ap not (u .pid-allowed)) ∙ answers 17 _ (ap (λ (t : Bool). leb 16 (cond t (getD state counterAt 0) noCounter)) (u .no-state))
 
 module _ (state frame : List ℕ) (u : Uncoded state) (f : length frame ≡ frameLength) where
   lent : (cs : List Check) → firstOf ((1, not (eqb (length frame) frameLength)) ∷ cs) ≡ firstOf cs

@@ -13,7 +13,7 @@ use Rattle.setting.specs.Refusal.{leaves}
 use Rattle.packet.specs.Packets.{packetLength}
 use Rattle.setting.specs.declared.Setting.{Setting}
 use Rattle.setting.specs.Setting.{blank, OfItsTypes as SettingOfItsTypes}
-use Rattle.setting_bytes.specs.Settings.{settingLength, announcedBytes, settingBytes}
+use Rattle.setting_bytes.specs.Settings.{settingLength, announcedBytes, settingBytes, announcedLength}
 use Rattle.setting_bytes.proofs.Parts.{length-announced}
 use Rattle.setting_bytes.proofs.Back.{long, length-setting, setting-back}
 use Rattle.setting.specs.Announcing.{announced}
@@ -34,15 +34,15 @@ left n f new old = either (eqb n 0)
     either true = refl
     either false = refl
 
--- a state takes 390 bytes
+-- a state takes composerLength bytes
 length-composer : (c : Composer) → OfItsTypes c → length (composerBytes c) ≡ composerLength
 unfolding composerBytes
 length-composer c t =
     let a = announcedBytes (c .last) in
     let s = settingBytes (c .setting) in
     let m = map markByte (c .filled) in
-    let la : length a ≡ 80 = length-announced (c .last) (t .ts-id .0, t .network-id .0, t .statuses .0) in
-    let ls : length s ≡ 252 = length-setting (c .setting) (long (c .setting) (t .setting)) in
+    let la : length a ≡ announcedLength = length-announced (c .last) (t .ts-id .0, t .network-id .0, t .statuses .0) in
+    let ls : length s ≡ settingLength = length-setting (c .setting) (long (c .setting) (t .setting)) in
     let lm : length m ≡ 52 = length-map (c .filled) markByte ∙ t .marks in
     rw (
       length-append (frontBytes c) (a ++ (markByte (c .is-open) ∷ [] ++ (s ++ m))),

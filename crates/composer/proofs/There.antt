@@ -11,10 +11,11 @@ use lib.Seq.{getD-take, getD-drop}
 use Rattle.slices.proofs.Front.{put}
 use Rattle.setting_bytes.specs.Words.{wordAt}
 use Rattle.setting_bytes.specs.Kinds.{kindOf}
-use Rattle.setting_bytes.specs.Settings.{part, announcedLength, announcedOf, settingLength, settingOf}
+use Rattle.setting_bytes.specs.Settings.{part, announcedLength, announcedOf, settingLength, settingOf, announcedAt, numbersAt}
 use Rattle.setting_bytes.proofs.Parts.{length-part}
 use Rattle.setting_bytes.proofs.Same.{part-inside}
-use Rattle.composer.specs.States.{composerLength, marksOf, composerOf}
+use Rattle.composer.specs.States.{composerLength, marksOf, composerOf, filledAt, kindAt, planAt, saidAt, settingAt, streamsAt}
+use Rattle.counters.specs.Counters.{lastSlot}
 
 -- a byte of a part
 pub byte-in : (k n i : ℕ) (b : List ℕ) → i < n → getD (part k n b) i 0 ≡ getD b (k + i) 0
@@ -27,33 +28,33 @@ put-end i k l ys h =
     ap (λ (r : List ℕ). take i l ++ (ys ++ r)) none ∙ ap (λ (r : List ℕ). take i l ++ r) (append-nil ys)
 
 module _ (b : List ℕ) (long : length b ≡ composerLength) where
-  setting-long : length (part 86 252 b) ≡ settingLength
-  setting-long = length-part 86 252 b (omega arith)
+  setting-long : length (part settingAt settingLength b) ≡ settingLength
+  setting-long = length-part settingAt settingLength b (omega arith)
 
   -- the open frame's plan
-  pub plan-there : composerOf b .setting .«relative_ts_number» ≡ part 168 52 b
+  pub plan-there : composerOf b .setting .«relative_ts_number» ≡ part planAt lastSlot b
   unfolding composerOf settingOf
-  plan-there = rw (eq-eqb (length (part 86 252 b)) settingLength setting-long) (part-inside 82 52 86 252 b (omega arith))
+  plan-there = rw (eq-eqb (length (part settingAt settingLength b)) settingLength setting-long) (part-inside numbersAt lastSlot settingAt settingLength b (omega arith))
 
   -- which streams it has
-  pub availability-there : composerOf b .setting .availability ≡ wordAt 90 b
+  pub availability-there : composerOf b .setting .availability ≡ wordAt streamsAt b
   unfolding composerOf settingOf announcedOf
   availability-there =
       rw (
-        eq-eqb (length (part 86 252 b)) settingLength setting-long,
-        eq-eqb (length (part 2 80 (part 86 252 b))) announcedLength (length-part 2 80 (part 86 252 b) (omega (arith, setting-long))),
-        part-inside 2 80 86 252 b (omega arith),
-        byte-in 88 80 2 b (omega arith),
-        byte-in 88 80 3 b (omega arith),
+        eq-eqb (length (part settingAt settingLength b)) settingLength setting-long,
+        eq-eqb (length (part announcedAt announcedLength (part settingAt settingLength b))) announcedLength (length-part announcedAt announcedLength (part settingAt settingLength b) (omega (arith, setting-long))),
+        part-inside announcedAt announcedLength settingAt settingLength b (omega arith),
+        byte-in saidAt announcedLength 2 b (omega arith),
+        byte-in saidAt announcedLength 3 b (omega arith),
       ) refl
 
 -- its filled slots
-pub marks-there : (b : List ℕ) → composerOf b .filled ≡ marksOf (part 338 52 b)
+pub marks-there : (b : List ℕ) → composerOf b .filled ≡ marksOf (part filledAt lastSlot b)
 unfolding composerOf
 marks-there b = refl
 
 -- the run's kind
-pub kind-there : (b : List ℕ) → composerOf b .kind ≡ kindOf (getD b 2 0)
+pub kind-there : (b : List ℕ) → composerOf b .kind ≡ kindOf (getD b kindAt 0)
 unfolding composerOf
 kind-there b = refl
 

@@ -12,13 +12,13 @@ ghost use mathlib.Core.List.{_∷_, _++_};
 ghost use lib.ListN.{length, take, replicate};
 ghost use Rattle.counters.specs.Counters.{lastSlot};
 ghost use Rattle.setting_bytes.specs.Settings.{settingLength};
-ghost use Rattle.composer.specs.States.{composerLength};
+ghost use Rattle.composer.specs.States.{openAt, composerLength};
 ghost use Rattle.composer.specs.Calls.{beginRefused, beginState, beginMemory};
 
 // The state with a frame open: the setting's bytes, and no slot filled.
 fn open(state: &mut [u8], setting: &[u8])
     requires { ⌜ (length (now state) ≡ composerLength) × (length (now setting) ≡ settingLength) ⌝ }
-    ensures { λ _. ⌜ now (state .exit) ≡ take 85 (now (state .entry)) ++ (1 ∷ (now (setting .entry) ++ replicate lastSlot 0)) ⌝ }
+    ensures { λ _. ⌜ now (state .exit) ≡ take openAt (now (state .entry)) ++ (1 ∷ (now (setting .entry) ++ replicate lastSlot 0)) ⌝ }
 {
     state[OPEN] = 1;
     slices::copy(&mut state[SETTING..FILLED], setting);

@@ -12,7 +12,7 @@ use Rattle.setting.specs.Rules.{pidAllowed, widthChecks}
 use Rattle.setting.specs.Announcing.{announcedChecks}
 use Rattle.setting_bytes.specs.Words.{wordAt}
 use Rattle.composer.specs.Composing.{asked, stateChecks}
-use Rattle.composer.specs.States.{composerLength, isCoded, noCounter, composerOf, whole}
+use Rattle.composer.specs.States.{composerLength, isCoded, noCounter, composerOf, whole, counterAt, versionAt}
 
 -- bytes of another length are zeros
 pub zeros : (b : List ℕ) → (length b ≡ composerLength → ⊥) → whole b ≡ replicate composerLength 0
@@ -36,23 +36,23 @@ module _ (b : List ℕ) where
   module _ (p : pidAllowed (wordAt 0 b) ≡ true) where
     pub at-coding : isCoded b ≡ false → rows ≡ 17
     unfolding stateChecks composerOf
-    at-coding c = passed 2 _ (ap not p) ∙ answers 17 _ (ap (λ (t : Bool). leb 16 (cond t (getD b 3 0) noCounter)) c)
+    at-coding c = passed 2 _ (ap not p) ∙ answers 17 _ (ap (λ (t : Bool). leb 16 (cond t (getD b counterAt 0) noCounter)) c)
 
     module _ (c : isCoded b ≡ true) where
-      pub at-counter : 16 ≤ getD b 3 0 → rows ≡ 17
+      pub at-counter : 16 ≤ getD b counterAt 0 → rows ≡ 17
       unfolding stateChecks composerOf
       at-counter h =
           passed 2 _ (ap not p)
-          ∙ answers 17 _ (ap (λ (t : Bool). leb 16 (cond t (getD b 3 0) noCounter)) c ∙ le-leb 16 (getD b 3 0) h)
+          ∙ answers 17 _ (ap (λ (t : Bool). leb 16 (cond t (getD b counterAt 0) noCounter)) c ∙ le-leb 16 (getD b counterAt 0) h)
 
-      module _ (l : getD b 3 0 < 16) where
-        behind-counter : (cs : List Check) → firstOf ((17, leb 16 (cond (isCoded b) (getD b 3 0) noCounter)) ∷ cs) ≡ firstOf cs
-        behind-counter cs = passed 17 cs (ap (λ (t : Bool). leb 16 (cond t (getD b 3 0) noCounter)) c ∙ lt-leb 16 (getD b 3 0) l)
+      module _ (l : getD b counterAt 0 < 16) where
+        behind-counter : (cs : List Check) → firstOf ((17, leb 16 (cond (isCoded b) (getD b counterAt 0) noCounter)) ∷ cs) ≡ firstOf cs
+        behind-counter cs = passed 17 cs (ap (λ (t : Bool). leb 16 (cond t (getD b counterAt 0) noCounter)) c ∙ lt-leb 16 (getD b counterAt 0) l)
 
-        pub at-version : 8 ≤ getD b 4 0 → rows ≡ 17
+        pub at-version : 8 ≤ getD b versionAt 0 → rows ≡ 17
         unfolding stateChecks composerOf
-        at-version h = passed 2 _ (ap not p) ∙ behind-counter _ ∙ answers 17 _ (le-leb 8 (getD b 4 0) h)
+        at-version h = passed 2 _ (ap not p) ∙ behind-counter _ ∙ answers 17 _ (le-leb 8 (getD b versionAt 0) h)
 
-        pub behind-numbers : getD b 4 0 < 8 → rows ≡ firstOf (shown ++ widths)
+        pub behind-numbers : getD b versionAt 0 < 8 → rows ≡ firstOf (shown ++ widths)
         unfolding stateChecks composerOf
-        behind-numbers v = passed 2 _ (ap not p) ∙ behind-counter _ ∙ passed 17 _ (lt-leb 8 (getD b 4 0) v)
+        behind-numbers v = passed 2 _ (ap not p) ∙ behind-counter _ ∙ passed 17 _ (lt-leb 8 (getD b versionAt 0) v)

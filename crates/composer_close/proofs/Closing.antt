@@ -12,7 +12,7 @@ use Rattle.slices.specs.Slices.{someAtLeast}
 use Rattle.setting.specs.declared.Kind.{Kind}
 use Rattle.setting.specs.declared.Setting.{Setting}
 use Rattle.packet.specs.Packets.{packetLength, frameLength}
-use Rattle.setting_bytes.specs.Settings.{part, settingLength, settingOf}
+use Rattle.setting_bytes.specs.Settings.{part, settingLength, settingOf, announcedLength, numbersAt}
 use Rattle.setting_bytes.proofs.Parts.{length-part}
 use Rattle.header_layout.specs.Header.{headerLength, header}
 use Rattle.header_write.specs.Writing.{writeRefusal, written}
@@ -22,8 +22,9 @@ use Rattle.setting.specs.Announcing.{differ, announced}
 use Rattle.composer.specs.Composing.{Composer, nextCounter, nextVersion, saying, closing, closedWith, closed}
 use Rattle.composer_close.proofs.Said.{version-narrow, said-meets}
 use Rattle.composer.proofs.Passed.{Passes}
-use Rattle.composer.specs.States.{composerLength, composerBytes, composerOf}
+use Rattle.composer.specs.States.{composerLength, composerBytes, composerOf, counterAt, filledAt, openLength, saidAt, settingAt}
 use Rattle.composer.proofs.Same.{all-bytes, coded-by-counter, closed-bytes}
+use Rattle.counters.specs.Counters.{lastSlot}
 
 module _ (c : Composer) (l : length (c .filled) ≡ length (c .setting .«relative_ts_number»)) (p : Passes c) where
   closing-meets : MeetsRules (c .kind) (c .pid) (closing c)
@@ -44,10 +45,10 @@ module _ (c : Composer) (l : length (c .filled) ≡ length (c .setting .«relati
 same-slots : (b : List ℕ) → length b ≡ composerLength → length (composerOf b .filled) ≡ length (composerOf b .setting .«relative_ts_number»)
 unfolding composerOf settingOf
 same-slots b long =
-    let setting : length (part 86 252 b) ≡ settingLength = length-part 86 252 b (omega arith) in
+    let setting : length (part settingAt settingLength b) ≡ settingLength = length-part settingAt settingLength b (omega arith) in
     let is-marked : ℕ → Bool = λ n. eqb n 1 in
-    rw (eq-eqb (length (part 86 252 b)) settingLength setting)
-    (length-map (part 338 52 b) is-marked ∙ length-part 338 52 b (omega arith) ∙ sym (length-part 82 52 (part 86 252 b) (omega arith)))
+    rw (eq-eqb (length (part settingAt settingLength b)) settingLength setting)
+    (length-map (part filledAt lastSlot b) is-marked ∙ length-part filledAt lastSlot b (omega arith) ∙ sym (length-part numbersAt lastSlot (part settingAt settingLength b) (omega arith)))
 
 -- bytes that passed the checks, and what the header says by them
 module _ (b : List ℕ) (long : length b ≡ composerLength) (p : Passes (composerOf b)) {s : Setting} (said : s ≡ closing (composerOf b)) where
@@ -62,7 +63,7 @@ module _ (b : List ℕ) (long : length b ≡ composerLength) (p : Passes (compos
 
   -- and the state once it was written
   pub closed-state : {bytes : List ℕ} → someAtLeast 256 b ≡ false
-      → bytes ≡ take 3 b ++ (s .«continuity_counter» ∷ s .«version_number» ∷ (part 88 80 b ++ replicate 305 0)) → bytes ≡ composerBytes (closed (composerOf b))
+      → bytes ≡ take counterAt b ++ (s .«continuity_counter» ∷ s .«version_number» ∷ (part saidAt announcedLength b ++ replicate openLength 0)) → bytes ≡ composerBytes (closed (composerOf b))
   unfolding closed closing saying
   closed-state low e =
       e ∙ sym (closed-bytes b long (all-bytes b low) (coded-by-counter b (p .counter)) (s .«continuity_counter») (s .«version_number»))

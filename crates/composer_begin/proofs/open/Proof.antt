@@ -9,7 +9,7 @@ use Rattle.counters.specs.Counters.{lastSlot}
 use Rattle.slices.proofs.Front.{put, copied-over}
 use Rattle.setting_bytes.specs.Settings.{part, settingLength}
 use Rattle.setting_bytes.proofs.Parts.{length-part}
-use Rattle.composer.specs.States.{composerLength}
+use Rattle.composer.specs.States.{composerLength, filledAt, openAt, settingAt}
 use Rattle.composer_begin.proofs.Opened.{still-long, as-long, opened-parts}
 use Rattle.composer_begin.proofs.open.Statement.{statement}
 use Rattle.composer_begin.proofs.open.Tie as tie
@@ -22,23 +22,23 @@ start c = c .before .before .before .before
 setting-is : (c : tie.After-copy) → c .copy .last .0 ≡ start c .args .setting .now
 setting-is c = c .copy .ensures ∙ copied-over _ _ (part-long (start c .args .state .now) (start c .pre .0) ∙ sym (start c .pre .1))
   where
-    part-long : (b : List ℕ) → length b ≡ composerLength → length (part 86 252 (set b 85 1)) ≡ settingLength
-    part-long b long = length-part 86 252 (set b 85 1) (rw (length-set b 85 1) (omega arith))
+    part-long : (b : List ℕ) → length b ≡ composerLength → length (part settingAt settingLength (set b openAt 1)) ≡ settingLength
+    part-long b long = length-part settingAt settingLength (set b openAt 1) (rw (length-set b openAt 1) (omega arith))
 
 setting-in : (c : tie.After-copy) → length (c .copy .last .0) ≡ settingLength
 setting-in c = ap length (setting-is c) ∙ start c .pre .1
 
 -- as long as before, behind the copy
-long-then : (c : tie.After-copy) → length (put 86 252 (set (start c .args .state .now) 85 1) (c .copy .last .0)) ≡ composerLength
+long-then : (c : tie.After-copy) → length (put settingAt settingLength (set (start c .args .state .now) openAt 1) (c .copy .last .0)) ≡ composerLength
 long-then c = still-long (start c .args .state .now) (c .copy .last .0) (start c .pre .0) (setting-in c)
 
 -- no marks
 marks-are : (c : tie.After-fill) → c .fill .last .0 ≡ replicate lastSlot 0
 marks-are c =
     let k = c .before .before .before .before in
-    let state = put 86 252 (set (start k .args .state .now) 85 1) (k .copy .last .0) in
+    let state = put settingAt settingLength (set (start k .args .state .now) openAt 1) (k .copy .last .0) in
     let long : length state ≡ composerLength = long-then k in
-    c .fill .ensures ∙ ap (λ (n : ℕ). replicate n 0) (length-part 338 52 state (omega arith))
+    c .fill .ensures ∙ ap (λ (n : ℕ). replicate n 0) (length-part filledAt lastSlot state (omega arith))
 
 marks-out : (c : tie.After-fill) → length (c .fill .last .0) ≡ lastSlot
 marks-out c = ap length (marks-are c) ∙ length-replicate {A = ℕ} lastSlot 0
@@ -53,7 +53,7 @@ part-copy-start : tie.Need-part-copy-start
 part-copy-start c = search needs
 
 part-copy-end : tie.Need-part-copy-end
-part-copy-end c = rw (length-set (c .before .before .args .state .now) 85 1) (omega (arith, c .before .before .pre .0))
+part-copy-end c = rw (length-set (c .before .before .args .state .now) openAt 1) (omega (arith, c .before .before .pre .0))
 
 copy-requires : tie.Need-copy-requires
 copy-requires c κs = search needs
@@ -83,7 +83,7 @@ returns c =
     let f = c .before .before in
     let k = f .before .before .before .before in
     opened-parts (start k .args .state .now) (k .copy .last .0) (start k .pre .0) (setting-in k) (f .fill .last .0) (marks-out f)
-    ∙ ap₂ (λ (s : List ℕ) (m : List ℕ). take 85 (start k .args .state .now) ++ (1 ∷ (s ++ m))) (setting-is k) (marks-are f)
+    ∙ ap₂ (λ (s : List ℕ) (m : List ℕ). take openAt (start k .args .state .now) ++ (1 ∷ (s ++ m))) (setting-is k) (marks-are f)
 
 pub open-spec : {M : Type 1} → statement M
 open-spec =

@@ -2,7 +2,7 @@
 use native.Mathlib.Omega.{arith}
 use borrow.Author.Tests.{lt-ltb, le-ltb}
 use lib.ListN.{getD}
-use Rattle.composer.specs.States.{isCoded}
+use Rattle.composer.specs.States.{isCoded, kindAt, openAt}
 use borrow.Author.Needs.{needs}
 use Rattle.composer_checks.proofs.is_coded.Statement.{statement}
 use Rattle.composer_checks.proofs.is_coded.Tie as tie
@@ -22,7 +22,7 @@ unfolding isCoded
 returns-2 c =
     let b = c .before .before .before .before .before .args .bytes .now in
     let kind = c .before .before .if1 .left in
-    rw (lt-ltb (getD b 2 0) 2 (omega (arith, kind)), le-ltb _ 2 (c .if2 .taken))
+    rw (lt-ltb (getD b kindAt 0) 2 (omega (arith, kind)), le-ltb _ 2 (c .if2 .taken))
 
 sub-some-at-least : tie.Need-sub-some-at-least
 sub-some-at-least c = search needs
@@ -43,7 +43,7 @@ returns-3 c =
     let b = asked .before .before .before .before .before .args .bytes .now in
     let kind = asked .before .before .if1 .left in
     let mark = asked .if2 .left in
-    rw (c .some-at-least .ensures, lt-ltb (getD b 2 0) 2 (omega (arith, kind)), lt-ltb (getD b 85 0) 2 (omega (arith, mark)))
+    rw (c .some-at-least .ensures, lt-ltb (getD b kindAt 0) 2 (omega (arith, kind)), lt-ltb (getD b openAt 0) 2 (omega (arith, mark)))
 
 pub is-coded-spec : {M : Type 1} → statement M
 is-coded-spec =

@@ -4,10 +4,10 @@ use borrow.Author.Tests.{eq-eqb, ne-eqb}
 use Rattle.setting.specs.declared.Kind.{Kind}
 use Rattle.setting.specs.Refusal.{firstOf}
 use Rattle.setting.specs.Rules.{ruleChecks}
-use Rattle.setting_bytes.specs.Settings.{part, settingOf}
+use Rattle.setting_bytes.specs.Settings.{part, settingOf, settingLength}
 use Rattle.composer.specs.Composing.{openRuleChecks}
 use Rattle.composer.proofs.Refusals.{asked-all, asked-none}
-use Rattle.composer.specs.States.{composerOf}
+use Rattle.composer.specs.States.{composerOf, settingAt}
 use Rattle.composer.proofs.Parts.{whole-same}
 use Rattle.composer_checks.proofs.Rows.{zeros}
 use Rattle.composer_checks.proofs.open_rule_refusal.Statement.{statement}
@@ -48,7 +48,7 @@ returns-3 c =
     let two = c .before .before .before .before in
     let b = two .before .before .before .before .args .bytes .now in
     rw (whole-same b (two .before .before .if1 .left))
-    (c .rule-refusal .ensures ∙ ap (λ (k : Kind). firstOf (ruleChecks k (settingOf (part 86 252 b)))) (c .before .before .kind-of .ensures)
+    (c .rule-refusal .ensures ∙ ap (λ (k : Kind). firstOf (ruleChecks k (settingOf (part settingAt settingLength b)))) (c .before .before .kind-of .ensures)
     ∙ sym (asked-all _ (eq-eqb _ _ (two .if2 .left))))
 
 pub open-rule-refusal-spec : {M : Type 1} → statement M

@@ -5,9 +5,9 @@ use borrow.Author.Tests.{eq-eqb, ne-eqb}
 use Rattle.setting.specs.declared.Kind.{Kind}
 use Rattle.setting.specs.Refusal.{firstOf}
 use Rattle.setting.specs.Rules.{widthChecks}
-use Rattle.setting_bytes.specs.Settings.{part, settingOf}
+use Rattle.setting_bytes.specs.Settings.{part, settingOf, settingLength}
 use Rattle.composer.proofs.Refusals.{asked-all, asked-none}
-use Rattle.composer.specs.States.{composerOf}
+use Rattle.composer.specs.States.{composerOf, settingAt}
 use Rattle.composer_checks.proofs.open_width_refusal.Statement.{statement}
 use Rattle.composer_checks.proofs.open_width_refusal.Tie as tie
 
@@ -40,7 +40,7 @@ returns-2 : tie.Need-returns-2
 unfolding composerOf
 returns-2 c =
     let b = c .before .before .before .before .before .before .before .args .bytes .now in
-    c .width-refusal .ensures ∙ ap (λ (k : Kind). firstOf (widthChecks k (settingOf (part 86 252 b)))) (c .before .before .kind-of .ensures)
+    c .width-refusal .ensures ∙ ap (λ (k : Kind). firstOf (widthChecks k (settingOf (part settingAt settingLength b)))) (c .before .before .kind-of .ensures)
     ∙ sym (asked-all _ (eq-eqb _ _ (c .before .before .before .before .if1 .left)))
 
 pub open-width-refusal-spec : {M : Type 1} → statement M
