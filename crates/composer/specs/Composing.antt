@@ -83,12 +83,21 @@ marked c marks =
       filled = marks;
     }
 
--- the counter and the version of the header that a close writes
+-- the counter of a header behind one with this counter
+abbrev pub counterBehind : ℕ → ℕ
+counterBehind counter = (counter + 1) % 16
+
+-- the version of a header behind one of this version that announced this: raised exactly when slot information, identifiers or
+-- control information differ
+abbrev pub versionBehind : ℕ → Announced → Setting → ℕ
+versionBehind version last s = cond (differ (announced s) last) ((version + 1) % 8) version
+
+-- those of the header that a close writes
 unfoldable pub nextCounter : Composer → ℕ
-nextCounter c = (c .counter + 1) % 16
+nextCounter c = counterBehind (c .counter)
 
 unfoldable pub nextVersion : Composer → ℕ
-nextVersion c = cond (differ (announced (c .setting)) (c .last)) ((c .version + 1) % 8) (c .version)
+nextVersion c = versionBehind (c .version) (c .last) (c .setting)
 
 -- a setting as a header says it, with the run's counter and version and the slots' own numbers
 unfoldable pub saying : ℕ → ℕ → List ℕ → Setting → Setting

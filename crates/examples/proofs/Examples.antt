@@ -13,7 +13,8 @@ use Rattle.header_layout.specs.Rows.{pack}
 use Rattle.header_layout.specs.Header.{paired, lineBits, body, header}
 use Rattle.header_layout.proofs.LaidOut.{laid-out}
 use Rattle.setting.specs.Setting.{blank}
-use Rattle.setting.specs.Announcing.{someDiffer, announced, differ}
+use Rattle.slices.specs.Slices.{someDiffer}
+use Rattle.setting.specs.Announcing.{announced, differ}
 use Rattle.composer.specs.Composing.{nextCounter, nextVersion}
 use Rattle.receiver.specs.Table.{openRow, rowOf}
 use Rattle.examples.specs.Examples.{Example, beyond, placeOfPair, examples, ExamplesHold}

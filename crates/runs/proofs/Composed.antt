@@ -25,10 +25,10 @@ use Rattle.header_layout.proofs.Whole.{length-header}
 use Rattle.setting.specs.declared.Announced.{Announced}
 use Rattle.packet.specs.Packets.{packetLength, frameLength, nullPacket, slot, unfit}
 use Rattle.setting.specs.Announcing.{announced, differ}
-use Rattle.composer.specs.Composing.{saying, fresh}
+use Rattle.composer.specs.Composing.{saying, fresh, versionBehind}
 use Rattle.receiver.specs.Store.{numbered, slotsFor}
 use Rattle.runs.specs.Runs.{Call, Each, none, more, OfTypes, started, framesOf}
-use Rattle.runs.specs.Work.{Work, noWork, worksOf, slotsFilled, numbersFilled, said, versionBehind, headedBehind, headed, frameOf}
+use Rattle.runs.specs.Work.{Work, noWork, worksOf, slotsFilled, numbersFilled, said, headedBehind, headed, frameOf}
 use Rattle.runs.specs.Composed.{headedBy, FramesHold, HeadersRead, FrontsPlaced, PacketsFit}
 use Rattle.runs.proofs.Filled.{marksFilled, length-null}
 use Rattle.runs.proofs.Carried.{numbers-filled, length-slots, length-marks, front-lent, slot-first, slot-next, each-fit}

@@ -21,12 +21,12 @@ use Rattle.header_layout.proofs.Whole.{length-header}
 use Rattle.setting.specs.declared.Announced.{Announced}
 use Rattle.packet.specs.Packets.{packetLength, unfit}
 use Rattle.setting.specs.Announcing.{announced}
-use Rattle.composer.specs.Composing.{saying}
+use Rattle.composer.specs.Composing.{saying, versionBehind}
 use Rattle.receiver.specs.declared.Stage.{Stage}
 use Rattle.receiver.specs.Store.{storeLength, numbered, slotsFor}
 use Rattle.receiver.specs.Receiving.{waiting}
 use Rattle.runs.specs.Runs.{Call, Each, none, more, OfTypes, started, framesOf}
-use Rattle.runs.specs.Work.{Work, noWork, worksOf, slotsFilled, said, versionBehind, headedBehind, headed, frameOf}
+use Rattle.runs.specs.Work.{Work, noWork, worksOf, slotsFilled, said, headedBehind, headed, frameOf}
 use Rattle.runs.specs.Composed.{headedBy}
 use Rattle.runs.specs.Losses.{isKept, Sent, MayHappen, InARowAtMost, arriving, Reception, freshWith, handedOut, numbersIn, wanted}
 use Rattle.runs.specs.Demands.{Asked, DemandThree, whole, headerAlone, PacketForPacket, placedIn, RunForRun}

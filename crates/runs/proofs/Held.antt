@@ -19,12 +19,12 @@ use Rattle.setting.specs.declared.Announced.{Announced}
 use Rattle.packet.specs.Packets.{packetLength, frameLength}
 use Rattle.composer.specs.Slots.{nulls, cleared, slotsAfter, marksAfter, someUnfit, frameAfter}
 use Rattle.setting.specs.Announcing.{announced}
-use Rattle.composer.specs.Composing.{Composer, opened, marked, nextCounter, nextVersion, closing, closedWith, closed, answer, beginOf, begunFrame, putOf, putFrame, closeOf, closedFrame}
+use Rattle.composer.specs.Composing.{Composer, opened, marked, nextCounter, nextVersion, closing, closedWith, closed, answer, beginOf, begunFrame, putOf, putFrame, closeOf, closedFrame, versionBehind}
 use Rattle.composer_begin.proofs.Passed.{begin-passed}
 use Rattle.composer_put.proofs.Passed.{PutPassed, put-passed}
 use Rattle.composer_close.proofs.Passed.{ClosePassed, close-passed}
 use Rattle.runs.specs.Runs.{Call, begin, put, close, Each, none, more, OfTypes, Run, refusalOf, after, closedBy, framesOf}
-use Rattle.runs.specs.Work.{Work, added, workAfter, doneBy, worksOf, slotsFilled, said, versionBehind, headedBehind, frameOf}
+use Rattle.runs.specs.Work.{Work, added, workAfter, doneBy, worksOf, slotsFilled, said, headedBehind, frameOf}
 use Rattle.runs.proofs.Filled.{marksFilled, unfitFilled, EachWhole, whole-added, put-adds}
 use Rattle.runs.proofs.Carried.{numbers-filled, slots-none, marks-none, unfit-none}
 

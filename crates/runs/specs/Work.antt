@@ -1,5 +1,5 @@
 -- What a closed frame holds, by the calls since its begin.
-use Prim.Native.Nat.{ℕ, _+_, _%_}
+use Prim.Native.Nat.{ℕ}
 use mathlib.Core.Bool.{Bool, cond, not, _&&_}
 use mathlib.Core.List.{List, [], _∷_, _++_}
 use lib.Dec.{leb, eqb}
@@ -10,8 +10,8 @@ use Rattle.setting.specs.Setting.{blank}
 use Rattle.header_layout.specs.Header.{header}
 use Rattle.setting.specs.declared.Announced.{Announced}
 use Rattle.packet.specs.Packets.{packetLength, nullPacket}
-use Rattle.setting.specs.Announcing.{announced, differ}
-use Rattle.composer.specs.Composing.{saying}
+use Rattle.setting.specs.Announcing.{announced}
+use Rattle.composer.specs.Composing.{counterBehind, versionBehind, saying}
 use Rattle.runs.specs.Runs.{Call, begin, put, close, Run, refusalOf, after}
 
 -- what was asked of a frame: its setting with the plan, and for each stream number the packets that were lent, one behind the other
@@ -70,17 +70,12 @@ numbersFilled (n ∷ ns) lent =
 unfoldable pub said : ℕ → ℕ → Work → Setting
 said counter version k = saying counter version (numbersFilled (k .setting .«relative_ts_number») (k .lent)) (k .setting)
 
--- the version of a header behind one of this version that announced this: raised exactly when slot information, identifiers or
--- control information differ
-abbrev pub versionBehind : ℕ → Announced → Setting → ℕ
-versionBehind version last s = cond (differ (announced s) last) ((version + 1) % 8) version
-
 -- each frame's work with what its header says, behind a header with this counter and version that announced this
 unfoldable pub headedBehind : ℕ → ℕ → Announced → List Work → List (Setting × Work)
 headedBehind counter version last [] = []
 headedBehind counter version last (k ∷ ks) =
-    (said ((counter + 1) % 16) (versionBehind version last (k .setting)) k, k)
-    ∷ headedBehind ((counter + 1) % 16) (versionBehind version last (k .setting)) (announced (k .setting)) ks
+    (said (counterBehind counter) (versionBehind version last (k .setting)) k, k)
+    ∷ headedBehind (counterBehind counter) (versionBehind version last (k .setting)) (announced (k .setting)) ks
 
 -- those of a whole run: the first header has counter 0 and version 0
 unfoldable pub headed : List Work → List (Setting × Work)
