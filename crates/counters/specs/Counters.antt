@@ -27,6 +27,10 @@ firstPosition = 1
 abbrev pub lastPosition : ℕ
 lastPosition = 4
 
+-- carriers of a bonded group
+abbrev pub lastCarrier : ℕ
+lastCarrier = 8
+
 -- whether n lies between the first and the last value, both of them included
 abbrev pub within : ℕ → ℕ → ℕ → Bool
 within first last n = leb first n && leb n last

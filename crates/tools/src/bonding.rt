@@ -15,8 +15,10 @@ use bond_group::Bond;
 use packet::PACKET_BYTES;
 use setting::limits;
 ghost use mathlib.Core.Path.{_≡_};
-ghost use Prim.Native.Nat.{_≤_, _<_};
+ghost use Prim.Native.Nat.{_*_, _≤_, _<_};
 ghost use lib.ListN.{length};
+ghost use Rattle.counters.specs.Counters.{lastCarrier, lastSlot};
+ghost use Rattle.tools.specs.Sizes.{groupLength, mostFrames, streamLength};
 
 // PID, GROUP, TS_ID, NETWORK_ID and FILE; then for each carrier FRAMES, SLOTS and FILE.
 const HEAD: usize = 5;
@@ -47,7 +49,7 @@ fn small_at(i: usize, c: usize, field: &[u8], first: u32, last: u32) -> u8 {
 // Reads the carriers' numbers of frames and slots. Answers whether all are in range.
 fn read_carriers(frames: &mut [u8], slots: &mut [u8], first: usize, n: usize) -> bool
     requires { ⌜ (length (now frames) ≡ 8) × (length (now slots) ≡ 8) ⌝ }
-    requires { ⌜ (first ≤ 7) × (n ≤ 8) ⌝ }
+    requires { ⌜ (first ≤ 7) × (n ≤ lastCarrier) ⌝ }
 {
     let fewest = limits::FEWEST_FRAMES as u32;
     let most = limits::MOST_FRAMES as u32;
@@ -87,7 +89,7 @@ fn create(i: usize) -> i32 {
 }
 
 fn create_all(fds: &mut [i32], first: usize, n: usize) -> bool
-    requires { ⌜ (length (now fds) ≡ 8) × (n ≤ 8) ⌝ }
+    requires { ⌜ (length (now fds) ≡ 8) × (n ≤ lastCarrier) ⌝ }
     requires { ⌜ first ≤ 7 ⌝ }
 {
     let mut c = 0;
@@ -113,8 +115,8 @@ fn product(frames: u8, slots: u8) -> usize {
 // How many packets a super frame of the whole group takes.
 fn packets_of(frames: &[u8], slots: &[u8], n: usize) -> usize
     requires { ⌜ (length (now frames) ≡ 8) × (length (now slots) ≡ 8) ⌝ }
-    requires { ⌜ n ≤ 8 ⌝ }
-    ensures { λ r. ⌜ r ≤ 1664 ⌝ }
+    requires { ⌜ n ≤ lastCarrier ⌝ }
+    ensures { λ r. ⌜ r ≤ lastSlot * mostFrames ⌝ }
 {
     let mut sum = 0;
     let mut c = 0;
@@ -137,7 +139,7 @@ fn write(fd: i32, c: usize, bytes: &[u8]) -> bool {
 // Writes each carrier's super frame to its file.
 fn write_parts(fds: &[i32], group: &[u8], frames: &[u8], n: usize) -> bool
     requires { ⌜ (length (now frames) ≡ 8) × (length (now fds) ≡ 8) ⌝ }
-    requires { ⌜ (length (now group) ≡ 318848) × (n ≤ 8) ⌝ }
+    requires { ⌜ (length (now group) ≡ groupLength) × (n ≤ lastCarrier) ⌝ }
 {
     let mut c = 0;
     while c < n {
@@ -154,7 +156,7 @@ fn write_parts(fds: &[i32], group: &[u8], frames: &[u8], n: usize) -> bool
 // Writes to each carrier the header that vouches for its last frame.
 fn write_last(fds: &[i32], group: &[u8], frames: &[u8], n: usize)
     requires { ⌜ (length (now frames) ≡ 8) × (length (now fds) ≡ 8) ⌝ }
-    requires { ⌜ (length (now group) ≡ 318848) × (n ≤ 8) ⌝ }
+    requires { ⌜ (length (now group) ≡ groupLength) × (n ≤ lastCarrier) ⌝ }
 {
     let mut c = 0;
     while c < n {
@@ -195,7 +197,7 @@ fn make_super(
     n: usize,
 ) -> bool
     requires { ⌜ (length (now frames) ≡ 8) × (length (now fds) ≡ 8) ⌝ }
-    requires { ⌜ (length (now group) ≡ 318848) × (n ≤ 8) ⌝ }
+    requires { ⌜ (length (now group) ≡ groupLength) × (n ≤ lastCarrier) ⌝ }
 {
     if !read_stream(fd, stream) {
         write_last(fds, group, frames, n);
@@ -230,7 +232,7 @@ fn make_all(
     n: usize,
 )
     requires { ⌜ (length (now frames) ≡ 8) × (length (now slots) ≡ 8) ⌝ }
-    requires { ⌜ (length (now group) ≡ 318848) × (n ≤ 8) ⌝ }
+    requires { ⌜ (length (now group) ≡ groupLength) × (n ≤ lastCarrier) ⌝ }
     requires { ⌜ length (now fds) ≡ 8 ⌝ }
 {
     let mut number: u64 = 0;
@@ -258,8 +260,8 @@ fn bond_with(
     n: usize,
 )
     requires { ⌜ (length (now frames) ≡ 8) × (length (now slots) ≡ 8) ⌝ }
-    requires { ⌜ (length (now group) ≡ 318848) × (n ≤ 8) ⌝ }
-    requires { ⌜ (length (now fds) ≡ 8) × (length (now stream) ≡ 312832) ⌝ }
+    requires { ⌜ (length (now group) ≡ groupLength) × (n ≤ lastCarrier) ⌝ }
+    requires { ⌜ (length (now fds) ≡ 8) × (length (now stream) ≡ streamLength) ⌝ }
 {
     nulls::write_nulls(group);
     let end = PACKET_BYTES * packets_of(frames, slots, n);
@@ -268,7 +270,7 @@ fn bond_with(
 
 fn bond_files(fd: i32, fds: &[i32], b: Bonded, frames: &[u8], slots: &[u8], n: usize)
     requires { ⌜ (length (now frames) ≡ 8) × (length (now slots) ≡ 8) ⌝ }
-    requires { ⌜ (length (now fds) ≡ 8) × (n ≤ 8) ⌝ }
+    requires { ⌜ (length (now fds) ≡ 8) × (n ≤ lastCarrier) ⌝ }
 {
     let mut group = [0u8; GROUP_BYTES];
     let mut stream = [0u8; STREAM_BYTES];
@@ -276,7 +278,7 @@ fn bond_files(fd: i32, fds: &[i32], b: Bonded, frames: &[u8], slots: &[u8], n: u
 }
 
 fn run_carriers(b: Bonded, input: usize, n: usize)
-    requires { ⌜ (input ≤ 6) × (n ≤ 8) ⌝ }
+    requires { ⌜ (input ≤ 6) × (n ≤ lastCarrier) ⌝ }
 {
     let mut frames = [0u8; CARRIERS];
     let mut slots = [0u8; CARRIERS];
@@ -294,7 +296,7 @@ fn run_carriers(b: Bonded, input: usize, n: usize)
 }
 
 fn run_group(pid: u16, group_id: u8, first: usize, n: usize)
-    requires { ⌜ (first ≤ 2) × (n ≤ 8) ⌝ }
+    requires { ⌜ (first ≤ 2) × (n ≤ lastCarrier) ⌝ }
 {
     let Number::Is(ts_id) = arguments::identifier(first + 2, b"TS_ID") else {
         return;
@@ -312,7 +314,7 @@ fn run_group(pid: u16, group_id: u8, first: usize, n: usize)
 }
 
 fn run_counted(first: usize, n: usize)
-    requires { ⌜ (first ≤ 2) × (n ≤ 8) ⌝ }
+    requires { ⌜ (first ≤ 2) × (n ≤ lastCarrier) ⌝ }
 {
     let pid = arguments::pid(first);
     if pid == 0 {

@@ -13,8 +13,12 @@ use setting::Kind;
 use counters::SLOTS;
 use setting::limits;
 ghost use mathlib.Core.Path.{_≡_};
-ghost use Prim.Native.Nat.{_≤_, _<_};
+ghost use Prim.Native.Nat.{_*_, _+_, _≤_, _<_};
 ghost use lib.ListN.{length};
+ghost use Rattle.counters.specs.Counters.{lastSlot};
+ghost use Rattle.packet.specs.Packets.{frameLength, packetLength};
+ghost use Rattle.receiver.specs.Bytes.{receiverLength};
+ghost use Rattle.tools.specs.Sizes.{partLength};
 
 // The packets that are read at once.
 const BLOCK_PACKETS: usize = 53;
@@ -152,7 +156,7 @@ fn with_header(c: Carrier, packet: &[u8], pid: u16) -> Carrier {
 
 // Puts a frame that became ready to its position in the super frame.
 fn put_frame(part: &mut [u8], position: u8, frame: &[u8])
-    requires { ⌜ (length (now part) ≡ 49878) × (length (now frame) ≡ 9964) ⌝ }
+    requires { ⌜ (length (now part) ≡ partLength) × (length (now frame) ≡ frameLength) ⌝ }
     requires { ⌜ position < 4 ⌝ }
 {
     let at = SUPER_AT + FRAME_BYTES * position as usize;
@@ -161,7 +165,7 @@ fn put_frame(part: &mut [u8], position: u8, frame: &[u8])
 
 // Keeps a frame that became ready, if it is of the super frame asked for.
 fn keep(c: Carrier, want: u64, part: &mut [u8], frame: &[u8]) -> Carrier
-    requires { ⌜ (length (now part) ≡ 49878) × (length (now frame) ≡ 9964) ⌝ }
+    requires { ⌜ (length (now part) ≡ partLength) × (length (now frame) ≡ frameLength) ⌝ }
 {
     if super_of(c.place, c.frames) != want {
         return c;
@@ -174,7 +178,7 @@ fn keep(c: Carrier, want: u64, part: &mut [u8], frame: &[u8]) -> Carrier
 }
 
 fn keep_ready(c: Carrier, event: u8, want: u64, part: &mut [u8], frame: &[u8]) -> Carrier
-    requires { ⌜ (length (now part) ≡ 49878) × (length (now frame) ≡ 9964) ⌝ }
+    requires { ⌜ (length (now part) ≡ partLength) × (length (now frame) ≡ frameLength) ⌝ }
 {
     if event == events::READY {
         return keep(c, want, part, frame);
@@ -183,7 +187,7 @@ fn keep_ready(c: Carrier, event: u8, want: u64, part: &mut [u8], frame: &[u8]) -
 }
 
 fn receive(frame: &mut [u8], part: &mut [u8], packet: &[u8]) -> u8
-    requires { ⌜ (length (now frame) ≡ 9964) × (length (now part) ≡ 49878) ⌝ }
+    requires { ⌜ (length (now frame) ≡ frameLength) × (length (now part) ≡ partLength) ⌝ }
 {
     let mut event = events::NOTHING;
     receiver_receive::niranbok_receiver_receive(
@@ -197,7 +201,7 @@ fn receive(frame: &mut [u8], part: &mut [u8], packet: &[u8]) -> u8
 
 // The header of the frame that is open now.
 fn hold(c: Carrier, event: u8, packet: &[u8], frame: &mut [u8], pid: u16) -> Carrier
-    requires { ⌜ length (now frame) ≡ 9964 ⌝ }
+    requires { ⌜ length (now frame) ≡ frameLength ⌝ }
 {
     if tally::opens(event) {
         slices::copy(&mut frame[0..PACKET_BYTES], packet);
@@ -224,7 +228,7 @@ fn take(
     frame: &mut [u8],
     part: &mut [u8],
 ) -> Carrier
-    requires { ⌜ (length (now frame) ≡ 9964) × (length (now part) ≡ 49878) ⌝ }
+    requires { ⌜ (length (now frame) ≡ frameLength) × (length (now part) ≡ partLength) ⌝ }
 {
     let event = receive(frame, part, packet);
     let one = keep_ready(counted(c, event), event, want, part, frame);
@@ -233,7 +237,7 @@ fn take(
 
 // Reads the next block.
 fn refill(c: Carrier, part: &mut [u8]) -> Carrier
-    requires { ⌜ length (now part) ≡ 49878 ⌝ }
+    requires { ⌜ length (now part) ≡ partLength ⌝ }
 {
     let got = input::read_block(c.fd, &mut part[BLOCK_AT..SUPER_AT]);
     input::say_part(got);
@@ -246,7 +250,7 @@ fn refill(c: Carrier, part: &mut [u8]) -> Carrier
 
 // Where the next packet of a block stands, if it has one.
 fn next_at(c: Carrier) -> usize
-    ensures { λ r. ⌜ (58 ≤ r) × (r ≤ 9834) ⌝ }
+    ensures { λ r. ⌜ (receiverLength ≤ r) × (r ≤ receiverLength + packetLength * lastSlot) ⌝ }
 {
     let taken = c.taken;
     if taken < BLOCK_PACKETS {
@@ -257,7 +261,7 @@ fn next_at(c: Carrier) -> usize
 
 // Takes the next packet of the block. It is copied, since the state stands beside the block and is written.
 fn take_next(c: Carrier, want: u64, pid: u16, frame: &mut [u8], part: &mut [u8]) -> Carrier
-    requires { ⌜ (length (now frame) ≡ 9964) × (length (now part) ≡ 49878) ⌝ }
+    requires { ⌜ (length (now frame) ≡ frameLength) × (length (now part) ≡ partLength) ⌝ }
 {
     let at = next_at(c);
     let mut packet = [0u8; PACKET_BYTES];
@@ -267,7 +271,7 @@ fn take_next(c: Carrier, want: u64, pid: u16, frame: &mut [u8], part: &mut [u8])
 
 // Takes the next packet of the block, or reads another block where it has none.
 fn step(c: Carrier, want: u64, pid: u16, frame: &mut [u8], part: &mut [u8]) -> Carrier
-    requires { ⌜ (length (now frame) ≡ 9964) × (length (now part) ≡ 49878) ⌝ }
+    requires { ⌜ (length (now frame) ≡ frameLength) × (length (now part) ≡ partLength) ⌝ }
 {
     if c.taken < c.packets {
         return take_next(c, want, pid, frame, part);
@@ -277,7 +281,7 @@ fn step(c: Carrier, want: u64, pid: u16, frame: &mut [u8], part: &mut [u8]) -> C
 
 // Reads on until the super frame with this number is whole, or a later one has begun, or the input has ended.
 pub(crate) fn read_on(c: Carrier, want: u64, pid: u16, frame: &mut [u8], part: &mut [u8]) -> Carrier
-    requires { ⌜ (length (now frame) ≡ 9964) × (length (now part) ≡ 49878) ⌝ }
+    requires { ⌜ (length (now frame) ≡ frameLength) × (length (now part) ≡ partLength) ⌝ }
 {
     let mut next = c;
     next.have = 0;

@@ -6,6 +6,8 @@ use setting::limits;
 ghost use mathlib.Core.Path.{_≡_};
 ghost use Prim.Native.Nat.{_≤_, _<_};
 ghost use lib.ListN.{length};
+ghost use Rattle.counters.specs.Counters.{lastCarrier};
+ghost use Rattle.tools.specs.Sizes.{groupLength};
 
 pub(crate) const CARRIERS: usize = limits::LAST_CARRIER as usize;
 
@@ -47,8 +49,8 @@ fn frames_before(frames: &[u8], n: usize) -> usize
 
 // The bytes of the first n carriers: the next one's super frame starts behind them.
 pub(crate) fn bytes_before(frames: &[u8], n: usize) -> usize
-    requires { ⌜ (n ≤ 8) × (length (now frames) ≡ 8) ⌝ }
-    ensures { λ r. ⌜ r ≤ 318848 ⌝ }
+    requires { ⌜ (n ≤ lastCarrier) × (length (now frames) ≡ 8) ⌝ }
+    ensures { λ r. ⌜ r ≤ groupLength ⌝ }
 {
     FRAME_BYTES * at_most(frames_before(frames, n), FRAMES)
 }

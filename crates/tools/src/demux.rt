@@ -19,6 +19,9 @@ use setting::Setting;
 ghost use mathlib.Core.Path.{_≡_};
 ghost use Prim.Native.Nat.{_≤_, _<_};
 ghost use lib.ListN.{length};
+ghost use Rattle.counters.specs.Counters.{lastStream};
+ghost use Rattle.receiver.specs.Store.{storeLength};
+ghost use Rattle.tools.specs.Sizes.{blockLength};
 
 // The packets that are read at once.
 const BLOCK_PACKETS: usize = 340;
@@ -121,7 +124,7 @@ fn chosen_at(i: usize) -> Chosen {
 
 // Whether stream k + 1 of the setting is the one with these identifiers.
 fn is_stream(s: Setting, k: usize, ts_id: u16, network_id: u16) -> bool
-    requires { ⌜ k < 15 ⌝ }
+    requires { ⌜ k < lastStream ⌝ }
 {
     if !RelativeNumber((k + 1) as u8).is_available(s.availability) {
         return false;
@@ -168,7 +171,7 @@ fn number_after(event: u8, packet: &[u8], pid: u16, choice: Choice, number: u8) 
 
 // Writes the packets that were handed out.
 fn write_packets(out: &[u8], packets: usize) -> bool
-    requires { ⌜ length (now out) ≡ 9776 ⌝ }
+    requires { ⌜ length (now out) ≡ storeLength ⌝ }
 {
     if SLOTS < packets {
         return false;
@@ -276,7 +279,7 @@ fn take_all(
     choice: Choice,
     link: Link,
 ) -> Link
-    requires { ⌜ length (now block) ≡ 63920 ⌝ }
+    requires { ⌜ length (now block) ≡ blockLength ⌝ }
 {
     let mut next = link;
     let mut blocks: u64 = 0;

@@ -17,6 +17,8 @@ use packet::PACKET_BYTES;
 ghost use mathlib.Core.Path.{_≡_};
 ghost use Prim.Native.Nat.{_≤_, _<_};
 ghost use lib.ListN.{length};
+ghost use Rattle.counters.specs.Counters.{lastCarrier};
+ghost use Rattle.tools.specs.Sizes.{framesLength, groupLength, partsLength};
 
 // The carriers of the group.
 pub(crate) struct Group {
@@ -58,7 +60,7 @@ fn with_carrier(s: Standing, one: Carrier) -> Standing {
 }
 
 pub(crate) fn standing_of(g: Group, n: usize) -> Standing
-    requires { ⌜ n ≤ 8 ⌝ }
+    requires { ⌜ n ≤ lastCarrier ⌝ }
 {
     let mut all = Standing {
         open: true,
@@ -77,7 +79,7 @@ pub(crate) fn standing_of(g: Group, n: usize) -> Standing
 
 // The carriers' numbers of frames, 0 where one has not all of its super frame.
 fn frames_of(g: Group, n: usize) -> [u8; CARRIERS]
-    requires { ⌜ n ≤ 8 ⌝ }
+    requires { ⌜ n ≤ lastCarrier ⌝ }
     ensures { λ r. ⌜ length r ≡ 8 ⌝ }
 {
     let mut frames = [0u8; CARRIERS];
@@ -92,8 +94,8 @@ fn frames_of(g: Group, n: usize) -> [u8; CARRIERS]
 
 // Puts the super frame of carrier c, which has so many frames, behind so many bytes of the group.
 fn put_super(frames: &mut [u8], before: usize, parts: &[u8], c: usize, size: u8)
-    requires { ⌜ (length (now frames) ≡ 398560) × (length (now parts) ≡ 711856) ⌝ }
-    requires { ⌜ (before ≤ 318848) × (c < 8) ⌝ }
+    requires { ⌜ (length (now frames) ≡ framesLength) × (length (now parts) ≡ partsLength) ⌝ }
+    requires { ⌜ (before ≤ groupLength) × (c < lastCarrier) ⌝ }
 {
     let left = carriers::at_most(SUPER_BYTES, GROUP_BYTES - before);
     let bytes = carriers::bytes_of(size, left);
@@ -106,8 +108,8 @@ fn put_super(frames: &mut [u8], before: usize, parts: &[u8], c: usize, size: u8)
 
 // Puts the carriers' super frames one behind another.
 fn join(frames: &mut [u8], parts: &[u8], sizes: &[u8], n: usize)
-    requires { ⌜ (length (now frames) ≡ 398560) × (length (now parts) ≡ 711856) ⌝ }
-    requires { ⌜ (length (now sizes) ≡ 8) × (n ≤ 8) ⌝ }
+    requires { ⌜ (length (now frames) ≡ framesLength) × (length (now parts) ≡ partsLength) ⌝ }
+    requires { ⌜ (length (now sizes) ≡ 8) × (n ≤ lastCarrier) ⌝ }
 {
     let mut c = 0;
     while c < n {
@@ -119,7 +121,7 @@ fn join(frames: &mut [u8], parts: &[u8], sizes: &[u8], n: usize)
 
 // Writes so many packets of the stream. Answers whether they were taken.
 fn write(parts: &[u8], packets: usize) -> bool
-    requires { ⌜ length (now parts) ≡ 711856 ⌝ }
+    requires { ⌜ length (now parts) ≡ partsLength ⌝ }
 {
     let end = carriers::at_most(packets, STREAM_BYTES / PACKET_BYTES);
     if !io::write_all(STDOUT_FILENO, &parts[0..PACKET_BYTES * end]) {
@@ -166,16 +168,16 @@ fn gather_into(out: &mut [u8], group: &[u8], bond: Bond) -> Moved {
 
 // Gathers the group, which has so many bytes.
 fn gather_group(frames: &[u8], bytes: usize, parts: &mut [u8], bond: Bond) -> Moved
-    requires { ⌜ (length (now frames) ≡ 398560) × (length (now parts) ≡ 711856) ⌝ }
-    requires { ⌜ bytes ≤ 318848 ⌝ }
+    requires { ⌜ (length (now frames) ≡ framesLength) × (length (now parts) ≡ partsLength) ⌝ }
+    requires { ⌜ bytes ≤ groupLength ⌝ }
 {
     gather_into(&mut parts[0..STREAM_BYTES], &frames[0..bytes], bond)
 }
 
 // Gathers the group and writes the stream.
 fn gather(frames: &[u8], bytes: usize, parts: &mut [u8], bond: Bond, count: Count) -> Count
-    requires { ⌜ (length (now frames) ≡ 398560) × (length (now parts) ≡ 711856) ⌝ }
-    requires { ⌜ bytes ≤ 318848 ⌝ }
+    requires { ⌜ (length (now frames) ≡ framesLength) × (length (now parts) ≡ partsLength) ⌝ }
+    requires { ⌜ bytes ≤ groupLength ⌝ }
 {
     let moved = gather_group(frames, bytes, parts, bond);
     if moved.refusal != 0 {
@@ -215,8 +217,8 @@ pub(crate) fn one_super(
     bond: Bond,
     count: Count,
 ) -> Count
-    requires { ⌜ (length (now frames) ≡ 398560) × (length (now parts) ≡ 711856) ⌝ }
-    requires { ⌜ n ≤ 8 ⌝ }
+    requires { ⌜ (length (now frames) ≡ framesLength) × (length (now parts) ≡ partsLength) ⌝ }
+    requires { ⌜ n ≤ lastCarrier ⌝ }
 {
     let now = standing_of(g, n);
     if !now.whole {

@@ -16,6 +16,8 @@ use setting::limits;
 ghost use mathlib.Core.Path.{_≡_};
 ghost use Prim.Native.Nat.{_≤_, _<_};
 ghost use lib.ListN.{length};
+ghost use Rattle.counters.specs.Counters.{lastCarrier, lastSlot};
+ghost use Rattle.tools.specs.Sizes.{groupLength};
 
 // A bond and the id of its group.
 pub(crate) struct Bonded {
@@ -25,7 +27,7 @@ pub(crate) struct Bonded {
 
 // The plan of a carrier whose stream has so many slots of each frame.
 fn plan_of(slots: u8) -> [u8; SLOTS]
-    ensures { λ r. ⌜ length r ≡ 52 ⌝ }
+    ensures { λ r. ⌜ length r ≡ lastSlot ⌝ }
 {
     let mut shares = [0u32; SHARES];
     let n = carriers::at_most(slots as usize, SLOTS);
@@ -96,7 +98,7 @@ fn write_super(
     number: u64,
     slots: u8,
 ) -> bool
-    requires { ⌜ (length (now group) ≡ 318848) × (at ≤ 318848) ⌝ }
+    requires { ⌜ (length (now group) ≡ groupLength) × (at ≤ groupLength) ⌝ }
 {
     let mut f = 0;
     while f < limits::MOST_FRAMES {
@@ -130,7 +132,7 @@ pub(crate) fn write_headers(
     n: usize,
 ) -> bool
     requires { ⌜ (length (now frames) ≡ 8) × (length (now slots) ≡ 8) ⌝ }
-    requires { ⌜ (length (now group) ≡ 318848) × (n ≤ 8) ⌝ }
+    requires { ⌜ (length (now group) ≡ groupLength) × (n ≤ lastCarrier) ⌝ }
 {
     let mut c = 0;
     while c < n {

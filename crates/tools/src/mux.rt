@@ -18,9 +18,12 @@ use counters::SLOTS;
 use counters::STREAMS;
 use setting::Setting;
 ghost use mathlib.Core.Path.{_≡_};
-ghost use Prim.Native.Nat.{_≤_, _<_};
+ghost use Prim.Native.Nat.{_+_, _≤_, _<_};
 ghost use lib.ListN.{length};
 ghost use Rattle.io.specs.Counts.{Counts};
+ghost use Rattle.counters.specs.Counters.{lastStream};
+ghost use Rattle.packet.specs.Packets.{frameLength};
+ghost use Rattle.receiver.specs.Store.{storeLength};
 
 // For each stream: SLOTS, TS_ID, NETWORK_ID and FILE.
 const WORDS: usize = 4;
@@ -56,7 +59,7 @@ fn slots_at(i: usize, r: u8) -> u32 {
 }
 
 fn with_slots(given: Given, r: u8, n: u32, ts_id: u32, network_id: u32) -> Given
-    requires { ⌜ (1 ≤ r) × (r ≤ 15) ⌝ }
+    requires { ⌜ (1 ≤ r) × (r ≤ lastStream) ⌝ }
 {
     let at = r as usize;
     let mut slots = given.slots;
@@ -87,7 +90,7 @@ fn not_good(given: Given) -> Given {
 
 // Adds stream r, whose words start at argument i.
 fn with_words(given: Given, i: usize, r: u8) -> Given
-    requires { ⌜ (1 ≤ r) × (r ≤ 15) ⌝ }
+    requires { ⌜ (1 ≤ r) × (r ≤ lastStream) ⌝ }
     requires { ⌜ i ≤ 1000 ⌝ }
 {
     let n = slots_at(i, r);
@@ -103,7 +106,7 @@ fn with_words(given: Given, i: usize, r: u8) -> Given
 }
 
 fn read_streams(first: usize, streams: usize) -> Given
-    requires { ⌜ (first ≤ 3) × (streams ≤ 15) ⌝ }
+    requires { ⌜ (first ≤ 3) × (streams ≤ lastStream) ⌝ }
 {
     let mut given = Given {
         good: true,
@@ -151,7 +154,7 @@ fn with_plan(given: Given) -> Given {
 // Opens the streams' files. Answers whether all could be.
 fn open_all(fds: &mut [i32], first: usize, streams: usize) -> bool
     requires { ⌜ (first ≤ 3) × (streams ≤ length (now fds)) ⌝ }
-    requires { ⌜ length (now fds) ≡ 15 ⌝ }
+    requires { ⌜ length (now fds) ≡ lastStream ⌝ }
 {
     let mut k = 0;
     while k < streams {
@@ -173,7 +176,7 @@ struct Filled {
 
 // Reads as many packets as there are slots, or as are left. Answers the bytes of whole packets.
 fn read_packets(fd: i32, bytes: &mut [u8], slots: u32, r: u8) -> usize
-    requires { ⌜ length (now bytes) ≡ 9776 ⌝ }
+    requires { ⌜ length (now bytes) ≡ storeLength ⌝ }
     ensures { λ t. ⌜ Counts t (now (bytes .exit)) ⌝ }
 {
     let most = carriers::at_most(slots as usize, SLOTS);
@@ -220,8 +223,8 @@ fn put_stream(
 
 // Puts one stream after another.
 fn fill(state: &mut [u8], frame: &mut [u8], fds: &[i32], slots: &[u32], streams: usize) -> Filled
-    requires { ⌜ (length (now fds) ≡ 15) × (length (now slots) ≡ 16) ⌝ }
-    requires { ⌜ streams ≤ 15 ⌝ }
+    requires { ⌜ (length (now fds) ≡ lastStream) × (length (now slots) ≡ lastStream + 1) ⌝ }
+    requires { ⌜ streams ≤ lastStream ⌝ }
 {
     let mut filled = Filled {
         refusal: 0,
@@ -248,7 +251,7 @@ fn write(bytes: &[u8]) -> bool {
 
 // Writes a frame, or of one that no stream brought anything for its header alone, which vouches for the frame before.
 fn write_frame(frame: &[u8], packets: usize) -> bool
-    requires { ⌜ length (now frame) ≡ 9964 ⌝ }
+    requires { ⌜ length (now frame) ≡ frameLength ⌝ }
 {
     if packets == 0 {
         write(&frame[0..PACKET_BYTES]);
@@ -258,7 +261,7 @@ fn write_frame(frame: &[u8], packets: usize) -> bool
 }
 
 fn close_frame(state: &mut [u8], frame: &mut [u8], packets: usize) -> bool
-    requires { ⌜ length (now frame) ≡ 9964 ⌝ }
+    requires { ⌜ length (now frame) ≡ frameLength ⌝ }
 {
     let refusal = composer_close::niranbok_composer_close(state, frame);
     if refusal != 0 {
@@ -275,8 +278,8 @@ fn finish_frame(
     slots: &[u32],
     streams: usize,
 ) -> bool
-    requires { ⌜ (length (now fds) ≡ 15) × (length (now slots) ≡ 16) ⌝ }
-    requires { ⌜ (streams ≤ 15) × (length (now frame) ≡ 9964) ⌝ }
+    requires { ⌜ (length (now fds) ≡ lastStream) × (length (now slots) ≡ lastStream + 1) ⌝ }
+    requires { ⌜ (streams ≤ lastStream) × (length (now frame) ≡ frameLength) ⌝ }
 {
     let filled = fill(state, frame, fds, slots, streams);
     if filled.refusal != 0 {
@@ -294,8 +297,8 @@ fn make_frame(
     slots: &[u32],
     streams: usize,
 ) -> bool
-    requires { ⌜ (length (now fds) ≡ 15) × (length (now slots) ≡ 16) ⌝ }
-    requires { ⌜ (streams ≤ 15) × (length (now frame) ≡ 9964) ⌝ }
+    requires { ⌜ (length (now fds) ≡ lastStream) × (length (now slots) ≡ lastStream + 1) ⌝ }
+    requires { ⌜ (streams ≤ lastStream) × (length (now frame) ≡ frameLength) ⌝ }
 {
     let refusal = composer_begin::niranbok_composer_begin(state, frame, setting);
     if refusal != 0 {
@@ -324,8 +327,8 @@ fn make_frames(
     slots: &[u32],
     streams: usize,
 )
-    requires { ⌜ (length (now fds) ≡ 15) × (length (now slots) ≡ 16) ⌝ }
-    requires { ⌜ (streams ≤ 15) × (length (now frame) ≡ 9964) ⌝ }
+    requires { ⌜ (length (now fds) ≡ lastStream) × (length (now slots) ≡ lastStream + 1) ⌝ }
+    requires { ⌜ (streams ≤ lastStream) × (length (now frame) ≡ frameLength) ⌝ }
 {
     let mut frames: u64 = 0;
     while frames < u64::MAX {
@@ -339,7 +342,7 @@ fn make_frames(
 
 // Starts the run and makes its frames.
 fn compose(pid: u16, given: Given, fds: &[i32], streams: usize)
-    requires { ⌜ (length (now fds) ≡ 15) × (streams ≤ 15) ⌝ }
+    requires { ⌜ (length (now fds) ≡ lastStream) × (streams ≤ lastStream) ⌝ }
 {
     let mut state = [0u8; COMPOSER_BYTES];
     composer_start::niranbok_composer_start(&mut state, pid, 0);
@@ -351,7 +354,7 @@ fn compose(pid: u16, given: Given, fds: &[i32], streams: usize)
 }
 
 fn start(pid: u16, given: Given, first: usize, streams: usize)
-    requires { ⌜ (first ≤ 3) × (streams ≤ 15) ⌝ }
+    requires { ⌜ (first ≤ 3) × (streams ≤ lastStream) ⌝ }
 {
     let mut fds = [0i32; STREAMS];
     if open_all(&mut fds, first, streams) {
@@ -361,7 +364,7 @@ fn start(pid: u16, given: Given, first: usize, streams: usize)
 
 // The streams' words start at `first`.
 fn run_streams(pid: u16, first: usize, streams: usize)
-    requires { ⌜ (first ≤ 3) × (streams ≤ 15) ⌝ }
+    requires { ⌜ (first ≤ 3) × (streams ≤ lastStream) ⌝ }
 {
     let given = with_plan(read_streams(first, streams));
     if given.good {

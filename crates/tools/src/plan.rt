@@ -2,8 +2,9 @@
 use counters::SLOTS;
 use counters::STREAMS;
 ghost use mathlib.Core.Path.{_≡_};
-ghost use Prim.Native.Nat.{_<_};
+ghost use Prim.Native.Nat.{_+_, _<_};
 ghost use lib.ListN.{length};
+ghost use Rattle.counters.specs.Counters.{lastSlot, lastStream};
 
 // The streams, and before them the slots of none.
 pub(crate) const SHARES: usize = STREAMS + 1;
@@ -45,7 +46,7 @@ fn richest(credits: &[u32]) -> usize
 
 // The number of the next slot: the richest has it, and pays for it what a whole frame brings to all.
 fn next(credits: &mut [u32], slots: &[u32]) -> u8
-    requires { ⌜ (length (now credits) ≡ 16) × (length (now slots) ≡ 16) ⌝ }
+    requires { ⌜ (length (now credits) ≡ lastStream + 1) × (length (now slots) ≡ lastStream + 1) ⌝ }
 {
     gain(credits, slots);
     let best = richest(credits);
@@ -58,8 +59,8 @@ const START: u32 = 1000;
 
 // The numbers of the slots where number r has so many of them, number 0 with those that are left.
 pub(crate) fn numbers(slots: &[u32]) -> [u8; SLOTS]
-    requires { ⌜ length (now slots) ≡ 16 ⌝ }
-    ensures { λ r. ⌜ length r ≡ 52 ⌝ }
+    requires { ⌜ length (now slots) ≡ lastStream + 1 ⌝ }
+    ensures { λ r. ⌜ length r ≡ lastSlot ⌝ }
 {
     let mut plan = [0u8; SLOTS];
     let mut credits = [START; SHARES];

@@ -1,10 +1,11 @@
 // Settings of the headers that the programs write.
 use setting::Setting;
 ghost use Prim.Native.Nat.{_≤_};
+ghost use Rattle.counters.specs.Counters.{lastStream};
 
 // Stream r made available, with these identifiers.
 pub(crate) fn with_stream(mut s: Setting, r: u8, ts_id: u16, original_network_id: u16) -> Setting
-    requires { ⌜ (1 ≤ r) × (r ≤ 15) ⌝ }
+    requires { ⌜ (1 ≤ r) × (r ≤ lastStream) ⌝ }
 {
     let i = (r - 1) as usize;
     s.availability = s.availability | (16384u16 >> ((r - 1) as u32));

@@ -20,6 +20,8 @@ use packet::FRAME_BYTES;
 ghost use mathlib.Core.Path.{_≡_};
 ghost use Prim.Native.Nat.{_≤_, _<_};
 ghost use lib.ListN.{length};
+ghost use Rattle.counters.specs.Counters.{lastCarrier};
+ghost use Rattle.tools.specs.Sizes.{framesLength, partsLength};
 
 // PID, TS_ID and NETWORK_ID; then a file for each carrier, carrier 1 first.
 const HEAD: usize = 3;
@@ -31,7 +33,7 @@ fn usage() {
 }
 
 fn open_all(g: Group, first: usize, n: usize) -> Group
-    requires { ⌜ (first ≤ 5) × (n ≤ 8) ⌝ }
+    requires { ⌜ (first ≤ 5) × (n ≤ lastCarrier) ⌝ }
 {
     let mut next = g;
     let mut c = 0;
@@ -45,7 +47,7 @@ fn open_all(g: Group, first: usize, n: usize) -> Group
 
 // Starts the receivers of all carriers.
 fn start_receivers(parts: &mut [u8], pid: u16)
-    requires { ⌜ length (now parts) ≡ 711856 ⌝ }
+    requires { ⌜ length (now parts) ≡ partsLength ⌝ }
 {
     let mut c = 0;
     while c < CARRIERS {
@@ -64,8 +66,8 @@ fn read_one(
     frames: &mut [u8],
     parts: &mut [u8],
 ) -> Carrier
-    requires { ⌜ (length (now frames) ≡ 398560) × (length (now parts) ≡ 711856) ⌝ }
-    requires { ⌜ c < 8 ⌝ }
+    requires { ⌜ (length (now frames) ≡ framesLength) × (length (now parts) ≡ partsLength) ⌝ }
+    requires { ⌜ c < lastCarrier ⌝ }
 {
     let frame = GROUP_BYTES + FRAME_BYTES * c;
     let part = STREAM_BYTES + PART_BYTES * c;
@@ -80,8 +82,8 @@ fn read_one(
 
 // Reads each carrier on to there.
 fn read_on(g: Group, want: u64, pid: u16, n: usize, frames: &mut [u8], parts: &mut [u8]) -> Group
-    requires { ⌜ (length (now frames) ≡ 398560) × (length (now parts) ≡ 711856) ⌝ }
-    requires { ⌜ n ≤ 8 ⌝ }
+    requires { ⌜ (length (now frames) ≡ framesLength) × (length (now parts) ≡ partsLength) ⌝ }
+    requires { ⌜ n ≤ lastCarrier ⌝ }
 {
     let mut next = g;
     let mut c = 0;
@@ -94,7 +96,7 @@ fn read_on(g: Group, want: u64, pid: u16, n: usize, frames: &mut [u8], parts: &m
 }
 
 fn say_carriers(g: Group, pid: u16, n: usize)
-    requires { ⌜ n ≤ 8 ⌝ }
+    requires { ⌜ n ≤ lastCarrier ⌝ }
 {
     let mut c = 0;
     while c < n {
@@ -121,8 +123,8 @@ fn next_super(
     frames: &mut [u8],
     parts: &mut [u8],
 ) -> State
-    requires { ⌜ (length (now frames) ≡ 398560) × (length (now parts) ≡ 711856) ⌝ }
-    requires { ⌜ n ≤ 8 ⌝ }
+    requires { ⌜ (length (now frames) ≡ framesLength) × (length (now parts) ≡ partsLength) ⌝ }
+    requires { ⌜ n ≤ lastCarrier ⌝ }
 {
     let before = s.count;
     let group = read_on(s.group, want, bond.pid, n, frames, parts);
@@ -132,8 +134,8 @@ fn next_super(
 
 // Reads and gathers until the input ends. A loop that is proved has to end: the super frames' numbers do.
 fn unbond_with(start: State, n: usize, bond: Bond, frames: &mut [u8], parts: &mut [u8]) -> State
-    requires { ⌜ (length (now frames) ≡ 398560) × (length (now parts) ≡ 711856) ⌝ }
-    requires { ⌜ n ≤ 8 ⌝ }
+    requires { ⌜ (length (now frames) ≡ framesLength) × (length (now parts) ≡ partsLength) ⌝ }
+    requires { ⌜ n ≤ lastCarrier ⌝ }
 {
     let mut s = start;
     let mut want: u64 = 0;
@@ -155,8 +157,8 @@ fn start_and_unbond(
     frames: &mut [u8],
     parts: &mut [u8],
 ) -> State
-    requires { ⌜ (length (now frames) ≡ 398560) × (length (now parts) ≡ 711856) ⌝ }
-    requires { ⌜ n ≤ 8 ⌝ }
+    requires { ⌜ (length (now frames) ≡ framesLength) × (length (now parts) ≡ partsLength) ⌝ }
+    requires { ⌜ n ≤ lastCarrier ⌝ }
 {
     start_receivers(parts, bond.pid);
     unbond_with(start, n, bond, frames, parts)
@@ -164,7 +166,7 @@ fn start_and_unbond(
 
 // What is copied goes from one of the two to the other: a frame, then a super frame, then the group, then the stream.
 fn unbond(start: State, n: usize, bond: Bond) -> State
-    requires { ⌜ n ≤ 8 ⌝ }
+    requires { ⌜ n ≤ lastCarrier ⌝ }
 {
     let mut frames = [0u8; FRAMES_BYTES];
     let mut parts = [0u8; PARTS_BYTES];
@@ -183,7 +185,7 @@ fn no_count() -> Count {
 }
 
 fn run_files(bond: Bond, first: usize, n: usize)
-    requires { ⌜ (first ≤ 5) × (n ≤ 8) ⌝ }
+    requires { ⌜ (first ≤ 5) × (n ≤ lastCarrier) ⌝ }
 {
     let none = carrier::start(-1);
     let g = open_all(
@@ -209,7 +211,7 @@ fn run_files(bond: Bond, first: usize, n: usize)
 }
 
 fn run_counted(first: usize, n: usize)
-    requires { ⌜ (first ≤ 2) × (n ≤ 8) ⌝ }
+    requires { ⌜ (first ≤ 2) × (n ≤ lastCarrier) ⌝ }
 {
     let pid = arguments::pid(first);
     if pid == 0 {

@@ -1,0 +1,2 @@
+-- The sizes of the programs' buffers.
+pub mod Sizes

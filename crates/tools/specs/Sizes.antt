@@ -1,0 +1,30 @@
+-- The sizes of the programs' buffers, made from the counts.
+use Prim.Native.Nat.{ℕ, _+_, _*_}
+use Rattle.counters.specs.Counters.{lastSlot, lastPosition, lastCarrier}
+use Rattle.packet.specs.Packets.{packetLength, frameLength}
+use Rattle.receiver.specs.Bytes.{receiverLength}
+
+-- the most frames that a group has, its bytes, and those of a stream that fills all its slots
+abbrev pub mostFrames : ℕ
+mostFrames = lastCarrier * lastPosition
+
+abbrev pub groupLength : ℕ
+groupLength = frameLength * mostFrames
+
+abbrev pub streamLength : ℕ
+streamLength = packetLength * lastSlot * mostFrames
+
+-- what demux reads at once
+abbrev pub blockLength : ℕ
+blockLength = packetLength * 340
+
+-- what unbond keeps for a carrier: the receiver's state, a block of as many packets as a frame has, and a super frame
+abbrev pub partLength : ℕ
+partLength = receiverLength + frameLength + frameLength * lastPosition
+
+-- what it keeps for all: in one part the group and a frame for each carrier, in the other the stream and the carriers' parts
+abbrev pub framesLength : ℕ
+framesLength = groupLength + frameLength * lastCarrier
+
+abbrev pub partsLength : ℕ
+partsLength = streamLength + partLength * lastCarrier
