@@ -1,13 +1,11 @@
-// The header for callers in other languages, of which each call has its crate: what they answer and leave, and the refusals that they share.
-// The call for C that reads a header: the header's own under the coding of settings and kinds.
-// The call for C that writes a header: the header's own under the coding of settings and kinds.
+// The calls that write and read a header, over the bytes of a setting.
 use packet::PACKET_BYTES;
 use setting_bytes::SETTING_BYTES;
 ghost use mathlib.Core.Path.{_≡_};
 ghost use Rattle.header_calls.specs.Calls.{callRefused, readRefused, readMemory, writeRefused, writeMemory};
 
 // 1, 2, 17: the lengths of what is lent, the PID, the kind.
-pub fn call_refusal(packet: usize, setting: usize, pid: u16, kind: u8) -> u8
+fn call_refusal(packet: usize, setting: usize, pid: u16, kind: u8) -> u8
     ensures { λ r. ⌜ r ≡ callRefused packet setting pid kind ⌝ }
 {
     if packet != PACKET_BYTES {
@@ -49,9 +47,9 @@ pub extern "C" fn niranbok_header_write(packet: &mut [u8], pid: u16, kind: u8, s
     ensures { λ r. ⌜ r ≡ writeRefused (now (packet .entry)) pid kind (now (setting .entry)) ⌝ }
     ensures { λ _. ⌜ now (packet .exit) ≡ writeMemory (now (packet .entry)) pid kind (now (setting .entry)) ⌝ }
 {
-    let call = call_refusal(packet.len(), setting.len(), pid, kind);
-    if call != 0 {
-        return call;
+    let refusal = call_refusal(packet.len(), setting.len(), pid, kind);
+    if refusal != 0 {
+        return refusal;
     }
     header_write::write(
         packet,

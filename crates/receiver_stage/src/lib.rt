@@ -46,16 +46,16 @@ fn stage_of(tag: u8, from: u8, k: u8) -> Stage
 }
 
 // The stage that a state's bytes say. Beside a number that is no kind they say none, nor do bytes of another length.
-pub fn stage_in(state: &[u8]) -> Stage
-    ensures { λ r. ⌜ r ≡ cond (eqb (length (now (state .entry))) receiverLength) (stageIn (now (state .entry))) noStage ⌝ }
+pub fn stage_in(bytes: &[u8]) -> Stage
+    ensures { λ r. ⌜ r ≡ cond (eqb (length (now (bytes .entry))) receiverLength) (stageIn (now (bytes .entry))) noStage ⌝ }
 {
-    if state.len() != RECEIVER_BYTES {
+    if bytes.len() != RECEIVER_BYTES {
         return no_stage();
     }
-    if 1 < state[KIND] {
+    if 1 < bytes[KIND] {
         return no_stage();
     }
-    stage_of(state[STAGE], state[COUNTER], state[STORED])
+    stage_of(bytes[STAGE], bytes[COUNTER], bytes[STORED])
 }
 
 fn stage_bytes(stage: Stage) -> [u8; 3]
@@ -77,28 +77,28 @@ pub fn write_stage(bytes: &mut [u8], stage: Stage)
 }
 
 // 17: three bytes that are no stage's, a counter that no header has, or more packets stored than there are slots.
-fn stage_refusal(tag: u8, from: u8, k: u8) -> u8
-    ensures { λ r. ⌜ r ≡ firstOf (stageChecks (stageOf tag from k)) ⌝ }
+fn stage_refusal(tag: u8, counter: u8, stored: u8) -> u8
+    ensures { λ r. ⌜ r ≡ firstOf (stageChecks (stageOf tag counter stored)) ⌝ }
 {
     if tag == 1 {
-        if limits::COUNTERS <= from {
+        if limits::COUNTERS <= counter {
             return 17;
         }
-        if (SLOTS as u8) < k {
+        if (SLOTS as u8) < stored {
             return 17;
         }
         return 0;
     }
-    if k != 0 {
+    if stored != 0 {
         return 17;
     }
     if tag == 2 {
-        if limits::COUNTERS <= from {
+        if limits::COUNTERS <= counter {
             return 17;
         }
         return 0;
     }
-    if from != 0 {
+    if counter != 0 {
         return 17;
     }
     if tag != 0 {

@@ -13,7 +13,7 @@ no-stage-requires c κs = search needs
 returns : tie.Need-returns
 returns c =
     let k = c .before in
-    rw (ne-eqb (length (k .before .before .args .state .now)) receiverLength (k .if1 .taken)) (c .no-stage .ensures)
+    rw (ne-eqb (length (k .before .before .args .bytes .now)) receiverLength (k .if1 .taken)) (c .no-stage .ensures)
 
 shared-slice-read-if2 : tie.Need-shared-slice-read-if2
 shared-slice-read-if2 c = search needs
@@ -25,7 +25,7 @@ returns-2 : tie.Need-returns-2
 returns-2 c =
     let k = c .before in
     let lent = k .before .before in
-    let b = lent .before .before .args .state .now in
+    let b = lent .before .before .args .bytes .now in
     rw (eq-eqb (length b) receiverLength (lent .if1 .left), le-ltb (getD b kindAt 0) 2 (omega (arith, k .if2 .taken))) (c .no-stage2 .ensures)
 
 shared-slice-read-stage-of : tie.Need-shared-slice-read-stage-of
@@ -44,7 +44,7 @@ returns-3 : tie.Need-returns-3
 returns-3 c =
     let k = c .before .before .before .before in
     let lent = k .before .before in
-    let b = lent .before .before .args .state .now in
+    let b = lent .before .before .args .bytes .now in
     rw (eq-eqb (length b) receiverLength (lent .if1 .left), lt-ltb (getD b kindAt 0) 2 (omega (arith, k .if2 .left))) (c .stage-of .ensures)
 
 pub stage-in-spec : {M : Type 1} → statement M
