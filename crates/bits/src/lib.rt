@@ -1,1 +1,1 @@
-// The meaning of packed fields: definitions in specs/, laws in proofs/. No code.
+// Packed fields: what bits, runs of fields and cut fields are, and their laws over the width. Definitions and laws, no code.

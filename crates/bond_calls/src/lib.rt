@@ -1,5 +1,4 @@
-// Bonding for callers in other languages: a bond crosses as its four numbers. The call that gathers has its crate.
-// The call for C that gathers a bonded stream: a bond crosses as its four numbers.
+// The calls that read the headers of a group, spread a stream over it and gather it again. A bond crosses as its four numbers.
 use bond_group::Bond;
 ghost use mathlib.Core.Path.{_≡_};
 ghost use mathlib.Core.Bool.{cond};

@@ -1,1 +1,1 @@
-// The places of bonded carriers: definitions of their order in specs/, its laws in proofs/. No code of its own.
+// The order of the places of bonded carriers, and a walk that meets them in it. Definitions and laws, no code.

@@ -1,1 +1,1 @@
-// A bonded stream over the runs of several carriers: theorems over what the calls of the crates below answer and leave. No code.
+// A bonded stream from the composers of its carriers through their receivers: a theorem over what the calls answer and leave. No code.

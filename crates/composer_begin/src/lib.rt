@@ -1,4 +1,4 @@
-// A frame of a run begun: null packets in its slots. The run's state is lent bytes, and so is the setting.
+// The call that begins a frame: null packets in its slots, and its setting into the state.
 mod checks;
 mod slots;
 

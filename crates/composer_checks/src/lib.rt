@@ -1,4 +1,4 @@
-// A composer's state that stays in its 390 bytes: what each call asks of it. Bytes of any other length are asked as zeros are.
+// What every call asks of a composer's state, where it stands in its 390 bytes. Bytes of any other length are asked as zeros are.
 use composer::COMPOSER_BYTES;
 use composer::FILLED;
 use composer::LAST;

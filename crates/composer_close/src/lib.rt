@@ -1,4 +1,4 @@
-// The call that closes an open frame: its header says the slots that were filled. The run's state is lent bytes.
+// The call that closes a frame: its header says the slots that were filled.
 mod header;
 
 use composer::COMPOSER_BYTES;

@@ -1,4 +1,4 @@
-// Packets of a stream put into the slots of an open frame. The run's state is lent bytes, of which the filled marks change.
+// The call that puts a stream's packets into the slots of an open frame. Of the state the filled marks change.
 mod checks;
 mod slots;
 

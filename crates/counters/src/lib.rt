@@ -1,6 +1,5 @@
-// The three counters of J.183, each with its first and last value, and which streams are available. The counts stand here and nowhere
-// else in the code.
-// The checked constructors of slots, streams and positions for callers in other languages.
+// The counts of J.183: slots, streams, positions, each with its first and last value and a checked constructor, and which streams are
+// available. They stand here and nowhere else in the code.
 ghost use mathlib.Core.Path.{_≡_};
 ghost use Rattle.counters.specs.Counters.{firstSlot, lastSlot, firstStream, lastStream, firstPosition, lastPosition, checked, slotAnswer, relativeNumberAnswer, framePositionAnswer, available, countAvailable};
 

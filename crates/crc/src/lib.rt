@@ -1,5 +1,4 @@
 // The CRC of H.222.0 over bytes.
-// The call for C that answers with a CRC register.
 ghost use Prim.Native.Nat.{_+_, _%_, _≤_};
 ghost use mathlib.Core.Path.{_≡_};
 ghost use lib.ListN.{length};

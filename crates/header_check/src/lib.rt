@@ -1,5 +1,5 @@
-// A packet checked as a header of J.183. A receiver and a group need little of what a header says, so this answers that alone; the
-// reader of whole headers is made of it.
+// A packet checked as a header: its refusal, and of what it says the part that receiving and gathering use. The reader of whole headers
+// is made of it.
 use counters::FramePosition;
 use setting::Kind;
 use counters::SLOTS;

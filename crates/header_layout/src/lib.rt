@@ -1,5 +1,5 @@
-// J.183's header layout: where the header's parts start, in bytes, by the formulas over the counts.
-// What stands in them is said in specs/, and what the writer's and the reader's proofs need of it is proved in proofs/.
+// The header's 188 bytes: where its parts start, by the formulas over the counts. The table, what stands in it and what a packet says
+// by it are in specs/; the laws that the writer and the reader need are in proofs/.
 use setting::AUXILIARY_BYTES;
 use setting::PRIVATE_BYTES;
 use counters::SLOTS;

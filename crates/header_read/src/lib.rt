@@ -1,4 +1,4 @@
-// The reader of the TSMF header of J.183.
+// The reader of the header.
 use setting::Kind;
 use setting::Setting;
 ghost use mathlib.Core.Path.{_≡_};

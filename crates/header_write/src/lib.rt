@@ -1,4 +1,4 @@
-// The writer of the TSMF header of J.183.
+// The writer of the header.
 use setting::Kind;
 use setting::Setting;
 ghost use mathlib.Core.Path.{_≡_};

@@ -1,5 +1,4 @@
-// Packets of 188 bytes, of which a frame has a header and one for each slot, and what is left of a stream of them.
-// Packets for callers in other languages: whether one may stand in a slot, and what is left of a stream of them.
+// Packets of 188 bytes: whether one may stand in a slot, and what is left of a stream of them.
 use counters::SLOTS;
 ghost use mathlib.Core.Path.{_≡_};
 ghost use Rattle.packet.specs.Packets.{placeRefusal, restOf};

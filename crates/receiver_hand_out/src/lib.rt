@@ -1,4 +1,4 @@
-// The call that hands out a ready frame's packets with one number, in slot order, by the numbers where they stand in the state.
+// The call that hands out a ready frame's packets with one number, in slot order.
 mod numbered;
 
 use counters::RelativeNumber;

@@ -1,5 +1,5 @@
-// The call that takes a packet: frames received packet by packet, each ready when the header behind it has vouched for it. What a packet
-// does not change of the state stays where it is.
+// The call that takes a packet. A frame is ready when the header behind it has vouched for it. What a packet does not change of the state
+// stays where it is.
 use packet::PACKET_BYTES;
 use receiver::Event;
 use receiver::KIND;

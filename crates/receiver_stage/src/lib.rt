@@ -1,4 +1,4 @@
-// A receiver's state, looked at where it stands: what every call asks of it, and its stage read and written.
+// What every call asks of a receiver's state, and its stage read and written, where they stand in its 58 bytes.
 use receiver::COUNTER;
 use receiver::KIND;
 use receiver::RECEIVER_BYTES;

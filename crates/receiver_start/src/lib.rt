@@ -1,4 +1,4 @@
-// The call for C that starts a receiver: the state is lent bytes.
+// The call that starts a receiver.
 use receiver::RECEIVER_BYTES;
 ghost use mathlib.Core.Path.{_≡_};
 ghost use Rattle.receiver.specs.Calls.{startRefused, startState};

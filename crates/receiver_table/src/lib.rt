@@ -1,5 +1,5 @@
-// The receiver's table for packets that may stand in no slot: what a good header and a broken packet do, by where the receiver stands. The
-// rows of other packets are in receiver_receive, where such a packet is stored.
+// The receiver's table for headers and broken packets: what each does, by where the receiver stands. The rows of other packets are in
+// receiver_receive, where such a packet is stored.
 use receiver::Event;
 use receiver::Row;
 use receiver::Stage;

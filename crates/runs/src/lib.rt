@@ -1,1 +1,1 @@
-// What is promised of runs of calls: statements in specs/, their proofs in proofs/. No code of its own.
+// Demands 2 and 3 over runs of calls: statements in specs/, their proofs in proofs/. No code.

@@ -1,8 +1,5 @@
-// What a header of J.183 says: its setting, and the range of each field.
-// Refusals by number: definitions in specs/, laws in proofs/. No code.
-// What a setting has to obey, each rule with its refusal's number, in the table's order: the definitions in specs/. The code of each
-// number stands in a crate of its own: 2 here, 17 in widths, 8 to 11 in setting_rules.
-// What of a header decides on the next header's version: taken from its setting.
+// A setting: what a header of J.183 says, the range of each field, the rules with their refusal numbers, and what decides on the next
+// header's version. The rules are definitions in specs/; the code of 17 is in setting_widths, of 8 to 11 in setting_rules.
 use counters::FramePosition;
 use counters::SLOTS;
 use counters::STREAMS;

@@ -1,4 +1,4 @@
-// Settings for callers in other languages: each call is the rules' own under the coding of settings and kinds.
+// The calls on a setting: a blank one, and what its widths and its rules refuse.
 use setting_bytes::SETTING_BYTES;
 use setting::Setting;
 ghost use mathlib.Core.Path.{_≡_};

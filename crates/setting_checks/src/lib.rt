@@ -1,4 +1,4 @@
-// A setting's checks asked of its bytes where they stand: what the checks of a setting by value answer, without one.
+// Widths and rules asked of a setting's bytes, where they stand.
 use setting_bytes::ANNOUNCED;
 use setting_bytes::ANNOUNCED_BYTES;
 use setting_bytes::AUXILIARY;

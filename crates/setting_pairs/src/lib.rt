@@ -1,4 +1,4 @@
-// 10: two available streams with equal identifier pairs.
+// The rule of 10: two available streams with equal identifiers.
 use counters::RelativeNumber;
 use counters::STREAMS;
 ghost use mathlib.Core.Path.{_≡_};

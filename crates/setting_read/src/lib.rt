@@ -1,5 +1,4 @@
-// What a header announces, read from bytes.
-// A setting read from bytes.
+// A setting, and what a header announces, read from bytes.
 use counters::FramePosition;
 use setting::AUXILIARY_BYTES;
 use setting::Announced;

@@ -1,4 +1,4 @@
-// 8 to 11: what a header that is written or read has to obey; 9 and 10 stand in available_slots and identifier_pairs.
+// The rules of 8 to 11, asked of a setting by value. Those of 9 and 10 are in setting_slots and setting_pairs, which setting_checks uses too.
 use counters::FramePosition;
 use setting::Kind;
 use setting::Setting;

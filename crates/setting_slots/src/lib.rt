@@ -1,4 +1,4 @@
-// 9: a slot with the number of an unavailable stream.
+// The rule of 9: a slot with the number of an unavailable stream.
 use counters::RelativeNumber;
 use setting::limits;
 ghost use mathlib.Core.Path.{_≡_};

@@ -1,4 +1,4 @@
-// 17: a field too large for its bits, or that the kind does not have.
+// The rule of 17, asked of a setting by value: a field too large for its bits, or one that the kind does not have.
 use counters::FramePosition;
 use setting::Kind;
 use setting::Setting;

@@ -1,5 +1,4 @@
-// What a header announces, written as bytes.
-// A setting written as bytes.
+// A setting, and what a header announces, written as bytes.
 use setting::AUXILIARY_BYTES;
 use setting::Announced;
 use setting::Setting;
