@@ -206,6 +206,10 @@ closeRefusal c lent = firstOf (lengthCheck lent ∷ (stateChecks c ++ openChecks
 unfoldable pub answer : ℕ → Composer → Composer → Answer
 answer refusal new old = record { refusal = refusal; state = cond (eqb refusal 0) new old }
 
+-- a refused start gives the fresh plain state of PID 0
+unfoldable pub startOf : Kind → ℕ → Answer
+startOf kind pid = answer (firstOf ((2, not (pidAllowed pid)) ∷ [])) (fresh kind pid) (fresh Kind.Plain 0)
+
 unfoldable pub beginOf : Composer → Setting → ℕ → Answer
 beginOf c s lent = answer (beginRefusal c s lent) (opened c s) c
 

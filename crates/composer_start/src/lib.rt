@@ -1,15 +1,22 @@
-// The call that starts a run of frames.
+// The calls that start a run of frames: its state as a value of bytes, or written into lent ones.
 use composer::COMPOSER_BYTES;
 use composer::COUNTER;
 use composer::KIND;
 use composer::VERSION;
+use setting::Kind;
 ghost use mathlib.Core.Path.{_≡_};
 ghost use Prim.Native.Nat.{_<_};
 ghost use lib.ListN.{length};
 ghost use Rattle.setting_bytes.specs.Kinds.{kindOf};
-ghost use Rattle.composer.specs.Composing.{fresh};
+ghost use Rattle.composer.specs.Composing.{fresh, startOf};
 ghost use Rattle.composer.specs.States.{composerLength, composerBytes};
 ghost use Rattle.composer.specs.Calls.{startRefused, startState};
+
+// What a start by value answers: refusal 0 and the state, or the refusal's number and the fresh plain state of PID 0.
+pub struct Started {
+    pub refusal: u8,
+    pub state: [u8; COMPOSER_BYTES],
+}
 
 // The counter and the version are those before the first header's.
 fn write_fresh(state: &mut [u8], pid: u16, kind: u8)
@@ -24,7 +31,21 @@ fn write_fresh(state: &mut [u8], pid: u16, kind: u8)
     state[VERSION] = 7;
 }
 
-// Starts a run with this header PID and kind: writes its state. A refusal leaves the lent bytes as they were.
+// A run with this header PID and kind, as a value of bytes.
+pub fn start(pid: u16, kind: Kind) -> Started
+    ensures { λ r. ⌜ r .refusal ≡ startOf kind pid .refusal ⌝ }
+    ensures { λ r. ⌜ r .state ≡ composerBytes (startOf kind pid .state) ⌝ }
+{
+    let mut state = [0u8; COMPOSER_BYTES];
+    if !setting::pid_allowed(pid) {
+        write_fresh(&mut state, 0, 0);
+        return Started { refusal: 2, state };
+    }
+    write_fresh(&mut state, pid, setting_bytes::kind_number(kind));
+    Started { refusal: 0, state }
+}
+
+// The same into lent bytes, which a refusal leaves as they were.
 #[no_mangle]
 pub extern "C" fn niranbok_composer_start(state: &mut [u8], pid: u16, kind: u8) -> u8
     ensures { λ r. ⌜ r ≡ startRefused (now (state .entry)) pid kind ⌝ }

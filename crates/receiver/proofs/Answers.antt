@@ -22,6 +22,15 @@ use Rattle.receiver.proofs.Bytes.{zeros-packed}
 
 -- ---- start
 
+-- zeros, and over them PID and kind
+pub fresh-bytes : (state : List ℕ) (pid kind : ℕ) → length state ≡ receiverLength → kind < 2 → {zeros after : List ℕ} → zeros ≡ replicate (length state) 0
+    → after ≡ copied zeros (pid / 256 ∷ pid % 256 ∷ kind ∷ []) → after ≡ receiverBytes (waiting (kindOf kind) pid)
+unfolding waiting receiverBytes wordBytes stageBytes copied
+fresh-bytes state pid kind l h {zeros} n e =
+    let none-yet : zeros ≡ replicate receiverLength 0 = n ∙ ap (λ (m : ℕ). replicate m 0) l in
+    let bytes : receiverBytes (waiting (kindOf kind) pid) ≡ pid / 256 ∷ pid % 256 ∷ kind ∷ replicate 55 0 = rw (zeros-packed, kind-same kind h) refl in
+    e ∙ rw none-yet (sym bytes)
+
 module _ (state : List ℕ) (pid kind : ℕ) where
   -- what is asked of the answer and of what the state is then
   abbrev Starts : ℕ → List ℕ → Type 0
@@ -48,15 +57,11 @@ module _ (state : List ℕ) (pid kind : ℕ) where
       pub start-no-kind : 1 < kind → Starts 17 state
       start-no-kind k = refused (sym (by-kind ∙ answers 17 [] (ap not (le-ltb kind 2 (omega arith))))) (λ z. omega (arith, z))
 
-      -- zeros, and over them PID and kind
-      pub starts : kind ≤ 1 → {zeros after : List ℕ} → zeros ≡ replicate (length state) 0
-          → after ≡ copied zeros (pid / 256 ∷ pid % 256 ∷ kind ∷ []) → Starts 0 after
-      unfolding startState waiting receiverBytes wordBytes stageBytes copied
-      starts h {zeros} n e =
+      pub starts : kind ≤ 1 → {after : List ℕ} → after ≡ receiverBytes (waiting (kindOf kind) pid) → Starts 0 after
+      unfolding startState
+      starts h e =
           let granted = sym (by-kind ∙ passed 17 [] (ap not (lt-ltb kind 2 (omega arith))) ∙ first-none none) in
-          let none-yet : zeros ≡ replicate receiverLength 0 = n ∙ ap (λ (m : ℕ). replicate m 0) l in
-          let bytes : receiverBytes (waiting (kindOf kind) pid) ≡ pid / 256 ∷ pid % 256 ∷ kind ∷ replicate 55 0 = rw (zeros-packed, kind-same kind (omega arith)) refl in
-          (granted, e ∙ rw none-yet (sym bytes) ∙ written granted _ state refl)
+          (granted, e ∙ written granted _ state refl)
 
 -- ---- receive
 

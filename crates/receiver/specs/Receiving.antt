@@ -29,6 +29,11 @@ pub record Receiver : Type 0 where
   pub numbers : List ℕ
   pub before : List ℕ
 
+-- refusal 0 and the state, or the refusal's number and the fresh plain state of PID 0
+pub record Started : Type 0 where
+  pub refusal : ℕ
+  pub state : Receiver
+
 -- refusal 0, the event and the new state; or the refusal's number, nothing and the state as it was
 pub record Received : Type 0 where
   pub refusal : ℕ
@@ -75,6 +80,14 @@ handOutRefusal c r store out =
     ∷ [])))
 
 -- ---- the calls
+
+-- a refused start gives the fresh plain state of PID 0
+unfoldable pub startOf : Kind → ℕ → Started
+startOf kind pid =
+    record {
+      refusal = firstOf ((2, not (pidAllowed pid)) ∷ []);
+      state = cond (pidAllowed pid) (waiting kind pid) (waiting Kind.Plain 0);
+    }
 
 -- the row that a packet takes
 unfoldable pub rowFor : Receiver → List ℕ → Row

@@ -1,9 +1,47 @@
-// The call that starts a receiver.
+// The calls that start a receiver: its state as a value of bytes, or written into lent ones.
 use receiver::RECEIVER_BYTES;
+use setting::Kind;
 ghost use mathlib.Core.Path.{_≡_};
+ghost use Prim.Native.Nat.{_<_};
+ghost use lib.ListN.{length};
+ghost use Rattle.setting_bytes.specs.Kinds.{kindOf};
+ghost use Rattle.receiver.specs.Receiving.{waiting, startOf};
+ghost use Rattle.receiver.specs.Bytes.{receiverLength, receiverBytes};
 ghost use Rattle.receiver.specs.Calls.{startRefused, startState};
 
-// Starts a receiver: writes its state. Waiting is zeros, and so are no numbers.
+// What a start by value answers: refusal 0 and the state, or the refusal's number and the fresh plain state of PID 0.
+pub struct Started {
+    pub refusal: u8,
+    pub state: [u8; RECEIVER_BYTES],
+}
+
+// Waiting is zeros, and so are no numbers: PID and kind stand before them.
+fn write_fresh(state: &mut [u8], pid: u16, kind: u8)
+    requires { ⌜ (length (now state) ≡ receiverLength) × (kind < 2) ⌝ }
+    ensures { λ _. ⌜ now (state .exit) ≡ receiverBytes (waiting (kindOf kind) pid) ⌝ }
+{
+    let high = (pid / 256) as u8;
+    let low = (pid % 256) as u8;
+    let front = [high, low, kind];
+    slices::fill(state, 0);
+    slices::copy(state, &front);
+}
+
+// A receiver for this header PID and kind, as a value of bytes.
+pub fn start(pid: u16, kind: Kind) -> Started
+    ensures { λ r. ⌜ r .refusal ≡ startOf kind pid .refusal ⌝ }
+    ensures { λ r. ⌜ r .state ≡ receiverBytes (startOf kind pid .state) ⌝ }
+{
+    let mut state = [0u8; RECEIVER_BYTES];
+    if !setting::pid_allowed(pid) {
+        write_fresh(&mut state, 0, 0);
+        return Started { refusal: 2, state };
+    }
+    write_fresh(&mut state, pid, setting_bytes::kind_number(kind));
+    Started { refusal: 0, state }
+}
+
+// The same into lent bytes, which a refusal leaves as they were.
 #[no_mangle]
 pub extern "C" fn niranbok_receiver_start(state: &mut [u8], pid: u16, kind: u8) -> u8
     ensures { λ r. ⌜ r ≡ startRefused (now (state .entry)) pid kind ⌝ }
@@ -18,10 +56,6 @@ pub extern "C" fn niranbok_receiver_start(state: &mut [u8], pid: u16, kind: u8) 
     if 1 < kind {
         return 17;
     }
-    let high = (pid / 256) as u8;
-    let low = (pid % 256) as u8;
-    let front = [high, low, kind];
-    slices::fill(state, 0);
-    slices::copy(state, &front);
+    write_fresh(state, pid, kind);
     0
 }

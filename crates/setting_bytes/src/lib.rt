@@ -8,7 +8,7 @@ use counters::STREAMS;
 ghost use mathlib.Core.Path.{_≡_};
 ghost use Prim.Native.Nat.{_*_, _+_};
 ghost use Rattle.setting_bytes.specs.Words.{wordsRead};
-ghost use Rattle.setting_bytes.specs.Kinds.{kindOf};
+ghost use Rattle.setting_bytes.specs.Kinds.{kindOf, kindNumber};
 
 // A number of 16 bits from its two bytes.
 pub fn word(high: u8, low: u8) -> u16
@@ -39,6 +39,15 @@ pub fn kind_of(n: u8) -> Kind
         return Kind::Extended;
     }
     Kind::Plain
+}
+
+pub fn kind_number(kind: Kind) -> u8
+    ensures { λ r. ⌜ r ≡ kindNumber kind ⌝ }
+{
+    match kind {
+        Kind::Plain => 0,
+        Kind::Extended => 1,
+    }
 }
 
 // What a header announces: its parts stand one behind the other, identifiers in two bytes each.

@@ -35,32 +35,19 @@ returns-3 c =
     let a = start k .args in
     start-no-kind (a .state .now) (a .pid) (a .kind) (k .before .before .if1 .left) (allowed k) (omega (arith, c .if3 .taken))
 
-cast-high : tie.Need-cast-high
-cast-high c = search needs
-
-cast-low : tie.Need-cast-low
-cast-low c = search needs
-
-fill-requires : tie.Need-fill-requires
-fill-requires c κs = search needs
-
-slice-aggregate-copy : tie.Need-slice-aggregate-copy
-slice-aggregate-copy c = search needs
-
-copy-requires : tie.Need-copy-requires
-copy-requires c κs = search needs
+write-fresh-requires : tie.Need-write-fresh-requires
+write-fresh-requires c κs = search needs
 
 same-length : tie.Need-same-length
 same-length c = search needs
 
 returns-4 : tie.Need-returns-4
 returns-4 c =
-    let copy = c .before .before in
-    let fill = copy .before .before .before .before .before in
-    let known = fill .before .before in
+    let written = c .before .before in
+    let known = written .before .before in
     let k = known .before in
     let a = start k .args in
-    starts (a .state .now) (a .pid) (a .kind) (k .before .before .if1 .left) (allowed k) (known .if3 .left) (fill .fill .ensures) (copy .copy .ensures)
+    starts (a .state .now) (a .pid) (a .kind) (k .before .before .if1 .left) (allowed k) (known .if3 .left) (written .write-fresh .ensures)
 
 pub niranbok-receiver-start-spec : {M : Type 1} → statement M
 niranbok-receiver-start-spec =
@@ -70,10 +57,6 @@ niranbok-receiver-start-spec =
     pid-allowed-requires
     returns-2
     returns-3
-    cast-high
-    cast-low
-    fill-requires
-    slice-aggregate-copy
-    copy-requires
+    write-fresh-requires
     same-length
     returns-4)
