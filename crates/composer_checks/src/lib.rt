@@ -87,8 +87,8 @@ pub fn open_rule_refusal(bytes: &[u8]) -> u8
     setting_checks::rule_refusal(setting_bytes::kind_of(bytes[2]), &bytes[SETTING..FILLED])
 }
 
-// Whether a slot that is planned for no stream is marked filled. Each is asked alike and none stops it, so that many are compared at a
-// time.
+// Whether a slot that is planned for no stream is marked filled. The loop goes through all slots and does not stop early, since the compiler
+// then compares many at a time.
 fn has_unplanned(plan: &[u8], filled: &[u8]) -> bool
     requires { ⌜ (length (now plan) ≡ lastSlot) × (length (now filled) ≡ lastSlot) ⌝ }
     ensures { λ t. ⌜ t ≡ someUnplanned (now (plan .entry)) (marksOf (now (filled .entry))) ⌝ }

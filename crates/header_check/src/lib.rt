@@ -9,7 +9,7 @@ ghost use Rattle.header_check.specs.Checking.{checkedOf};
 
 mod parts;
 
-// What a packet says as a header that receiving and gathering use: refusal 0 and that, or the refusal's number and zeros.
+// Refusal 0 and what receiving and gathering use of a header, or the refusal's number and zeros.
 pub struct Checked {
     pub refusal: u8,
     pub continuity_counter: u8,

@@ -54,7 +54,7 @@ fn fields_of(packet: &[u8]) -> Fields
     }
 }
 
-// What the packet says, field by field, of which `heard` has the parts that were asked for; zeros in the part that the kind does not have.
+// What the packet says, field by field. `heard` has the parts that the check has read already. A part that the kind does not have is zeros.
 pub(crate) fn setting_of(packet: &[u8], kind: Kind, heard: Checked) -> Setting
     requires { ⌜ (length (now packet) ≡ headerLength) × (heard ≡ partsOf 0 (reading kind (now packet))) ⌝ }
     ensures { λ r. ⌜ r ≡ reading kind (now (packet .entry)) ⌝ }

@@ -15,7 +15,7 @@ pub const PRIVATE_BYTES: usize = 85;
 
 pub const AUXILIARY_BYTES: usize = 28;
 
-// The caller says of each header which it is.
+// Whether a header is plain or extended. The caller says which.
 pub enum Kind {
     Plain,
     Extended,
@@ -27,7 +27,7 @@ pub struct Setting {
     pub version_number: u8,
     pub slot_allocation_type: u8,
     pub frame_type: u8,
-    // Fifteen bits, stream 1 the highest; one is available.
+    // Fifteen bits, the highest is stream 1's; 1 means available.
     pub availability: u16,
     pub ts_id: [u16; STREAMS],
     pub original_network_id: [u16; STREAMS],

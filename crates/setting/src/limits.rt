@@ -1,5 +1,5 @@
-// What a caller can set, each range once: the rules ask by these, and tables for menus are made of them. Of a field that starts at 0
-// stands how many values it has.
+// What a caller can set, each range once. The rules ask by these, and tables for menus are made from them. For a field that starts at 0
+// this says how many values it has.
 use counters::FramePosition;
 use counters::RelativeNumber;
 

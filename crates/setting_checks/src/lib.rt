@@ -37,7 +37,7 @@ const NETWORK_IDS: usize = ANNOUNCED + ORIGINAL_NETWORK_ID;
 
 const STATUSES: usize = ANNOUNCED + RECEIVE_STATUS;
 
-// 17 of what a header announced; of bytes of any other length than 80, that of zeros, which fit.
+// 17 of what a header announced. Bytes of another length than 80 count as zeros, which fit.
 pub fn announced_refusal(bytes: &[u8]) -> u8
     ensures { λ r. ⌜ r ≡ firstOf (announcedChecks (announcedOf (now (bytes .entry)))) ⌝ }
 {
@@ -53,7 +53,7 @@ pub fn announced_refusal(bytes: &[u8]) -> u8
     )
 }
 
-// 17 of a setting; of bytes of any other length than 252, that of zeros, which fit.
+// 17 of a setting. Bytes of another length than 252 count as zeros, which fit.
 pub fn width_refusal(kind: Kind, bytes: &[u8]) -> u8
     ensures { λ r. ⌜ r ≡ firstOf (widthChecks kind (settingOf (now (bytes .entry)))) ⌝ }
 {
@@ -85,7 +85,7 @@ pub fn width_refusal(kind: Kind, bytes: &[u8]) -> u8
     )
 }
 
-// 8 to 11 of a setting; of bytes of any other length than 252, those of zeros, which have no frame type.
+// 8 to 11 of a setting. Bytes of another length than 252 count as zeros, which have no frame type.
 pub fn rule_refusal(kind: Kind, bytes: &[u8]) -> u8
     ensures { λ r. ⌜ r ≡ firstOf (ruleChecks kind (settingOf (now (bytes .entry)))) ⌝ }
 {

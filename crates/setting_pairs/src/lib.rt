@@ -44,8 +44,8 @@ fn has_pair_before(availability: u16, ts: &[u16], os: &[u16], j: usize) -> bool
     false
 }
 
-// Whether an available stream has the low six bits of the ts_id of one before it, for each content of which `met` has a bit. Where none
-// has, no two pairs are equal.
+// Whether two available streams have the same low six bits in their ts_id. `met` has a bit for each of the 64 contents met so far. Where the
+// answer is no, no two pairs are equal, and nothing more has to be compared.
 fn some_alike(availability: u16, ts: &[u16]) -> bool
     requires { ⌜ length (now ts) ≡ lastStream ⌝ }
     ensures { λ r. ⌜ ((os : List ℕ) → r ≡ false → pairTwice availability (now (ts .entry)) os ≡ false) ⌝ }
@@ -79,11 +79,11 @@ fn has_pair(availability: u16, ts: &[u16], os: &[u16]) -> bool
     false
 }
 
-// Whether two available streams have equal identifier pairs. They are compared only where some are alike.
+// Whether two available streams have equal identifier pairs. Pairs are compared only where two ts_ids could be equal.
 pub fn has_pair_twice(availability: u16, ts: &[u16; STREAMS], os: &[u16; STREAMS]) -> bool
     ensures { λ r. ⌜ r ≡ pairTwice availability (now (ts .entry)) (now (os .entry)) ⌝ }
 {
-    // As slices, which tell the length that the arrays' types have.
+    // As slices: their length is then known, from the arrays' types.
     let ts: &[u16] = ts;
     let os: &[u16] = os;
     if !some_alike(availability, ts) {

@@ -24,7 +24,7 @@ use setting_bytes::TS_ID;
 ghost use mathlib.Core.Path.{_≡_};
 ghost use Rattle.setting_bytes.specs.Settings.{announcedOf, settingOf};
 
-// What bytes say that a header announces; of any other length than 80, what zeros say.
+// What a header announces, from its 80 bytes. Bytes of another length count as zeros.
 pub fn announced_of(bytes: &[u8]) -> Announced
     ensures { λ r. ⌜ r ≡ announcedOf (now (bytes .entry)) ⌝ }
 {
@@ -59,7 +59,7 @@ pub fn announced_of(bytes: &[u8]) -> Announced
     }
 }
 
-// What bytes say as a setting; of any other length than 252, zeros.
+// A setting from its 252 bytes. Bytes of another length count as zeros.
 pub fn setting_of(bytes: &[u8]) -> Setting
     ensures { λ r. ⌜ r ≡ settingOf (now (bytes .entry)) ⌝ }
 {

@@ -4,9 +4,9 @@ use setting::limits;
 ghost use mathlib.Core.Path.{_≡_};
 ghost use Rattle.setting.specs.Rules.{someUnavailable};
 
-// Whether a slot has the number of an unavailable stream. A number above the last is no stream's. Of the others each has its
-// bit, and 0, which is no stream's either, that above stream 1's: it is one. It does not stop early, so that many slots are compared
-// at a time.
+// Whether a slot has the number of an unavailable stream. A number above 15 is no stream's. For the others `allowed` has a bit each: bit
+// 15 - r for number r. Bit 15, that of number 0, is always set: a slot may carry no stream. The loop goes through all slots and does not stop
+// early, since the compiler then compares many at a time.
 pub fn has_unavailable(availability: u16, numbers: &[u8]) -> bool
     ensures { λ r. ⌜ r ≡ someUnavailable availability (now (numbers .entry)) ⌝ }
 {

@@ -67,7 +67,7 @@ pub fn absent_refusal(
     }
 }
 
-// Its private data a plain header has, so none are asked for.
+// A plain header has private data, so they are not asked about.
 fn plain_absent_refusal(
     auxiliary: &[u8],
     group_id: u8,
