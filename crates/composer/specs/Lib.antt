@@ -1,6 +1,4 @@
--- Frames: what composing one answers and leaves.
--- A composer's state as bytes.
--- The composer for callers in other languages: its state as bytes, and its calls over them.
+-- The composer: its slots, its state, its state's bytes, and what each call answers and leaves.
 pub mod Slots
 pub mod Composing
 pub mod States

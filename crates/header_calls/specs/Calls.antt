@@ -1,4 +1,4 @@
--- What each exported call answers and leaves: the header's own call under the coding of settings and kinds.
+-- What each call answers and leaves, over the bytes that it is lent.
 use Prim.Native.Nat.{ℕ}
 use mathlib.Core.Bool.{cond, not}
 use mathlib.Core.List.{List, [], _∷_}

@@ -1,2 +1,2 @@
--- The header for callers in other languages: its calls over settings as bytes.
+-- The calls that write and read a header: what they answer and leave.
 pub mod Calls

@@ -23,7 +23,7 @@ counterStep from to = (to + 2 ^ 8 - from) % 2 ^ 8 % 2 ^ 4
 abbrev pub row : Event → Stage → Row
 row event stage = record { event = event; stage = stage }
 
--- the rows of an open frame with k packets stored. A good header comes with its counter
+-- the rows of an open frame with counter `from` and k packets stored; `to` is the counter of a good header
 unfoldable pub openRow : ℕ → ℕ → Sort → ℕ → Row
 openRow from k good to =
     cond (eqb k lastSlot && eqb (counterStep from to) 1)

@@ -1,7 +1,4 @@
--- What a header of J.183 says.
--- Refusals by number, in the table's order.
--- What a setting has to obey.
--- What of a header decides on the next header's version.
+-- A setting: its parts, the rules with their refusal numbers, and what decides on the next header's version.
 pub mod Setting
 pub mod Refusal
 pub mod Rules

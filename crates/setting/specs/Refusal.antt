@@ -19,6 +19,6 @@ pub data NoneHolds : List Check → Type 0 where
   none : NoneHolds []
   more : {n : ℕ} {b : Bool} {cs : List Check} → b ≡ false → NoneHolds cs → NoneHolds ((n, b) ∷ cs)
 
--- memory of which a call that is not refused makes something new
+-- what a call leaves of lent memory: something new where it is not refused, else what was there
 unfoldable pub leaves : ℕ → List ℕ → List ℕ → List ℕ
 leaves refusal new old = cond (eqb refusal 0) new old

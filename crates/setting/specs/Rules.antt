@@ -11,7 +11,7 @@ use Rattle.setting.specs.declared.Setting.{Setting}
 use Rattle.counters.specs.Counters.{lastStream, firstPosition, within, available}
 use Rattle.setting.specs.Refusal.{Check}
 
--- what a plain and an extended header have in its place
+-- one thing for a plain header, another for an extended one
 abbrev pub byKind : {A : Type 0} → Kind → A → A → A
 byKind Kind.Plain p e = p
 byKind Kind.Extended p e = e
