@@ -17,13 +17,13 @@ use Rattle.setting.specs.Refusal.{Check, NoneHolds, none, more, firstOf}
 use Rattle.setting.specs.Rules.{ruleChecks}
 use Rattle.setting.proofs.Refusals.{first-none, none-at, none-append, none-before, none-behind}
 use Rattle.header_layout.specs.Header.{reading, packetChecks}
-use Rattle.packet.specs.Packets.{packetLength, frameLength, slot, unfit}
+use Rattle.packet.specs.Packets.{packetLength, frameLength, slot, unfit, someUnfitIn}
 use Rattle.bond_group.specs.declared.Bond.{Bond}
 use Rattle.bond_group.specs.declared.headers.Shown.{Shown}
 use Rattle.bond_places.specs.Order.{Rising, comesBefore, picked, sorted, framePackets}
 use Rattle.bond_group.specs.Group.{framesIn, packetsIn, said, carries, bonded, bondedSlot, placeIn, earlier, order}
 use Rattle.bond_group.specs.Standing.{shownBy, before, isEnd, standingChecks, callChecks, headerChecks, headersChecks, groupChecks, planChecks, someCarries}
-use Rattle.bond.specs.Bonding.{someUnfitIn, spreadChecks, gatherChecks, spreadOver, gathered, spreadRefusal, spreadOf, spreadGroup, gatherRefusal, gatherOf, gatherBuffer}
+use Rattle.bond.specs.Bonding.{spreadChecks, gatherChecks, spreadOver, gathered, spreadRefusal, spreadOf, spreadGroup, gatherRefusal, gatherOf, gatherBuffer}
 use Rattle.bond_group.specs.Plan.{planAfter}
 use Rattle.bond.specs.Demands.{WellFormed, Fitting, ComesBack, InThisOrder, NothingElse, OrderHolds, RefusedByTable}
 use Rattle.bond.specs.Listing.{Within}

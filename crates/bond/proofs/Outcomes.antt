@@ -11,13 +11,13 @@ use lib.ListN.{length, getD}
 use Rattle.slices.specs.Slices.{copied}
 use Rattle.setting.specs.Refusal.{Check, NoneHolds, firstOf}
 use Rattle.setting.proofs.Refusals.{answers, passed, onward, at-once, none-first, none-at, none-before, none-behind}
-use Rattle.packet.specs.Packets.{packetLength}
+use Rattle.packet.specs.Packets.{packetLength, someUnfitIn}
 use Rattle.bond_group.specs.declared.Bond.{Bond}
 use Rattle.bond_group.specs.declared.headers.Plan.{Plan}
 use Rattle.bond_group.specs.declared.headers.Planned.{Planned}
 use Rattle.bond_group.specs.Group.{framesIn, order}
 use Rattle.bond_group.specs.Standing.{callChecks, groupChecks, planChecks, someCarries}
-use Rattle.bond.specs.Bonding.{someUnfitIn, spreadChecks, gatherChecks, spreadOver, gathered, spreadRefusal, spreadOf, spreadGroup, gatherRefusal, gatherOf, gatherBuffer}
+use Rattle.bond.specs.Bonding.{spreadChecks, gatherChecks, spreadOver, gathered, spreadRefusal, spreadOf, spreadGroup, gatherRefusal, gatherOf, gatherBuffer}
 use Rattle.bond_places.specs.Order.{framePackets}
 use Rattle.bond_places.specs.Walk.{mostFrames, framesBefore, isMarked, Walkable}
 use Rattle.bond.specs.Listing.{Within, placesFrom, Listable}

@@ -1,20 +1,16 @@
 -- What spreading and gathering answer, and what they leave.
-use Prim.Native.Nat.{ℕ, _*_, _/_, _%_}
-use mathlib.Core.Bool.{Bool, cond, not}
+use Prim.Native.Nat.{ℕ, _*_, _%_}
+use mathlib.Core.Bool.{cond, not}
 use mathlib.Core.List.{List, [], _∷_, _++_}
 use lib.Dec.{ltb, eqb}
 use lib.ListN.{length, take, drop}
-use Rattle.slices.specs.Slices.{copied, over, anyBelow}
+use Rattle.slices.specs.Slices.{copied, over}
 use Rattle.setting.specs.Refusal.{Check, firstOf}
-use Rattle.packet.specs.Packets.{packetLength, slot, unfit}
+use Rattle.packet.specs.Packets.{packetLength, slot, someUnfitIn}
 use Rattle.bond_group.specs.declared.Bond.{Bond}
 use Rattle.bond.specs.declared.Moved.{Moved}
 use Rattle.bond_group.specs.Group.{order}
 use Rattle.bond_group.specs.Standing.{planChecks, someCarries}
-
--- whether some packet of a stream lacks 0x47 or bears the header PID
-unfoldable pub someUnfitIn : ℕ → List ℕ → Bool
-someUnfitIn pid stream = anyBelow (length stream / packetLength) (λ k. unfit pid (slot k stream))
 
 -- what a spread asks: 1 of the stream, all that is asked of the group, then 13, 15 and 12
 unfoldable pub spreadChecks : Bond → List ℕ → List ℕ → List Check

@@ -7,24 +7,7 @@ ghost use Prim.Native.Nat.{_*_, _%_};
 ghost use lib.Dec.{ltb, eqb};
 ghost use lib.ListN.{length};
 ghost use Rattle.setting.specs.Refusal.{firstOf};
-ghost use Rattle.packet.specs.Packets.{packetLength};
-ghost use Rattle.bond.specs.Bonding.{someUnfitIn};
-
-// 12: whether some packet of the stream lacks 0x47 or bears the header PID.
-fn has_unfit(stream: &[u8], pid: u16) -> bool
-    ensures { λ r. ⌜ r ≡ someUnfitIn pid (now (stream .entry)) ⌝ }
-{
-    let count = stream.len() / PACKET_BYTES;
-    let mut k = 0;
-    while k < count {
-        let at = PACKET_BYTES * k;
-        if packet::place_refusal(&stream[at..at + PACKET_BYTES], pid) != 0 {
-            return true;
-        }
-        k += 1;
-    }
-    false
-}
+ghost use Rattle.packet.specs.Packets.{packetLength, someUnfitIn};
 
 // 13, 15, 12: the stream by the plan.
 pub(crate) fn spread_refusal(is_carried: bool, packets: usize, stream: &[u8], pid: u16) -> u8
@@ -37,7 +20,7 @@ pub(crate) fn spread_refusal(is_carried: bool, packets: usize, stream: &[u8], pi
     if stream.len() / PACKET_BYTES != packets {
         return 15;
     }
-    if has_unfit(stream, pid) {
+    if packet::has_unfit(stream, pid) {
         return 12;
     }
     0

@@ -1,6 +1,7 @@
 pub mod Answers
 pub mod Passed
 pub mod Refusals
+pub mod Slots
 pub mod Parts
 pub mod Same
 pub mod There

@@ -1,26 +1,25 @@
 -- On the bytes of a state each call is the composer's own. Assumes nothing.
 use Prim.Native.Nat.{ℕ, zero, suc}
-use mathlib.Core.Path.{_≡_, refl, ap, _∙_}
+use mathlib.Core.Path.{_≡_, refl, sym, _∙_}
 use mathlib.Core.Bool.{Bool, true, false, cond}
 use mathlib.Core.List.{List, [], _∷_, _++_, map}
 use native.Mathlib.Omega.{arith}
 use borrow.Author.Tests.{eq-eqb}
 use lib.Dec.{eqb, lit<}
 use lib.Pow.{pow-pos}
-use lib.ListN.{length, drop, replicate, length-append, length-map}
+use lib.ListN.{length, replicate, length-append, length-map}
 use Rattle.bits.specs.Fields.{Fit, none, more}
 use Rattle.setting.specs.Refusal.{leaves}
-use Rattle.packet.specs.Packets.{packetLength}
-use Rattle.setting.specs.declared.Setting.{Setting}
 use Rattle.setting.specs.Setting.{blank, OfItsTypes as SettingOfItsTypes}
 use Rattle.setting_bytes.specs.Settings.{settingLength, announcedBytes, settingBytes, announcedLength}
 use Rattle.setting_bytes.proofs.Parts.{length-announced}
 use Rattle.setting_bytes.proofs.Back.{long, length-setting, setting-back}
 use Rattle.setting.specs.Announcing.{announced}
-use Rattle.composer.specs.Slots.{takes, marksAfter}
-use Rattle.composer.specs.Composing.{Composer, opened, marked, closedWith, closed, answer, beginRefusal, beginOf, begunFrame, putRefusal, putOf, putFrame, closeRefusal, closeOf, closedFrame}
+use Rattle.composer.specs.Slots.{marksAfter}
+use Rattle.composer.specs.Composing.{Composer, opened, marked, closedWith, closed, answer, beginRefusal, beginOf, putRefusal, putOf, closeRefusal, closeOf}
 use Rattle.composer.specs.States.{composerLength, markByte, composerBytes, composerOf, OfItsTypes}
 use Rattle.composer.proofs.Parts.{frontBytes, length-front}
+use Rattle.composer.proofs.Slots.{length-after}
 use Rattle.composer.specs.Calls.{beginRefused, beginState, beginMemory, putRefused, putPlaced, putState, putMemory, closeRefused, closeState, closeMemory}
 use Rattle.composer.specs.Demands.{OnBytes, TypesKept, CallsOnBytes}
 use Rattle.composer.proofs.Coding.{state-back}
@@ -50,19 +49,6 @@ length-composer c t =
       length-append s m,
       length-front c,
     ) (omega arith)
-
--- as many marks as before
-marks-long : (r : ℕ) (plan : List ℕ) (marks : List Bool) (stream : List ℕ) → length (marksAfter r plan marks stream) ≡ length marks
-unfolding marksAfter
-marks-long r [] ms stream = refl
-marks-long r (n ∷ ns) [] stream = refl
-marks-long r (n ∷ ns) (m ∷ ms) stream =
-    either (takes r n m (length stream)) _ _ (marks-long r ns ms (drop packetLength stream)) (marks-long r ns ms stream)
-  where
-    either : (b : Bool) (taken passed : List Bool) → length taken ≡ length ms → length passed ≡ length ms
-        → length (cond b (true ∷ taken) (m ∷ passed)) ≡ suc (length ms)
-    either true _ _ e f = ap suc e
-    either false _ _ e f = ap suc f
 
 -- zeros fit
 zeros-fit : (w n : ℕ) → Fit w (replicate n 0)
@@ -121,7 +107,7 @@ module _ (c : Composer) (t : OfItsTypes c) where
               network-id = t .network-id;
               statuses = t .statuses;
               setting = t .setting;
-              marks = marks-long r (c .setting .«relative_ts_number») (c .filled) stream ∙ t .marks;
+              marks = length-after r (c .setting .«relative_ts_number») (c .filled) stream (t .setting .numbers .0 ∙ sym (t .marks)) ∙ t .marks;
             })
             t;
         closed = λ lent.

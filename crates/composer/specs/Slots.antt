@@ -1,12 +1,12 @@
 -- The slots of a frame, one after another: emptied, filled from a stream, and numbered.
-use Prim.Native.Nat.{ℕ, zero, suc, _+_}
+use Prim.Native.Nat.{ℕ, zero, suc, _*_, _/_}
 use mathlib.Core.Bool.{Bool, true, false, cond, not, _&&_, _||_}
-use mathlib.Core.List.{List, [], _∷_, _++_}
-use lib.Dec.{leb, eqb}
+use mathlib.Core.List.{List, [], _∷_, _++_, zipWith}
+use lib.Dec.{eqb}
 use lib.ListN.{length, getD, take, drop}
 use Rattle.slices.specs.Slices.{anyBelow}
 use Rattle.counters.specs.Counters.{lastSlot}
-use Rattle.packet.specs.Packets.{packetLength, nullPacket, unfit}
+use Rattle.packet.specs.Packets.{packetLength, nullPacket, someUnfitIn}
 
 -- n null packets, one behind the other
 unfoldable pub nulls : ℕ → List ℕ
@@ -17,51 +17,53 @@ nulls (suc n) = nullPacket ++ nulls n
 unfoldable pub cleared : List ℕ → List ℕ
 cleared frame = take packetLength frame ++ nulls lastSlot
 
--- whether a slot takes the next packet of stream r: it is planned for r, still empty, and a packet is left
-abbrev pub takes : ℕ → ℕ → Bool → ℕ → Bool
-takes r planned filled left = eqb planned r && (not filled && leb packetLength left)
+-- ---- put for stream r. A set of slots is a list with an entry for each slot, slot 1 first: true where the slot is in the set
 
--- what `put` for stream r leaves: the slots are gone through in rising order, with the plan and the filled marks from the first
--- of them on, what is left of the stream, and the slots' bytes
-unfoldable pub slotsAfter : ℕ → List ℕ → List Bool → List ℕ → List ℕ → List ℕ
-slotsAfter r [] ms stream bytes = bytes
-slotsAfter r (n ∷ ns) [] stream bytes = bytes
-slotsAfter r (n ∷ ns) (m ∷ ms) stream bytes =
-    cond (takes r n m (length stream))
-    (take packetLength stream ++ slotsAfter r ns ms (drop packetLength stream) (drop packetLength bytes))
-    (take packetLength bytes ++ slotsAfter r ns ms stream (drop packetLength bytes))
+-- the still empty slots planned for r
+unfoldable pub emptyFor : ℕ → List ℕ → List Bool → List Bool
+emptyFor r plan marks = zipWith (λ (n : ℕ) (m : Bool). eqb n r && not m) plan marks
 
-unfoldable pub marksAfter : ℕ → List ℕ → List Bool → List ℕ → List Bool
-marksAfter r [] ms stream = ms
-marksAfter r (n ∷ ns) [] stream = []
-marksAfter r (n ∷ ns) (m ∷ ms) stream =
-    cond (takes r n m (length stream)) (true ∷ marksAfter r ns ms (drop packetLength stream)) (m ∷ marksAfter r ns ms stream)
+-- the first n slots of a set
+unfoldable pub firsts : ℕ → List Bool → List Bool
+firsts n [] = []
+firsts n (false ∷ bs) = false ∷ firsts n bs
+firsts zero (true ∷ bs) = false ∷ firsts zero bs
+firsts (suc n) (true ∷ bs) = true ∷ firsts n bs
 
-unfoldable pub restAfter : ℕ → List ℕ → List Bool → List ℕ → List ℕ
-restAfter r [] ms stream = stream
-restAfter r (n ∷ ns) [] stream = stream
-restAfter r (n ∷ ns) (m ∷ ms) stream =
-    cond (takes r n m (length stream)) (restAfter r ns ms (drop packetLength stream)) (restAfter r ns ms stream)
+-- how many slots a set has
+unfoldable pub howMany : List Bool → ℕ
+howMany [] = 0
+howMany (false ∷ bs) = howMany bs
+howMany (true ∷ bs) = suc (howMany bs)
 
--- how many packets are placed
+-- of the empty slots those that a stream fills: one for each of its packets, in rising order, until slots or packets run out
+unfoldable pub filledBy : List ℕ → List Bool → List Bool
+filledBy stream empty = firsts (length stream / packetLength) empty
+
+-- the number placed
 unfoldable pub placedBy : ℕ → List ℕ → List Bool → List ℕ → ℕ
-placedBy r [] ms stream = 0
-placedBy r (n ∷ ns) [] stream = 0
-placedBy r (n ∷ ns) (m ∷ ms) stream =
-    cond (takes r n m (length stream)) (1 + placedBy r ns ms (drop packetLength stream)) (placedBy r ns ms stream)
+placedBy r plan marks stream = howMany (filledBy stream (emptyFor r plan marks))
 
--- whether a packet that would be placed is unfit
+-- whether one of the packets placed is unfit
 unfoldable pub someUnfit : ℕ → ℕ → List ℕ → List Bool → List ℕ → Bool
-someUnfit pid r [] ms stream = false
-someUnfit pid r (n ∷ ns) [] stream = false
-someUnfit pid r (n ∷ ns) (m ∷ ms) stream =
-    cond (takes r n m (length stream))
-    (unfit pid (take packetLength stream) || someUnfit pid r ns ms (drop packetLength stream))
-    (someUnfit pid r ns ms stream)
+someUnfit pid r plan marks stream = someUnfitIn pid (take (packetLength * placedBy r plan marks stream) stream)
 
--- the whole frame, slot 0 as it was
+-- the filled marks afterwards: filled before, or by this put
+unfoldable pub marksAfter : ℕ → List ℕ → List Bool → List ℕ → List Bool
+marksAfter r plan marks stream = zipWith _||_ marks (filledBy stream (emptyFor r plan marks))
+
+-- the slots of a set filled with the packets of a stream, from its front and one after another; the others stay as they are
+unfoldable pub slotsWith : List Bool → List ℕ → List ℕ → List ℕ
+slotsWith [] stream slots = slots
+slotsWith (false ∷ bs) stream slots = take packetLength slots ++ slotsWith bs stream (drop packetLength slots)
+slotsWith (true ∷ bs) stream slots =
+    take packetLength stream ++ slotsWith bs (drop packetLength stream) (drop packetLength slots)
+
+-- the frame afterwards. The false is for slot 0, the header, which a put does not fill
 unfoldable pub frameAfter : ℕ → List ℕ → List Bool → List ℕ → List ℕ → List ℕ
-frameAfter r plan marks stream frame = take packetLength frame ++ slotsAfter r plan marks stream (drop packetLength frame)
+frameAfter r plan marks stream frame = slotsWith (false ∷ filledBy stream (emptyFor r plan marks)) stream frame
+
+-- ---- the marks and the plan
 
 -- whether a slot that is planned for no stream is marked filled
 unfoldable pub someUnplanned : List ℕ → List Bool → Bool

@@ -1,6 +1,3 @@
-mod Bits
 pub mod Passed
 mod Placed
 mod Placing
-mod Rest
-mod Walk

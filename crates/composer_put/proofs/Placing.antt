@@ -1,189 +1,193 @@
--- A frame into which a stream is being placed, from one still empty slot to the next: what the loop needs that does it. Assumes
--- nothing.
+-- A frame into which a stream is being placed, slot after slot: what the loop needs that does it. Assumes nothing.
 use Prim.Native.Nat.{ℕ, zero, suc, _+_, _-_, _*_, _/_, _^_, _≤_, _<_}
-use mathlib.Core.Path.{_≡_, refl, sym, ap, ap₂, subst, _∙_}
-use mathlib.Core.Bool.{Bool, true, false, not, cond, _&&_, and-assoc, and-false}
+use mathlib.Core.Path.{_≡_, refl, sym, ap, ap₂, _∙_}
+use mathlib.Core.Bool.{Bool, true, false, _||_, or-true, or-false}
 use mathlib.Core.Logic.{_⊎_, inl, inr, ⊎-elim}
-use mathlib.Core.List.{List, [], _∷_, map}
+use mathlib.Core.List.{List, [], _∷_, _++_, map, zipWith, append-assoc}
+use native.Mathlib.Numerals.{add-one}
 use native.Mathlib.Omega.{arith}
-use borrow.Author.Tests.{le-leb, lt-leb}
 use lib.Count.{trailingZeros}
-use lib.Dec.{eqb, leb}
-use lib.ListN.{length, getD, take, drop, set, length-drop, length-map, List·getD-map}
-use lib.Seq.{drop-drop, length-take-le}
-use Rattle.slices.specs.Slices.{someAtLeast}
+use lib.Dec.{eqb}
+use lib.ListN.{length, take, drop, set, replicate, length-append, length-drop, length-map, take-append-drop}
+use lib.Seq.{take-at, drop-at, take-add, drop-drop, length-take-le}
 use Rattle.slices.proofs.Front.{put}
-use Rattle.slices.proofs.Toward.{Toward, toward-none, toward-more, toward-kept, toward-same, toward-part, toward-all}
 use Rattle.counters.specs.Counters.{lastSlot}
-use Rattle.packet.specs.Packets.{packetLength, frameLength}
-use Rattle.composer.specs.Slots.{takes, frameAfter, slotsAfter, marksAfter, restAfter}
+use Rattle.packet.specs.Packets.{packetLength, restOf}
+use Rattle.composer.specs.Slots.{firsts, howMany, filledBy, slotsWith}
 use Rattle.composer.specs.States.{markByte, marksOf}
-use Rattle.composer.proofs.Same.{marks-same}
-use Rattle.composer_put.specs.Bits.{emptySlots}
-use Rattle.slot_bits.proofs.NextBit.{lowest, next}
-use Rattle.composer_put.proofs.Bits.{emptyAt, bit-from, bits-none}
-use Rattle.composer_put.proofs.Walk.{rest-from, marks-from, slots-from, rest-none, marks-none, slots-none}
+use Rattle.slot_bits.specs.Bits.{slotBits}
+use Rattle.slot_bits.proofs.NextBit.{First, first}
 
--- from an element on
-map-drop : {A B : Type 0} (f : A → B) (k : ℕ) (xs : List A) → map f (drop k xs) ≡ drop k (map f xs)
-map-drop f zero xs = refl
-map-drop f (suc k) [] = refl
-map-drop f (suc k) (x ∷ xs) = map-drop f k xs
+-- ---- slots of which the first t are passed over
 
-module _ (r : ℕ) (plan : List ℕ) (bytes₀ : List ℕ) (stream frame₀ : List ℕ) where
-  -- the marks before the call
-  abbrev marks₀ : List Bool
-  marks₀ = marksOf bytes₀
+abbrev passing : ℕ → List Bool → List Bool
+passing t bs = replicate t false ++ bs
 
-  -- i slots were gone through, `at` bytes of the stream were placed, and m has the bits of the slots that are left
-  pub record Placing (frame bytes : List ℕ) (i at m : ℕ) : Type 0 where
-    pub slots : Toward
-        (frameAfter r plan marks₀ stream frame₀)
-        frame₀
-        frame
-        (slotsAfter r (drop i plan) (drop i marks₀) (drop at stream) (drop (packetLength * (i + 1)) frame₀))
-        (packetLength * (i + 1))
-    pub filled : Toward
-        (map markByte (marksAfter r plan marks₀ stream))
-        bytes₀
-        bytes
-        (map markByte (marksAfter r (drop i plan) (drop i marks₀) (drop at stream)))
-        i
-    pub rest : restAfter r plan marks₀ stream ≡ restAfter r (drop i plan) (drop i marks₀) (drop at stream)
-    pub left : m ≡ emptySlots r (drop i plan) (drop i marks₀)
+firsts-pass : (n t : ℕ) (bs : List Bool) → firsts n (passing t bs) ≡ passing t (firsts n bs)
+unfolding firsts
+firsts-pass n zero bs = refl
+firsts-pass n (suc t) bs = ap (λ (l : List Bool). false ∷ l) (firsts-pass n t bs)
 
-  -- everything is placed that can be
-  pub record AllPlaced (frame bytes : List ℕ) (at : ℕ) : Type 0 where
-    pub frame-is : frame ≡ frameAfter r plan marks₀ stream frame₀
-    pub marks-are : bytes ≡ map markByte (marksAfter r plan marks₀ stream)
-    pub rest-is : drop at stream ≡ restAfter r plan marks₀ stream
+many-pass : (t : ℕ) (bs : List Bool) → howMany (passing t bs) ≡ howMany bs
+unfolding howMany
+many-pass zero bs = refl
+many-pass (suc t) bs = many-pass t bs
 
-  -- slot j is the next that is still empty, and n has the bits from it on
-  pub record Next (frame bytes : List ℕ) (at j n : ℕ) : Type 0 where
-    pub placing : Placing frame bytes j at n
-    pub inside : j < lastSlot
-    pub here : emptyAt r plan marks₀ j ≡ true
+slots-pass : (t : ℕ) (bs : List Bool) (stream slots : List ℕ)
+    → slotsWith (passing t bs) stream slots ≡ take (packetLength * t) slots ++ slotsWith bs stream (drop (packetLength * t) slots)
+unfolding slotsWith
+slots-pass zero bs stream slots = refl
+slots-pass (suc t) bs stream slots =
+    let more : packetLength + packetLength * t ≡ packetLength * suc t = omega arith in
+    ap (λ (l : List ℕ). take packetLength slots ++ l) (slots-pass t bs stream (drop packetLength slots))
+    ∙ sym (append-assoc (take packetLength slots) (take (packetLength * t) (drop packetLength slots)) _)
+    ∙ ap₂ (λ (x y : List ℕ). x ++ slotsWith bs stream y) (sym (take-add packetLength (packetLength * t) slots)) (drop-drop (packetLength * t) packetLength slots)
+    ∙ ap (λ (n : ℕ). take n slots ++ slotsWith bs stream (drop n slots)) more
 
-  module _ (low : someAtLeast 2 bytes₀ ≡ false) (plan-long : length plan ≡ lastSlot) (marks-long : length bytes₀ ≡ lastSlot) (frame-long : length frame₀ ≡ frameLength) where
-    pub placing-none : {m : ℕ} → m ≡ emptySlots r plan marks₀ → Placing frame₀ bytes₀ 0 0 m
-    unfolding frameAfter
-    placing-none e =
-        record {
-          slots = toward-kept (toward-none frame₀ (frameAfter r plan marks₀ stream frame₀)) packetLength refl refl (omega arith);
-          filled = toward-none bytes₀ (map markByte (marksAfter r plan marks₀ stream));
-          rest = refl;
-          left = e;
-        }
+-- the next one takes packet p: once it is there, the slot is one of those that stay
+slots-one : (t : ℕ) (later : List Bool) (stream slots p : List ℕ) (k : ℕ) → k ≡ packetLength → length p ≡ packetLength → packetLength * t ≤ length slots
+    → p ≡ take packetLength stream
+    → slotsWith (passing t (false ∷ later)) (drop packetLength stream) (put (packetLength * t) k slots p) ≡ slotsWith (passing t (true ∷ later)) stream slots
+unfolding slotsWith
+slots-one t later stream slots p k l long h e =
+    let at = packetLength * t in
+    let front = length-take-le at slots h in
+    let behind = p ++ drop k (drop at slots) in
+    slots-pass t (false ∷ later) (drop packetLength stream) (put at k slots p)
+    ∙ ap₂ (λ (x y : List ℕ). x ++ (take packetLength y ++ slotsWith later (drop packetLength stream) (drop packetLength y)))
+    (take-at (take at slots) behind at front) (drop-at (take at slots) behind at front)
+    ∙ ap₂ (λ (x y : List ℕ). take at slots ++ (x ++ slotsWith later (drop packetLength stream) y))
+    (take-at p _ packetLength long ∙ e) (drop-at p _ packetLength long ∙ ap (λ (n : ℕ). drop n (drop at slots)) l)
+    ∙ sym (slots-pass t (true ∷ later) stream slots)
 
-    module _ {frame bytes : List ℕ} {i at m : ℕ} (p : Placing frame bytes i at m) (inside : i < lastSlot) where
-      h : i < length plan
-      h = rw plan-long inside
+-- all of them
+slots-over : (n : ℕ) (stream slots : List ℕ) → slotsWith (replicate n false) stream slots ≡ slots
+unfolding slotsWith
+slots-over zero stream slots = refl
+slots-over (suc n) stream slots =
+    ap (λ (l : List ℕ). take packetLength slots ++ l) (slots-over n stream (drop packetLength slots)) ∙ take-append-drop packetLength slots
 
-      g′ : i < length bytes₀
-      g′ = rw marks-long inside
+-- none is left, or no packet
+none-left : (n : ℕ) (bs : List Bool) → (slotBits bs ≡ 0) ⊎ (n ≡ 0) → firsts n bs ≡ replicate (length bs) false
+unfolding firsts slotBits
+none-left n [] none = refl
+none-left n (false ∷ bs) none = ap (λ (l : List Bool). false ∷ l) (none-left n bs (⊎-elim (λ z. inl (omega arith)) (λ z. inr z) none))
+none-left zero (true ∷ bs) none = ap (λ (l : List Bool). false ∷ l) (none-left zero bs (inr refl))
+none-left (suc n) (true ∷ bs) none = absurd (⊎-elim (λ z. omega arith) (λ z. omega arith) none)
 
-      g : i < length marks₀
-      g = rw (length-map bytes₀ (λ (n : ℕ). eqb n 1)) g′
+-- ---- the marks
 
-      -- a mark that stays
-      as-it-was : markByte (getD marks₀ i false) ≡ getD bytes₀ i 0
-      unfolding markByte
-      as-it-was = sym (List·getD-map markByte marks₀ i false) ∙ ap (λ (l : List ℕ). getD l i 0) (marks-same bytes₀ low)
+set-map : {A B : Type 0} (f : A → B) (xs : List A) (i : ℕ) (x : A) → map f (set xs i x) ≡ set (map f xs) i (f x)
+set-map f [] i x = refl
+set-map f (y ∷ ys) zero x = refl
+set-map f (y ∷ ys) (suc i) x = ap (λ (l : List _). f y ∷ l) (set-map f ys i x)
 
-      abbrev takesIt : Bool
-      takesIt = takes r (getD plan i 0) (getD marks₀ i false) (length stream - at)
+-- a slot that is marked is one of those that stay
+marks-one : (t : ℕ) (later ms : List Bool) → zipWith _||_ (set ms t true) (passing t (false ∷ later)) ≡ zipWith _||_ ms (passing t (true ∷ later))
+unfolding zipWith
+marks-one t later [] = refl
+marks-one zero later (m ∷ ms) = ap (λ (b : Bool). b ∷ zipWith _||_ ms later) (sym (or-true m))
+marks-one (suc t) later (m ∷ ms) = ap (λ (l : List Bool). (m || false) ∷ l) (marks-one t later ms)
 
-      -- it takes a packet where it is still empty and one is left
-      takes-by : {t u : Bool} → emptyAt r plan marks₀ i ≡ t → leb packetLength (length stream - at) ≡ u → takesIt ≡ t && u
-      takes-by e f = sym (and-assoc (eqb (getD plan i 0) r) (not (getD marks₀ i false)) (leb packetLength (length stream - at))) ∙ ap₂ _&&_ e f
+marks-over : (ms : List Bool) (n : ℕ) → length ms ≡ n → zipWith _||_ ms (replicate n false) ≡ ms
+unfolding zipWith
+marks-over [] n l = refl
+marks-over (m ∷ ms) zero l = absurd (omega arith)
+marks-over (m ∷ ms) (suc n) l = ap₂ (λ (b : Bool) (r : List Bool). b ∷ r) (or-false m) (marks-over ms n (omega arith))
 
-      behind : drop packetLength (drop (packetLength * (i + 1)) frame₀) ≡ drop (packetLength * (i + 1 + 1)) frame₀
-      behind =
-          let e : packetLength * (i + 1) + packetLength ≡ packetLength * (i + 1 + 1) = omega arith in
-          drop-drop packetLength (packetLength * (i + 1)) frame₀ ∙ ap (λ (k : ℕ). drop k frame₀) e
+-- bytes that are marks stay so
+pub mark-more : (bytes : List ℕ) (i : ℕ) → map markByte (marksOf bytes) ≡ bytes → map markByte (marksOf (set bytes i 1)) ≡ set bytes i 1
+unfolding markByte
+mark-more bytes i e =
+    ap (map markByte) (set-map (λ (b : ℕ). eqb b 1) bytes i 1) ∙ set-map markByte (marksOf bytes) i true ∙ ap (λ (l : List ℕ). set l i 1) e
 
-      -- the bits, of which slot i's is the lowest
-      bits : m ≡ cond (emptyAt r plan marks₀ i) 1 0 + 2 * emptySlots r (drop (i + 1) plan) (drop (i + 1) marks₀)
-      bits = p .left ∙ bit-from r plan marks₀ i h g refl
+-- ---- the loop
 
-      bits-behind : m / 2 ≡ emptySlots r (drop (i + 1) plan) (drop (i + 1) marks₀)
-      bits-behind = ap (λ (n : ℕ). n / 2) bits ∙ lowest (emptyAt r plan marks₀ i) (emptySlots r (drop (i + 1) plan) (drop (i + 1) marks₀)) .1
+module _ (empty : List Bool) (stream frame₀ bytes₀ : List ℕ) where
+  -- `now` is left of the stream, and m has the slots that are left: what follows makes of the frame and the marks as they are what the
+  -- whole makes of them as they were
+  pub record Placing (frame bytes now : List ℕ) (m : ℕ) : Type 0 where
+    pub left : List Bool
+    pub long : length left ≡ lastSlot
+    pub bits : m ≡ slotBits left
+    pub frame-is : slotsWith (false ∷ filledBy now left) now frame ≡ slotsWith (false ∷ filledBy stream empty) stream frame₀
+    pub marks-are : zipWith _||_ (marksOf bytes) (filledBy now left) ≡ zipWith _||_ (marksOf bytes₀) (filledBy stream empty)
+    pub rest-is : restOf now (howMany (filledBy now left)) ≡ restOf stream (howMany (filledBy stream empty))
 
-      -- a slot that took a packet, which was lent k bytes for it
-      pub placing-placed : emptyAt r plan marks₀ i ≡ true → packetLength ≤ length stream - at → (k : ℕ) → k ≡ packetLength → (ys : List ℕ)
-          → ys ≡ take packetLength (drop at stream)
-          → Placing (put (packetLength * (i + 1)) k frame ys) (set bytes i 1) (i + 1) (at + packetLength) (m / 2)
-      unfolding markByte
-      placing-placed here left k l ys y =
-          let e = takes-by here (le-leb packetLength (length stream - at) left) in
-          let bytes = drop (packetLength * (i + 1)) frame₀ in
-          record {
-            slots =
-                toward-part (p .slots) ys k
-                (slots-from plan marks₀ i h g r stream at e bytes ∙ rw (y, behind) refl)
-                (ap length y ∙ length-take-le packetLength (drop at stream) (rw length-drop (omega arith)) ∙ sym l)
-                (omega arith);
-            filled = toward-more (p .filled) 1 (ap (map markByte) (marks-from plan marks₀ i h g r stream at e)) g′;
-            rest = p .rest ∙ rest-from plan marks₀ i h g r stream at e;
-            left = bits-behind;
-          }
+  pub placing-none : length empty ≡ lastSlot → {m : ℕ} → m ≡ slotBits empty → Placing frame₀ bytes₀ stream m
+  placing-none l e = record { left = empty; long = l; bits = e; frame-is = refl; marks-are = refl; rest-is = refl }
 
-      -- a slot that took none
-      placing-passed : takesIt ≡ false → Placing frame bytes (i + 1) at (m / 2)
-      placing-passed e =
-          let bytes = drop (packetLength * (i + 1)) frame₀ in
-          record {
-            slots = toward-kept (p .slots) packetLength (slots-from plan marks₀ i h g r stream at e bytes ∙ rw behind refl) (omega arith) (omega arith);
-            filled = toward-same (p .filled) 0 (ap (map markByte) (marks-from plan marks₀ i h g r stream at e) ∙ ap (λ (b : ℕ). b ∷ map markByte (marksAfter r (drop (i + 1) plan) (drop (i + 1) marks₀) (drop at stream))) as-it-was) g′;
-            rest = p .rest ∙ rest-from plan marks₀ i h g r stream at e;
-            left = bits-behind;
-          }
+  module _ {frame bytes now : List ℕ} {m : ℕ} (p : Placing frame bytes now m) where
+    -- a packet is placed in the first slot that is left
+    module _ (some : m ≡ 0 → ⊥) (room : packetLength ≤ length now) where
+      abbrev t : ℕ
+      t = trailingZeros 64 m
 
-      -- nothing can be placed any more: no slot is left, or no packet
-      abbrev None : Type 0
-      None = (m ≡ 0) ⊎ (length stream - at < packetLength)
+      next : First (p .left) t
+      next = rw (p .bits) (first 64 (p .left) (omega (arith, p .long)) (λ z. some (p .bits ∙ z)))
 
-      none-here : m ≡ 0 → emptyAt r plan marks₀ i ≡ false
-      none-here z = by-bit (emptyAt r plan marks₀ i) bits
-        where
-          by-bit : (t : Bool) → m ≡ cond t 1 0 + 2 * emptySlots r (drop (i + 1) plan) (drop (i + 1) marks₀) → t ≡ false
-          by-bit true e = absurd (omega arith)
-          by-bit false e = refl
+      abbrev n : ℕ
+      n = length (drop packetLength now) / packetLength
 
-      none-taken : None → takesIt ≡ false
-      none-taken none =
-          ⊎-elim
-          (λ z. takes-by (none-here z) refl)
-          (λ l. takes-by refl (lt-leb packetLength (length stream - at) l) ∙ and-false (emptyAt r plan marks₀ i))
-          none
+      one : length now / packetLength ≡ suc n
+      one = omega (arith, length-drop packetLength now)
 
-    -- it stands behind as many slots as the bits have zeros below
-    pub placing-next : (k : ℕ) {frame bytes : List ℕ} {i at m : ℕ} → lastSlot ≤ i + k → Placing frame bytes i at m → (m ≡ 0 → ⊥)
-        → {j : ℕ} → i + trailingZeros k m ≡ j → Next frame bytes at j (m / 2 ^ trailingZeros k m)
-    placing-next k {frame} {bytes} {i} {at} {m} h p some {j} e =
-        let left : ℕ → ℕ = λ l. emptySlots r (drop l plan) (drop l marks₀) in
-        let x =
-        next lastSlot (emptyAt r plan marks₀) left
-        (λ l g. bit-from r plan marks₀ l (omega arith) (rw (length-map bytes₀ (λ (n : ℕ). eqb n 1)) (omega arith)) refl)
-        (λ l g. bits-none r plan marks₀ l (omega arith))
-        (λ l. Placing frame bytes l at (left l))
-        (λ l g d q. subst (Placing frame bytes (l + 1) at) (bits-behind q g) (placing-passed q g (takes-by q g d refl)))
-        k h (subst (Placing frame bytes i at) (p .left) p) (p .left) some e in
-        record { placing = subst (Placing frame bytes j at) (sym (x .rest)) (x .here); inside = x .inside; here = x .is-told }
+      before : filledBy now (p .left) ≡ passing t (true ∷ firsts n (next .later))
+      unfolding firsts filledBy
+      before = ap₂ firsts one (next .slots) ∙ firsts-pass (suc n) t (true ∷ next .later)
 
-    -- all others are passed over when nothing can be placed any more
-    pub placing-over : (k : ℕ) {frame bytes : List ℕ} {i at m : ℕ} → i + k ≡ lastSlot → Placing frame bytes i at m
-        → (m ≡ 0) ⊎ (length stream - at < packetLength) → AllPlaced frame bytes at
-    unfolding markByte
-    placing-over zero {i = i} {at = at} e p none =
-        let all : length plan ≤ i = omega arith in
-        record {
-          frame-is = toward-all (p .slots) (sym (slots-none r plan (drop i marks₀) (drop at stream) i all (drop (packetLength * (i + 1)) frame₀)));
-          marks-are =
-              toward-all (p .filled)
-              (sym (ap (map markByte) (marks-none r plan (drop i marks₀) (drop at stream) i all) ∙ map-drop markByte i marks₀ ∙ ap (drop i) (marks-same bytes₀ low)));
-          rest-is = sym (p .rest ∙ rest-none r plan (drop i marks₀) (drop at stream) i all);
-        }
-    placing-over (suc k) {i = i} e p none =
-        let inside : i < lastSlot = omega arith in
-        placing-over k (omega arith) (placing-passed p inside (none-taken p inside none)) (⊎-elim (λ z. inl (omega arith)) (λ l. inr l) none)
+      behind : filledBy (drop packetLength now) (passing t (false ∷ next .later)) ≡ passing t (false ∷ firsts n (next .later))
+      unfolding firsts filledBy
+      behind = firsts-pass n t (false ∷ next .later)
+
+      pub placing-more : (k : ℕ) → k ≡ packetLength → (ys : List ℕ) → ys ≡ take packetLength now → packetLength * (t + 1) ≤ length frame
+          → Placing (put (packetLength * (t + 1)) k frame ys) (set bytes t 1) (drop packetLength now) (m - 2 ^ t)
+      unfolding restOf howMany
+      placing-more k l ys y inside =
+          let later = firsts n (next .later) in
+          let many = howMany later in
+          let whole = ap length y ∙ length-take-le packetLength now room in
+          let same : packetLength + packetLength * many ≡ packetLength * suc many = omega arith in
+          rw (add-one t)
+          (record {
+            left = passing t (false ∷ next .later);
+            long =
+                length-append (replicate t false) (false ∷ next .later) ∙ sym (length-append (replicate t false) (true ∷ next .later))
+                ∙ sym (ap length (next .slots)) ∙ p .long;
+            bits = omega (arith, p .bits, next .bits);
+            frame-is =
+                ap (λ (bs : List Bool). slotsWith (false ∷ bs) (drop packetLength now) (put (packetLength * suc t) k frame ys)) behind
+                ∙ slots-one (suc t) later now frame ys k l whole (omega arith) y
+                ∙ ap (λ (bs : List Bool). slotsWith (false ∷ bs) now frame) (sym before) ∙ p .frame-is;
+            marks-are =
+                ap₂ (zipWith _||_) (set-map (λ (b : ℕ). eqb b 1) bytes t 1) behind ∙ marks-one t later (marksOf bytes)
+                ∙ ap (zipWith _||_ (marksOf bytes)) (sym before) ∙ p .marks-are;
+            rest-is =
+                ap (λ (bs : List Bool). drop (packetLength * howMany bs) (drop packetLength now)) behind
+                ∙ ap (λ (i : ℕ). drop (packetLength * i) (drop packetLength now)) (many-pass t (false ∷ later))
+                ∙ drop-drop (packetLength * many) packetLength now ∙ ap (λ (i : ℕ). drop i now) same
+                ∙ ap (λ (i : ℕ). drop (packetLength * i) now) (sym (many-pass t (true ∷ later)))
+                ∙ ap (λ (bs : List Bool). drop (packetLength * howMany bs) now) (sym before) ∙ p .rest-is;
+          })
+
+    -- nothing is left to place
+    module _ (none : (m ≡ 0) ⊎ (length now < packetLength)) where
+      over : filledBy now (p .left) ≡ replicate lastSlot false
+      unfolding filledBy
+      over =
+          none-left (length now / packetLength) (p .left) (⊎-elim (λ z. inl (sym (p .bits) ∙ z)) (λ h. inr (omega arith)) none)
+          ∙ ap (λ (i : ℕ). replicate i false) (p .long)
+
+      pub frame-done : frame ≡ slotsWith (false ∷ filledBy stream empty) stream frame₀
+      frame-done =
+          sym (slots-over (suc lastSlot) now frame) ∙ ap (λ (bs : List Bool). slotsWith (false ∷ bs) now frame) (sym over) ∙ p .frame-is
+
+      pub marks-done : length bytes ≡ lastSlot → map markByte (marksOf bytes) ≡ bytes → bytes ≡ map markByte (zipWith _||_ (marksOf bytes₀) (filledBy stream empty))
+      marks-done l low =
+          sym low
+          ∙ ap (map markByte)
+          (sym (marks-over (marksOf bytes) lastSlot (length-map bytes (λ (b : ℕ). eqb b 1) ∙ l)) ∙ ap (zipWith _||_ (marksOf bytes)) (sym over) ∙ p .marks-are)
+
+      pub rest-done : now ≡ restOf stream (howMany (filledBy stream empty))
+      unfolding restOf howMany
+      rest-done = ap (λ (bs : List Bool). drop (packetLength * howMany bs) now) (sym over) ∙ p .rest-is

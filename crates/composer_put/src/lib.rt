@@ -6,8 +6,8 @@ use composer::COMPOSER_BYTES;
 use composer::FILLED;
 use composer::PLAN;
 use counters::RelativeNumber;
-use packet::PACKET_BYTES;
 use counters::SLOTS;
+use packet::PACKET_BYTES;
 ghost use mathlib.Core.Path.{_≡_};
 ghost use Rattle.composer.specs.Calls.{putRefused, putPlaced, putState, putMemory};
 

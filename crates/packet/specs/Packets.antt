@@ -1,9 +1,10 @@
 -- Packets of 188 bytes, of which a frame has a header and one for each slot.
-use Prim.Native.Nat.{ℕ, _+_, _*_}
+use Prim.Native.Nat.{ℕ, _+_, _*_, _/_}
 use mathlib.Core.Bool.{Bool, not, _||_}
 use mathlib.Core.List.{List, [], _∷_}
 use lib.Dec.{eqb}
 use lib.ListN.{length, take, drop, replicate}
+use Rattle.slices.specs.Slices.{anyBelow}
 use Rattle.counters.specs.Counters.{lastSlot}
 use Rattle.setting.specs.Refusal.{firstOf}
 use Rattle.header_layout.specs.Layout.{syncByte, Field}
@@ -31,6 +32,10 @@ unfit pid p = not (eqb (startValue p Field.sync-byte) syncByte) || eqb (startVal
 -- 1: it has not 188 bytes; 12: it is unfit; 0: it may stand in a slot
 unfoldable pub placeRefusal : ℕ → List ℕ → ℕ
 placeRefusal pid p = firstOf ((1, not (eqb (length p) packetLength)) ∷ (12, unfit pid p) ∷ [])
+
+-- whether one of a stream's whole packets is unfit
+unfoldable pub someUnfitIn : ℕ → List ℕ → Bool
+someUnfitIn pid stream = anyBelow (length stream / packetLength) (λ k. unfit pid (slot k stream))
 
 -- the rest of a lent stream of which so many packets were placed
 unfoldable pub restOf : List ℕ → ℕ → List ℕ

@@ -1,7 +1,7 @@
 // Packets of 188 bytes: whether one may stand in a slot, and what is left of a stream of them.
 use counters::SLOTS;
 ghost use mathlib.Core.Path.{_≡_};
-ghost use Rattle.packet.specs.Packets.{placeRefusal, restOf};
+ghost use Rattle.packet.specs.Packets.{placeRefusal, someUnfitIn, restOf};
 ghost use lib.ListN.{length};
 
 pub const PACKET_BYTES: usize = 188;
@@ -22,6 +22,22 @@ pub fn place_refusal(packet: &[u8], pid: u16) -> u8
         return 12;
     }
     0
+}
+
+// Whether one of a stream's whole packets lacks 0x47 or bears the header PID.
+pub fn has_unfit(stream: &[u8], pid: u16) -> bool
+    ensures { λ r. ⌜ r ≡ someUnfitIn pid (now (stream .entry)) ⌝ }
+{
+    let count = stream.len() / PACKET_BYTES;
+    let mut k = 0;
+    while k < count {
+        let at = PACKET_BYTES * k;
+        if place_refusal(&stream[at..at + PACKET_BYTES], pid) != 0 {
+            return true;
+        }
+        k += 1;
+    }
+    false
 }
 
 // What is left of a lent stream of which so many packets were placed.

@@ -1,8 +1,8 @@
 -- A run that is not refused: one frame after another with the same setting, each with one packet placed. Assumes nothing.
 use Prim.Native.Nat.{ℕ, zero, suc, _+_, _*_, _%_, _^_, _<_}
 use mathlib.Core.Path.{_≡_, refl, sym, ap, ap₂, subst, _∙_}
-use mathlib.Core.Bool.{Bool, true, false, not, _&&_, _||_, decide}
-use mathlib.Core.List.{List, [], _∷_, _++_}
+use mathlib.Core.Bool.{Bool, true, false, not, _&&_, decide}
+use mathlib.Core.List.{List, [], _∷_, _++_, zipWith}
 use native.Mathlib.Omega.{arith}
 use borrow.Author.Tests.{lt-leb}
 use lib.Dec.{lit<, eqb}
@@ -20,8 +20,8 @@ use Rattle.setting.proofs.Checked.{width-none, rule-none}
 use Rattle.setting.proofs.Fields.{fit-some}
 use Rattle.header_layout.specs.Rows.{place, rowAt}
 use Rattle.header_layout.specs.Layout.{startTable, rowWith}
-use Rattle.packet.specs.Packets.{packetLength, frameLength, unfit}
-use Rattle.composer.specs.Slots.{marksAfter, someUnfit, someUnplanned}
+use Rattle.packet.specs.Packets.{packetLength, frameLength, slot, unfit, someUnfitIn}
+use Rattle.composer.specs.Slots.{emptyFor, firsts, howMany, filledBy, placedBy, someUnfit, marksAfter, someUnplanned}
 use Rattle.setting.specs.Announcing.{announced, differ, announcedChecks}
 use Rattle.composer.specs.Composing.{Composer, fresh, opened, marked, nextCounter, nextVersion, closedWith, closed, asked, inTurn, stateChecks, openRuleChecks, markChecks, openChecks, streamChecks, beginRefusal, putRefusal, closeRefusal}
 use Rattle.composer.proofs.Refusals.{ask-all, ask-none}
@@ -99,25 +99,14 @@ unplanned-none : someUnplanned plan noMarks ≡ false
 unfolding someUnplanned anyBelow
 unplanned-none = refl
 
--- slots that are planned for none are passed over
-zero-marks : (n : ℕ) (stream : List ℕ) → marksAfter 1 (replicate n 0) (replicate n false) stream ≡ replicate n false
-unfolding marksAfter
-zero-marks zero stream = refl
-zero-marks (suc n) stream = ap (λ (ms : List Bool). false ∷ ms) (zero-marks n stream)
-
-zero-fit : (n : ℕ) (stream : List ℕ) → someUnfit thePid 1 (replicate n 0) (replicate n false) stream ≡ false
-unfolding someUnfit
-zero-fit zero stream = refl
-zero-fit (suc n) stream = zero-fit n stream
-
 pub zero-numbers : (n : ℕ) (lent : ℕ → List ℕ) → numbersFilled (replicate n 0) lent ≡ replicate n 0
 unfolding numbersFilled
 zero-numbers zero lent = refl
 zero-numbers (suc n) lent = ap (λ (ns : List ℕ). 0 ∷ ns) (zero-numbers n lent)
 
 pub put-marks : marksAfter 1 plan noMarks thePacket ≡ true ∷ replicate 51 false
-unfolding marksAfter thePacket
-put-marks = ap (λ (ms : List Bool). true ∷ ms) (zero-marks 51 [])
+unfolding marksAfter filledBy firsts emptyFor zipWith thePacket
+put-marks = refl
 
 unplanned-one : someUnplanned plan (true ∷ replicate 51 false) ≡ false
 unfolding someUnplanned anyBelow
@@ -128,8 +117,8 @@ unfolding thePacket unfit startTable rowWith decide rowAt place cut run bitsOf n
 fit-packet = refl
 
 all-fit : someUnfit thePid 1 plan noMarks thePacket ≡ false
-unfolding someUnfit thePacket
-all-fit = ap₂ _||_ fit-packet (zero-fit 51 [])
+unfolding someUnfit someUnfitIn anyBelow slot placedBy howMany filledBy firsts emptyFor zipWith thePacket
+all-fit = fit-packet
 
 -- ---- what is not refused
 

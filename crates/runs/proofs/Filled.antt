@@ -1,17 +1,19 @@
 -- What a put adds to the slots of a frame: they carry what was lent for each stream, one packet behind the other. Assumes nothing.
-use Prim.Native.Nat.{ℕ, _+_, _%_, _≤_, _<_}
+use Prim.Native.Nat.{ℕ, suc, _+_, _*_, _%_, _≤_, _<_}
 use mathlib.Core.Path.{_≡_, refl, sym, ap, ap₂, subst, _∙_}
-use mathlib.Core.Bool.{Bool, true, false, cond, not, _&&_, _||_}
-use mathlib.Core.List.{List, [], _∷_, _++_}
+use mathlib.Core.Bool.{Bool, true, false, cond, not, _&&_, _||_, and-false, or-false}
+use mathlib.Core.List.{List, [], _∷_, _++_, zipWith}
 use native.Mathlib.Omega.{arith}
 use native.Mathlib.Decide.{ℕ-discrete, decLe}
 use borrow.Author.Tests.{eq-eqb, ne-eqb, le-leb, lt-leb}
 use lib.Dec.{leb, eqb}
 use lib.ListN.{length, take, drop, length-append, length-drop}
-use lib.Seq.{take-at, drop-at, take-append-le, drop-append-le, length-take-le}
+use lib.Seq.{take-at, drop-at, take-add, take-append-le, drop-append-le, length-take-le}
 use Rattle.slices.proofs.Any.{neither}
-use Rattle.packet.specs.Packets.{packetLength, nullPacket, unfit}
-use Rattle.composer.specs.Slots.{takes, slotsAfter, marksAfter, someUnfit}
+use Rattle.packet.specs.Packets.{packetLength, nullPacket, unfit, someUnfitIn}
+use Rattle.packet.proofs.Fit.{unfit-first}
+use Rattle.composer.specs.Slots.{emptyFor, firsts, howMany, filledBy, placedBy, someUnfit, marksAfter, slotsWith}
+use Rattle.composer.proofs.Slots.{filled-other, filled-late, filled-one}
 use Rattle.runs.specs.Work.{added, carries, taken, slotsFilled, numbersFilled}
 
 -- which slots carry a packet, and whether one of those packets is unfit
@@ -90,36 +92,6 @@ pub length-null : length nullPacket ≡ packetLength
 unfolding nullPacket
 length-null = refl
 
-module _ (r n : ℕ) (ns : List ℕ) (m : Bool) (ms : List Bool) (stream p bytes : List ℕ) (l : length p ≡ packetLength) where
-  -- one that keeps its packet
-  slots-kept : takes r n m (length stream) ≡ false → slotsAfter r (n ∷ ns) (m ∷ ms) stream (p ++ bytes) ≡ p ++ slotsAfter r ns ms stream bytes
-  unfolding slotsAfter
-  slots-kept e = rw (e, take-at p bytes packetLength l, drop-at p bytes packetLength l)
-
-  -- one that takes the stream's next
-  slots-taken : takes r n m (length stream) ≡ true
-      → slotsAfter r (n ∷ ns) (m ∷ ms) stream (p ++ bytes) ≡ take packetLength stream ++ slotsAfter r ns ms (drop packetLength stream) bytes
-  unfolding slotsAfter
-  slots-taken e = rw (e, drop-at p bytes packetLength l)
-
-module _ (r n : ℕ) (ns : List ℕ) (m : Bool) (ms : List Bool) (stream : List ℕ) where
-  marks-kept : takes r n m (length stream) ≡ false → marksAfter r (n ∷ ns) (m ∷ ms) stream ≡ m ∷ marksAfter r ns ms stream
-  unfolding marksAfter
-  marks-kept e = rw e
-
-  marks-taken : takes r n m (length stream) ≡ true → marksAfter r (n ∷ ns) (m ∷ ms) stream ≡ true ∷ marksAfter r ns ms (drop packetLength stream)
-  unfolding marksAfter
-  marks-taken e = rw e
-
-  unfit-kept : (pid : ℕ) → takes r n m (length stream) ≡ false → someUnfit pid r (n ∷ ns) (m ∷ ms) stream ≡ someUnfit pid r ns ms stream
-  unfolding someUnfit
-  unfit-kept pid e = rw e
-
-  unfit-taken : (pid : ℕ) → takes r n m (length stream) ≡ true
-      → someUnfit pid r (n ∷ ns) (m ∷ ms) stream ≡ unfit pid (take packetLength stream) || someUnfit pid r ns ms (drop packetLength stream)
-  unfolding someUnfit
-  unfit-taken pid e = rw e
-
 -- a slot's packet, number and mark by what is lent, and whether the packets from it on are fit
 pub record Slot (pid n : ℕ) (ns : List ℕ) (lent : ℕ → List ℕ) (p : List ℕ) (number : ℕ) (mark : Bool) (rest : ℕ → List ℕ) (bad : Bool) : Type 0 where
   pub slots : slotsFilled (n ∷ ns) lent ≡ p ++ slotsFilled ns rest
@@ -158,46 +130,57 @@ carried-as pid n ns lent p rest d h e f =
 -- what a put for stream r leaves is what the slots carry with the stream added; where the packets before and those placed are fit,
 -- so are those that are carried then
 pub record Added (pid r : ℕ) (plan : List ℕ) (lent : ℕ → List ℕ) (stream : List ℕ) : Type 0 where
-  pub slots : slotsAfter r plan (marksFilled plan lent) stream (slotsFilled plan lent) ≡ slotsFilled plan (added r stream lent)
+  pub slots : slotsWith (filledBy stream (emptyFor r plan (marksFilled plan lent))) stream (slotsFilled plan lent) ≡ slotsFilled plan (added r stream lent)
   pub marks : marksAfter r plan (marksFilled plan lent) stream ≡ marksFilled plan (added r stream lent)
   pub fit : unfitFilled pid plan lent ≡ false → someUnfit pid r plan (marksFilled plan lent) stream ≡ false
       → unfitFilled pid plan (added r stream lent) ≡ false
 
 module _ (pid r n : ℕ) (ns : List ℕ) (lent : ℕ → List ℕ) (stream : List ℕ) where
+  -- a slot that the put does not fill
   kept : (p : List ℕ) (k : ℕ) (m : Bool) (rest : ℕ → List ℕ) (bad : Bool) → Slot pid n ns lent p k m rest bad
-      → Slot pid n ns (added r stream lent) p k m (added r stream rest) bad → takes r n m (length stream) ≡ false
+      → Slot pid n ns (added r stream lent) p k m (added r stream rest) bad
+      → filledBy stream (emptyFor r (n ∷ ns) (m ∷ marksFilled ns rest)) ≡ false ∷ filledBy stream (emptyFor r ns (marksFilled ns rest))
       → Added pid r ns rest stream → Added pid r (n ∷ ns) lent stream
+  unfolding slotsWith marksAfter zipWith someUnfit placedBy howMany
   kept p k m rest bad b a e ih =
+      let fs = filledBy stream (emptyFor r ns (marksFilled ns rest)) in
+      let filled = ap (λ (ms : List Bool). filledBy stream (emptyFor r (n ∷ ns) ms)) (b .marks) ∙ e in
       record {
         slots =
-            ap₂ (λ (ms : List Bool) (l : List ℕ). slotsAfter r (n ∷ ns) ms stream l) (b .marks) (b .slots)
-            ∙ slots-kept r n ns m (marksFilled ns rest) stream p (slotsFilled ns rest) (b .long) e
+            ap₂ (λ (bs : List Bool) (l : List ℕ). slotsWith bs stream l) filled (b .slots)
+            ∙ ap₂ (λ (x y : List ℕ). x ++ slotsWith fs stream y) (take-at p (slotsFilled ns rest) packetLength (b .long)) (drop-at p (slotsFilled ns rest) packetLength (b .long))
             ∙ ap (λ (l : List ℕ). p ++ l) (ih .slots) ∙ sym (a .slots);
-        marks =
-            ap (λ (ms : List Bool). marksAfter r (n ∷ ns) ms stream) (b .marks)
-            ∙ marks-kept r n ns m (marksFilled ns rest) stream e ∙ ap (λ (ms : List Bool). m ∷ ms) (ih .marks) ∙ sym (a .marks);
+        marks = ap₂ (zipWith _||_) (b .marks) filled ∙ ap₂ (λ (x : Bool) (ms : List Bool). x ∷ ms) (or-false m) (ih .marks) ∙ sym (a .marks);
         fit = λ u s.
             let before = neither bad (unfitFilled pid ns rest) (sym (b .unfits) ∙ u) in
-            let placed = sym (ap (λ (ms : List Bool). someUnfit pid r (n ∷ ns) ms stream) (b .marks) ∙ unfit-kept r n ns m (marksFilled ns rest) stream pid e) ∙ s in
+            let placed = sym (ap (λ (bs : List Bool). someUnfitIn pid (take (packetLength * howMany bs) stream)) filled) ∙ s in
             a .unfits ∙ ap₂ _||_ (before .0) (ih .fit (before .1) placed);
       }
 
+  -- one that takes the stream's next packet
   placed : Slot pid n ns lent nullPacket 0 false lent false
       → Slot pid n ns (added r stream lent) (take packetLength stream) n true (added r (drop packetLength stream) lent) (unfit pid (take packetLength stream))
-      → takes r n false (length stream) ≡ true → Added pid r ns lent (drop packetLength stream) → Added pid r (n ∷ ns) lent stream
-  placed b a e ih =
+      → filledBy stream (emptyFor r (n ∷ ns) (false ∷ marksFilled ns lent)) ≡ true ∷ filledBy (drop packetLength stream) (emptyFor r ns (marksFilled ns lent))
+      → packetLength ≤ length stream → Added pid r ns lent (drop packetLength stream) → Added pid r (n ∷ ns) lent stream
+  unfolding slotsWith marksAfter zipWith someUnfit placedBy howMany
+  placed b a e h ih =
+      let rest = drop packetLength stream in
+      let fs = filledBy rest (emptyFor r ns (marksFilled ns lent)) in
+      let filled = ap (λ (ms : List Bool). filledBy stream (emptyFor r (n ∷ ns) ms)) (b .marks) ∙ e in
+      let more : packetLength * suc (howMany fs) ≡ packetLength + packetLength * howMany fs = omega arith in
       record {
         slots =
-            ap₂ (λ (ms : List Bool) (l : List ℕ). slotsAfter r (n ∷ ns) ms stream l) (b .marks) (b .slots)
-            ∙ slots-taken r n ns false (marksFilled ns lent) stream nullPacket (slotsFilled ns lent) (b .long) e
+            ap₂ (λ (bs : List Bool) (l : List ℕ). slotsWith bs stream l) filled (b .slots)
+            ∙ ap (λ (y : List ℕ). take packetLength stream ++ slotsWith fs rest y) (drop-at nullPacket (slotsFilled ns lent) packetLength (b .long))
             ∙ ap (λ (l : List ℕ). take packetLength stream ++ l) (ih .slots) ∙ sym (a .slots);
-        marks =
-            ap (λ (ms : List Bool). marksAfter r (n ∷ ns) ms stream) (b .marks)
-            ∙ marks-taken r n ns false (marksFilled ns lent) stream e ∙ ap (λ (ms : List Bool). true ∷ ms) (ih .marks) ∙ sym (a .marks);
+        marks = ap₂ (zipWith _||_) (b .marks) filled ∙ ap (λ (ms : List Bool). true ∷ ms) (ih .marks) ∙ sym (a .marks);
         fit = λ u s.
-            let now = neither (unfit pid (take packetLength stream)) (someUnfit pid r ns (marksFilled ns lent) (drop packetLength stream))
-            (sym (ap (λ (ms : List Bool). someUnfit pid r (n ∷ ns) ms stream) (b .marks) ∙ unfit-taken r n ns false (marksFilled ns lent) stream pid e) ∙ s) in
-            a .unfits ∙ ap₂ _||_ (now .0) (ih .fit (sym (b .unfits) ∙ u) (now .1));
+            let both =
+            neither (unfit pid (take packetLength stream)) (someUnfitIn pid (take (packetLength * howMany fs) rest))
+            (sym (ap (λ (bs : List Bool). someUnfitIn pid (take (packetLength * howMany bs) stream)) filled
+            ∙ ap (someUnfitIn pid) (ap (λ (k : ℕ). take k stream) more ∙ take-add packetLength (packetLength * howMany fs) stream)
+            ∙ unfit-first pid (take packetLength stream) (take (packetLength * howMany fs) rest) (length-take-le packetLength stream h)) ∙ s) in
+            a .unfits ∙ ap₂ _||_ (both .0) (ih .fit (sym (b .unfits) ∙ u) (both .1));
       }
 
 module _ (pid r n : ℕ) (ns : List ℕ) (lent : ℕ → List ℕ) (stream : List ℕ) (w : EachWhole lent) (v : Whole stream)
@@ -209,14 +192,14 @@ module _ (pid r n : ℕ) (ns : List ℕ) (lent : ℕ → List ℕ) (stream : Lis
       same : added r stream lent n ≡ lent n
       same = rw (ne-eqb n r d)
 
-      untaken : (m : Bool) → takes r n m (length stream) ≡ false
-      untaken m = rw (ne-eqb n r d)
+      untaken : (m : Bool) (ms : List Bool) → filledBy stream (emptyFor r (n ∷ ns) (m ∷ ms)) ≡ false ∷ filledBy stream (emptyFor r ns ms)
+      untaken m ms = filled-other r n ns m ms stream (rw (ne-eqb n r d))
 
       nothing : carries n lent ≡ false → Added pid r (n ∷ ns) lent stream
       nothing e =
           kept pid r n ns lent stream nullPacket 0 false lent false (idle pid n ns lent e)
           (idle pid n ns (added r stream lent) (ap (λ (l : List ℕ). not (eqb n 0) && leb packetLength (length l)) same ∙ e))
-          (untaken false) (ih lent stream w v)
+          (untaken false (marksFilled ns lent)) (ih lent stream w v)
 
       by-number : Dec (n ≡ 0) → Dec (packetLength ≤ length (lent n)) → Added pid r (n ∷ ns) lent stream
       by-number (yes e) q = nothing (rw (eq-eqb n 0 e))
@@ -226,7 +209,7 @@ module _ (pid r n : ℕ) (ns : List ℕ) (lent : ℕ → List ℕ) (stream : Lis
           (carried pid n ns lent z q)
           (carried-as pid n ns (added r stream lent) (take packetLength (lent n)) (added r stream (taken n lent)) z (rw same q)
           (ap (take packetLength) same) (taken-added r n stream lent d))
-          (untaken true) (ih (taken n lent) stream (whole-taken n lent w q) v)
+          (untaken true (marksFilled ns (taken n lent))) (ih (taken n lent) stream (whole-taken n lent w q) v)
 
 module _ (pid r : ℕ) (ns : List ℕ) (lent : ℕ → List ℕ) (stream : List ℕ) (w : EachWhole lent) (v : Whole stream) (z : r ≡ 0 → ⊥)
     (ih : (l : ℕ → List ℕ) (s : List ℕ) → EachWhole l → Whole s → Added pid r ns l s) where
@@ -244,14 +227,14 @@ module _ (pid r : ℕ) (ns : List ℕ) (lent : ℕ → List ℕ) (stream : List 
           (carried-as pid r ns (added r stream lent) (take packetLength (lent r)) (added r stream (taken r lent)) z
           (rw (behind, length-append) (omega arith)) (ap (take packetLength) behind ∙ take-append-le packetLength (lent r) stream q)
           (taken-before r stream lent q))
-          (rw (eq-eqb r r refl)) (ih (taken r lent) stream (whole-taken r lent w q) v)
+          (filled-other r r ns true (marksFilled ns (taken r lent)) stream (and-false (eqb r r))) (ih (taken r lent) stream (whole-taken r lent w q) v)
       by-lent (no q) (yes s) =
           let e = whole-none (lent r) (w r) (omega arith) in
           let all : added r stream lent r ≡ stream = behind ∙ ap (λ (l : List ℕ). l ++ stream) e in
           placed pid r r ns lent stream (idle pid r ns lent (rw (ne-eqb r 0 z, lt-leb packetLength (length (lent r)) (omega arith))))
           (carried-as pid r ns (added r stream lent) (take packetLength stream) (added r (drop packetLength stream) lent) z
           (rw all s) (ap (take packetLength) all) (taken-new r stream lent e))
-          (rw (eq-eqb r r refl, le-leb packetLength (length stream) s))
+          (filled-one r r ns false (marksFilled ns lent) stream (rw (eq-eqb r r refl)) s) s
           (ih lent (drop packetLength stream) w (whole-drop stream v s))
       by-lent (no q) (no s) =
           let e = whole-none (lent r) (w r) (omega arith) in
@@ -259,11 +242,11 @@ module _ (pid r : ℕ) (ns : List ℕ) (lent : ℕ → List ℕ) (stream : List 
           kept pid r r ns lent stream nullPacket 0 false lent false
           (idle pid r ns lent (rw (ne-eqb r 0 z, lt-leb packetLength (length (lent r)) (omega arith))))
           (idle pid r ns (added r stream lent) (rw (ne-eqb r 0 z, behind, e, f)))
-          (rw (eq-eqb r r refl, lt-leb packetLength (length stream) (omega arith))) (ih lent stream w v)
+          (filled-late r r ns false (marksFilled ns lent) stream (omega arith)) (ih lent stream w v)
 
 pub put-adds : (pid r : ℕ) → (r ≡ 0 → ⊥) → (plan : List ℕ) (lent : ℕ → List ℕ) (stream : List ℕ) → EachWhole lent → Whole stream
     → Added pid r plan lent stream
-unfolding slotsAfter marksAfter slotsFilled marksFilled someUnfit unfitFilled
+unfolding slotsWith marksAfter zipWith slotsFilled marksFilled unfitFilled filledBy emptyFor firsts
 put-adds pid r z [] lent stream w v = record { slots = refl; marks = refl; fit = λ u s. u }
 put-adds pid r z (n ∷ ns) lent stream w v = by-number (λ l s. put-adds pid r z ns l s) (ℕ-discrete n r)
   where

@@ -17,7 +17,7 @@ use Rattle.setting.specs.Rules.{widthChecks, ruleChecks}
 use Rattle.header_layout.specs.Header.{header}
 use Rattle.setting.specs.declared.Announced.{Announced}
 use Rattle.packet.specs.Packets.{packetLength, frameLength}
-use Rattle.composer.specs.Slots.{nulls, cleared, slotsAfter, marksAfter, someUnfit, frameAfter}
+use Rattle.composer.specs.Slots.{nulls, cleared, emptyFor, filledBy, someUnfit, marksAfter, slotsWith, frameAfter}
 use Rattle.setting.specs.Announcing.{announced}
 use Rattle.composer.specs.Composing.{Composer, opened, marked, nextCounter, nextVersion, closing, closedWith, closed, answer, beginOf, begunFrame, putOf, putFrame, closeOf, closedFrame, versionBehind}
 use Rattle.composer_begin.proofs.Passed.{begin-passed}
@@ -141,7 +141,7 @@ module _ (kind : Kind) (pid : ℕ) (w : Run) (k : Work) (o : Sound kind pid w k)
         frame = frameAfter r (w .state .setting .«relative_ts_number») (w .state .filled) stream (w .frame);
       })
       (record { setting = k .setting; lent = added r stream (k .lent) })
-  unfolding marked frameAfter
+  unfolding marked frameAfter slotsWith
   after-put stream r p q =
       let plan : w .state .setting .«relative_ts_number» ≡ k .setting .«relative_ts_number» = ap (λ (s : Setting). s .«relative_ts_number») (q .setting-is) in
       let a = put-adds pid r (p .number) (k .setting .«relative_ts_number») (k .lent) stream (o .whole) (p .whole) in
@@ -153,9 +153,9 @@ module _ (kind : Kind) (pid : ℕ) (w : Run) (k : Work) (o : Sound kind pid w k)
           setting-is = q .setting-is;
           marks-are = ap₂ (λ (ns : List ℕ) (ms : List Bool). marksAfter r ns ms stream) plan (q .marks-are) ∙ a .marks;
           slots-are =
-              drop-front (w .frame) (slotsAfter r (w .state .setting .«relative_ts_number») (w .state .filled) stream (drop packetLength (w .frame))) (omega (arith, p .long))
-              ∙ ap₂ (λ (ns : List ℕ) (ms : List Bool). slotsAfter r ns ms stream (drop packetLength (w .frame))) plan (q .marks-are)
-              ∙ ap (slotsAfter r (k .setting .«relative_ts_number») (marksFilled (k .setting .«relative_ts_number») (k .lent)) stream) (q .slots-are)
+              drop-front (w .frame) _ (omega (arith, p .long))
+              ∙ ap₂ (λ (ns : List ℕ) (ms : List Bool). slotsWith (filledBy stream (emptyFor r ns ms)) stream (drop packetLength (w .frame))) plan (q .marks-are)
+              ∙ ap (slotsWith (filledBy stream (emptyFor r (k .setting .«relative_ts_number») (marksFilled (k .setting .«relative_ts_number») (k .lent)))) stream) (q .slots-are)
               ∙ a .slots;
           typed = q .typed;
           fit = a .fit (q .fit)

@@ -1,52 +1,44 @@
--- Slots' bits from the lowest on: how many there are, and the next slot that is told, which stands as many slots behind as the bits have
--- zeros below. Assumes nothing.
-use Prim.Native.Nat.{ℕ, zero, suc, _+_, _*_, _/_, _%_, _^_, _≤_, _<_}
-use mathlib.Core.Path.{_≡_, refl, sym, ap, ap₂, _∙_}
-use mathlib.Core.Bool.{Bool, true, false, cond}
-use native.Mathlib.Nat.{lt-of-not-le, mul-comm, pow-suc, div-div-eq-div-mul}
+-- The lowest bit that is set: the first slot that is told, and the slots without it. Assumes nothing.
+use Prim.Native.Nat.{ℕ, zero, suc, _+_, _*_, _/_, _%_, _^_, _≤_}
+use mathlib.Core.Path.{_≡_, refl, ap}
+use mathlib.Core.Bool.{Bool, true, false}
+use mathlib.Core.List.{List, [], _∷_, _++_}
+use native.Mathlib.Nat.{pow-suc}
 use native.Mathlib.Omega.{arith}
-use lib.Count.{ones, ones-step, under, trailingZeros}
+use lib.Count.{under, trailingZeros}
+use lib.ListN.{length, replicate}
+use Rattle.slot_bits.specs.Bits.{slotBits}
 
--- the lowest of bits, and how many there are with it
-pub lowest : (t : Bool) (above : ℕ) → ((cond t 1 0 + 2 * above) % 2 ≡ cond t 1 0) × ((cond t 1 0 + 2 * above) / 2 ≡ above)
-lowest true above = (omega arith, omega arith)
-lowest false above = (omega arith, omega arith)
+-- slot t of the list, from 0, is the first one told, and `later` are those behind it
+pub record First (bs : List Bool) (t : ℕ) : Type 0 where
+  pub later : List Bool
+  pub slots : bs ≡ replicate t false ++ (true ∷ later)
+  pub bits : slotBits bs ≡ 2 ^ t + slotBits (replicate t false ++ (false ∷ later))
 
-pub ones-from : (t : Bool) (above : ℕ) → ones (cond t 1 0 + 2 * above) ≡ cond t 1 0 + ones above
-ones-from t above = ones-step (cond t 1 0 + 2 * above) ∙ ap₂ (λ (b n : ℕ). b + ones n) (lowest t above .0) (lowest t above .1)
+pub first : (k : ℕ) (bs : List Bool) → length bs ≤ k → (slotBits bs ≡ 0 → ⊥) → First bs (trailingZeros k (slotBits bs))
+unfolding slotBits trailingZeros
+first k [] h some = absurd (some refl)
+first zero (b ∷ bs) h some = absurd (omega arith)
+first (suc k) (true ∷ bs) h some =
+    let odd : (1 + 2 * slotBits bs) % 2 ≡ 1 = omega arith in
+    rw odd (record { later = bs; slots = refl; bits = omega arith })
+first (suc k) (false ∷ bs) h some =
+    let even : (0 + 2 * slotBits bs) % 2 ≡ 0 = omega arith in
+    let half : (0 + 2 * slotBits bs) / 2 ≡ slotBits bs = omega arith in
+    rw (even, half) (behind (first k bs (omega arith) (λ z. some (omega arith))))
+  where
+    behind : {t : ℕ} → First bs t → First (false ∷ bs) (suc t)
+    behind {t} f =
+        record { later = f .later; slots = ap (λ (l : List Bool). false ∷ l) (f .slots); bits = omega (arith, f .bits, pow-suc 2 t) }
 
--- n slots, whether each is told, the bits from each on, and what holds at a slot and goes on over one that is not told
-module _ (n : ℕ) (told : ℕ → Bool) (bits : ℕ → ℕ)
-    (from : (i : ℕ) → i < n → bits i ≡ cond (told i) 1 0 + 2 * bits (i + 1))
-    (none : (i : ℕ) → n ≤ i → bits i ≡ 0)
-    (At : ℕ → Type 0)
-    (pass : (i : ℕ) → i < n → told i ≡ false → At i → At (i + 1)) where
-  -- slot j is told, and m are the bits from it on
-  pub record Next (j m : ℕ) : Type 0 where
-    pub here : At j
-    pub inside : j < n
-    pub is-told : told j ≡ true
-    pub rest : m ≡ bits j
-
-  pub next : (k : ℕ) {i m : ℕ} → n ≤ i + k → At i → m ≡ bits i → (m ≡ 0 → ⊥) → {j : ℕ} → i + trailingZeros k m ≡ j → Next j (m / 2 ^ trailingZeros k m)
-  unfolding trailingZeros
-  next zero {i} h w e some p = absurd (some (e ∙ none i (omega arith)))
-  next (suc k) {i} {m} h w e some {j} p =
-      let inside : i < n = lt-of-not-le (λ g. some (e ∙ none i g)) in
-      by-slot (told i) inside refl (e ∙ from i inside) p (λ g e′ some′ p′. next k (omega arith) g e′ some′ p′)
-    where
-      by-slot : (t : Bool) → i < n → told i ≡ t → m ≡ cond t 1 0 + 2 * bits (i + 1) → i + under (m % 2) (trailingZeros k (m / 2)) ≡ j
-          → (At (i + 1) → m / 2 ≡ bits (i + 1) → (m / 2 ≡ 0 → ⊥) → i + 1 + trailingZeros k (m / 2) ≡ j → Next j (m / 2 / 2 ^ trailingZeros k (m / 2)))
-          → Next j (m / 2 ^ under (m % 2) (trailingZeros k (m / 2)))
-      by-slot true inside d b p later =
-          let odd : m % 2 ≡ 1 = omega arith in
-          let there : i + under 1 (trailingZeros k (m / 2)) ≡ j = rw odd at p in
-          let at-it : i ≡ j = omega arith in
-          let whole : m / 2 ^ 0 ≡ m = omega arith in
-          rw (odd, whole, sym at-it) (record { here = w; inside = inside; is-told = d; rest = e })
-      by-slot false inside d b p later =
-          let even : m % 2 ≡ 0 = omega arith in
-          let t = trailingZeros k (m / 2) in
-          let there : i + under 0 t ≡ j = rw even at p in
-          let less : m / 2 ^ suc t ≡ m / 2 / 2 ^ t = ap (λ (n : ℕ). m / n) (pow-suc 2 t ∙ mul-comm (2 ^ t) 2) ∙ sym (div-div-eq-div-mul m 2 (2 ^ t)) in
-          rw (even, less) (later (pass i inside d w) (omega arith) (λ z. some (omega arith)) (omega arith))
+-- what a number with a bit set is at least
+pub zeros-below : (k n : ℕ) → (n ≡ 0 → ⊥) → 2 ^ trailingZeros k n ≤ n
+unfolding trailingZeros
+zeros-below zero n some = omega arith
+zeros-below (suc k) n some = by-digit (n % 2) refl (zeros-below k (n / 2))
+  where
+    by-digit : (d : ℕ) → n % 2 ≡ d → ((n / 2 ≡ 0 → ⊥) → 2 ^ trailingZeros k (n / 2) ≤ n / 2) → 2 ^ under d (trailingZeros k (n / 2)) ≤ n
+    by-digit zero e later =
+        let half = later (λ z. some (omega arith)) in
+        rw (pow-suc 2 (trailingZeros k (n / 2))) (omega arith)
+    by-digit (suc d) e later = omega arith

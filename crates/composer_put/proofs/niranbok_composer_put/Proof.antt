@@ -7,19 +7,22 @@ use native.Mathlib.Omega.{arith}
 use borrow.Author.Needs.{needs}
 use borrow.Author.Tests.{ne-eqb}
 use denote.Ref.{now}
-use lib.ListN.{length, take}
+use lib.Dec.{eqb}
+use lib.ListN.{length, take, length-map}
 use Rattle.setting.specs.Refusal.{leaves}
 use Rattle.counters.specs.Counters.{lastSlot}
 use Rattle.setting_bytes.specs.Settings.{part}
 use Rattle.setting_bytes.proofs.Parts.{length-part}
-use Rattle.composer.specs.Slots.{placedBy, marksAfter, restAfter, frameAfter}
+use Rattle.packet.specs.Packets.{restOf}
+use Rattle.composer.specs.Slots.{emptyFor, filledBy, placedBy, marksAfter, frameAfter}
 use Rattle.composer.specs.States.{composerLength, markByte, marksOf, isCoded, composerOf}
 use Rattle.composer.proofs.Same.{marked-bytes, marks-low, all-bytes, coded-by-counter}
 use Rattle.composer.proofs.There.{put-end, plan-there, marks-there}
 use Rattle.composer.specs.Calls.{putRefused, putPlaced, putState, putMemory}
 use Rattle.composer.proofs.Calls.{put-refused, put-done}
-use Rattle.composer_put.specs.Bits.{emptySlots}
-use Rattle.composer_put.proofs.Rest.{left-within, counted}
+use Rattle.slot_bits.specs.Bits.{slotBits}
+use Rattle.composer.proofs.Slots.{length-empty}
+use Rattle.composer_put.proofs.Placed.{left-within, counted}
 use Rattle.composer_put.proofs.Passed.{PutPassed, put-passed}
 use Rattle.composer_put.proofs.niranbok_composer_put.Statement.{statement}
 use Rattle.composer_put.proofs.niranbok_composer_put.Tie as tie
@@ -42,21 +45,30 @@ past c = put-passed _ _ _ _ (sym (c .before .put-refusal .ensures) ∙ c .if2 .l
 coded : (c : tie.Else2) → isCoded (start₂ c .args .state .now) ≡ true
 coded c = coded-by-counter (start₂ c .args .state .now) (past c .open-state .counter)
 
--- the still empty slots' bits
-bits : (c : tie.After-empty-slots)
-    → c .empty-slots .result
-    ≡ emptySlots (start₁ (c .before .before .before .before) .args .r) (part 168 52 (start₁ (c .before .before .before .before) .args .state .now))
-    (marksOf (part 338 52 (start₁ (c .before .before .before .before) .args .state .now)))
-bits c = c .empty-slots .ensures .0
+-- the still empty slots, by the plan and the marks in the state's bytes
+abbrev empty : ℕ → List ℕ → List Bool
+empty r state = emptyFor r (part 168 52 state) (marksOf (part 338 52 state))
 
-plan-long : (c : tie.Else2) → length (part 168 52 (start₂ c .args .state .now)) ≡ lastSlot
-plan-long c = length-part 168 52 (start₂ c .args .state .now) (omega (arith, c .before .before .before .before .before .before .before .if1 .left))
+empty-long : (c : tie.Else2) → length (empty (start₂ c .args .r) (start₂ c .args .state .now)) ≡ lastSlot
+empty-long c =
+    let state = start₂ c .args .state .now in
+    let long : length state ≡ composerLength = c .before .before .before .before .before .before .before .if1 .left in
+    let plan = length-part 168 52 state (omega arith) in
+    let marks = length-map (part 338 52 state) (λ (n : ℕ). eqb n 1) ∙ length-part 338 52 state (omega arith) in
+    length-empty (start₂ c .args .r) (part 168 52 state) (marksOf (part 338 52 state)) (plan ∙ sym marks) ∙ plan
+
+-- their bits
+bits : (c : tie.After-empty-slots)
+    → c .empty-slots .result ≡ slotBits (empty (start₁ (c .before .before .before .before) .args .r) (start₁ (c .before .before .before .before) .args .state .now))
+bits c = c .empty-slots .ensures .0
 
 -- what the placing leaves of the stream
 left : (c : tie.After-place)
     → now (c .place .result)
-    ≡ restAfter (start₂ (checked c) .args .r) (part 168 52 (start₂ (checked c) .args .state .now)) (marksOf (part 338 52 (start₂ (checked c) .args .state .now))) (start₂ (checked c) .args .stream .now)
-left c = c .place .ensures .0 _ _ (plan-long (checked c)) (bits (checked c .before .before .before))
+    ≡ restOf (start₂ (checked c) .args .stream .now)
+    (placedBy (start₂ (checked c) .args .r) (part 168 52 (start₂ (checked c) .args .state .now)) (marksOf (part 338 52 (start₂ (checked c) .args .state .now))) (start₂ (checked c) .args .stream .now))
+unfolding placedBy filledBy
+left c = c .place .ensures .0 _ (empty-long (checked c)) (bits (checked c .before .before .before))
 
 returns : tie.Need-returns
 unfolding putRefused putPlaced putState putMemory leaves
@@ -129,6 +141,7 @@ same-length-3 : tie.Need-same-length-3
 same-length-3 c = search needs
 
 returns-3 : tie.Need-returns-3
+unfolding filledBy marksAfter frameAfter
 returns-3 c =
     let p = c .before .before .before .before in
     let k = checked p in
@@ -139,10 +152,10 @@ returns-3 c =
     let slots = bits (k .before .before .before) in
     put-done b (a .r) (a .stream .now) (a .frame .now) long (k .before .put-refusal .ensures) (k .if2 .left)
     (counted _ _ _ _ (left p) ∙ sym (ap₂ (λ (n : List ℕ) (m : List Bool). placedBy (a .r) n m (a .stream .now)) (plan-there b long) (marks-there b)))
-    (put-end 338 52 b _ long ∙ ap (λ (l : List ℕ). take 338 b ++ l) (p .place .ensures .1 .1 _ _ (plan-long k) slots)
+    (put-end 338 52 b _ long ∙ ap (λ (l : List ℕ). take 338 b ++ l) (p .place .ensures .1 .1 _ (empty-long k) slots)
     ∙ sym (marked-bytes b long fit (coded k) _
     ∙ ap₂ (λ (n : List ℕ) (m : List Bool). take 338 b ++ map markByte (marksAfter (a .r) n m (a .stream .now))) (plan-there b long) (marks-there b)))
-    (p .place .ensures .1 .0 _ _ (plan-long k) slots
+    (p .place .ensures .1 .0 _ (empty-long k) slots
     ∙ sym (ap₂ (λ (n : List ℕ) (m : List Bool). frameAfter (a .r) n m (a .stream .now) (a .frame .now)) (plan-there b long) (marks-there b)))
 
 pub niranbok-composer-put-spec : {M : Type 1} → statement M

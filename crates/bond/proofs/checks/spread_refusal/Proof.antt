@@ -10,8 +10,7 @@ use lib.Dec.{eqb}
 use lib.ListN.{length}
 use Rattle.setting.specs.Refusal.{Check, firstOf}
 use Rattle.setting.proofs.Refusals.{Past, answers, passed}
-use Rattle.packet.specs.Packets.{packetLength}
-use Rattle.bond.specs.Bonding.{someUnfitIn}
+use Rattle.packet.specs.Packets.{packetLength, someUnfitIn}
 use Rattle.bond.proofs.checks.spread_refusal.Statement.{statement}
 use Rattle.bond.proofs.checks.spread_refusal.Tie as tie
 

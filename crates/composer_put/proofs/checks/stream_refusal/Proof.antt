@@ -1,22 +1,21 @@
-use Prim.Native.Nat.{ℕ}
+use Prim.Native.Nat.{ℕ, _*_, _/_, min}
 use mathlib.Core.Path.{_≡_, refl, sym, ap, _∙_}
 use mathlib.Core.Bool.{Bool, not}
 use mathlib.Core.List.{List}
-use native.Mathlib.Omega.{arith}
+use native.Mathlib.Nat.{sub-zero}
 use borrow.Author.Needs.{needs}
-use lib.ListN.{length}
-use Rattle.slices.specs.Slices.{anyBelow}
+use lib.Count.{ones}
+use lib.ListN.{length, take}
 use Rattle.counters.specs.Counters.{available}
 use Rattle.setting.specs.Refusal.{Check, firstOf}
 use Rattle.setting.proofs.Refusals.{Past, answers, passed}
-use Rattle.packet.specs.Packets.{slot, unfit}
+use Rattle.packet.specs.Packets.{packetLength, someUnfitIn}
 use Rattle.setting_bytes.specs.Settings.{part}
-use Rattle.composer.specs.Slots.{someUnfit}
+use Rattle.composer.specs.Slots.{placedBy, someUnfit}
 use Rattle.composer.specs.Composing.{streamChecks}
 use Rattle.composer.specs.States.{composerOf, marksOf}
 use Rattle.composer.proofs.There.{plan-there, availability-there}
-use Rattle.composer_put.specs.Bits.{placeable}
-use Rattle.composer_put.proofs.Placed.{placeable-is, placed-is, unfit-is}
+use Rattle.composer_put.proofs.Placed.{placed-is}
 use Rattle.composer_put.proofs.checks.stream_refusal.Statement.{statement}
 use Rattle.composer_put.proofs.checks.stream_refusal.Tie as tie
 
@@ -39,27 +38,30 @@ past-1 : (c : tie.Else1) → Past 1 (rows (start₁ (c .before)))
 unfolding streamChecks
 past-1 c = passed _ _ (ap not (asked (c .before) refl) ∙ c .if1 .left)
 
--- whether a packet is unfit, as it was asked
+-- whether one of the packets that would be placed is unfit, as it was asked
 abbrev start₂ : tie.After-has-unfit → tie.Start
-start₂ c = start₁ (c .before .before .before .before .before .before)
+start₂ c = start₁ (c .before .before .before .before .before .before .before)
 
 unfit-asked : (c : tie.After-has-unfit) {t : Bool} → c .has-unfit .result ≡ t
     → someUnfit (composerOf (start₂ c .args .state .now) .pid) (start₂ c .args .r .0) (composerOf (start₂ c .args .state .now) .setting .«relative_ts_number») (composerOf (start₂ c .args .state .now) .filled) (start₂ c .args .stream .now)
     ≡ t
-unfolding composerOf
+unfolding composerOf someUnfit
 unfit-asked c e =
     let a = start₂ c .args in
+    let plan = part 168 52 (a .state .now) in
     let marks = marksOf (part 338 52 (a .state .now)) in
-    rw (plan-there (a .state .now) (start₂ c .pre .0), sym (c .before .before .word2 .ensures))
-    (unfit-is _ (a .r .0) (part 168 52 (a .state .now)) marks (a .stream .now)
-    ∙ ap (λ (n : ℕ). anyBelow n (λ k. unfit (c .before .before .word2 .result) (slot k (a .stream .now))))
-    (placed-is (a .r .0) (part 168 52 (a .state .now)) marks (a .stream .now) ∙ ap (λ (n : ℕ). placeable n (length (a .stream .now))) (sym (start₂ c .pre .1))
-    ∙ sym (c .before .packets-for .ensures))
+    let call = c .before .before in
+    let packets : placedBy (a .r .0) plan marks (a .stream .now) ≡ call .packets-for .result =
+    placed-is (a .r .0) plan marks (a .stream .now) ∙ ap (λ (n : ℕ). min (length (a .stream .now) / packetLength) (ones n)) (sym (start₂ c .pre .1))
+    ∙ sym (call .packets-for .ensures) in
+    rw (plan-there (a .state .now) (start₂ c .pre .0), sym (call .before .word2 .ensures))
+    (ap (λ (n : ℕ). someUnfitIn (call .before .word2 .result) (take n (a .stream .now)))
+    (ap (λ (n : ℕ). packetLength * n) packets ∙ sym (sub-zero (packetLength * call .packets-for .result)))
     ∙ sym (c .has-unfit .ensures) ∙ e)
 
 past-2 : (c : tie.Else2) → Past 2 (rows (start₂ (c .before)))
 unfolding streamChecks
-past-2 c = past-1 (c .before .before .before .before .before .before) ∙ passed _ _ (unfit-asked (c .before) (c .if2 .left))
+past-2 c = past-1 (c .before .before .before .before .before .before .before) ∙ passed _ _ (unfit-asked (c .before) (c .if2 .left))
 
 shared-slice-read-word : tie.Need-shared-slice-read-word
 shared-slice-read-word c = search needs
@@ -92,14 +94,24 @@ word-requires-2 c κs = search needs
 packets-for-requires : tie.Need-packets-for-requires
 packets-for-requires c κs = search needs
 
+mul-has-unfit : tie.Need-mul-has-unfit
+mul-has-unfit c = search needs
+
+sub-has-unfit : tie.Need-sub-has-unfit
+sub-has-unfit c = search needs
+
+part-has-unfit-start : tie.Need-part-has-unfit-start
+part-has-unfit-start c = search needs
+
+part-has-unfit-end : tie.Need-part-has-unfit-end
+part-has-unfit-end c = search needs
+
 has-unfit-requires : tie.Need-has-unfit-requires
-has-unfit-requires c κs =
-    let a = start₁ (c .before .before .before .before .before) .args in
-    omega (arith, c .packets-for .ensures, placeable-is (a .empty) (length (a .stream .now)))
+has-unfit-requires c κs = search needs
 
 returns-2 : tie.Need-returns-2
 unfolding streamChecks
-returns-2 c = sym (past-1 (c .before .before .before .before .before .before) ∙ answers _ _ (unfit-asked (c .before) (c .if2 .taken)))
+returns-2 c = sym (past-1 (c .before .before .before .before .before .before .before) ∙ answers _ _ (unfit-asked (c .before) (c .if2 .taken)))
 
 returns-3 : tie.Need-returns-3
 unfolding streamChecks firstOf
@@ -119,6 +131,10 @@ stream-refusal-spec =
     shared-slice-read-word-4
     word-requires-2
     packets-for-requires
+    mul-has-unfit
+    sub-has-unfit
+    part-has-unfit-start
+    part-has-unfit-end
     has-unfit-requires
     returns-2
     returns-3)

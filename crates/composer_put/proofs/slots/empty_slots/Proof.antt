@@ -1,5 +1,5 @@
 -- `empty_slots` meets its contract: the shares of the slots before slot i are left. Assumes nothing.
-use Prim.Native.Nat.{ℕ, _+_, _-_, _^_, _≤_, _<_}
+use Prim.Native.Nat.{ℕ, _-_, _^_, _≤_, _<_}
 use mathlib.Core.Path.{_≡_, sym, ap, subst, _∙_}
 use mathlib.Core.Bool.{Bool, false, not, _&&_}
 use mathlib.Core.List.{List}
@@ -11,10 +11,10 @@ use Rattle.counters.specs.Counters.{lastSlot}
 use Rattle.slot_bits.specs.Bits.{slotBits}
 use Rattle.slot_bits.proofs.Sharing.{Sharing, sharing-none, sharing-more, sharing-long, sharing-all}
 use Rattle.slot_bits.proofs.Summing.{slots-low}
+use Rattle.composer.specs.Slots.{emptyFor}
 use Rattle.composer.specs.States.{marksOf}
+use Rattle.composer.proofs.Slots.{length-empty, empty-at}
 use Rattle.composer.proofs.There.{mark-at}
-use Rattle.composer_put.specs.Bits.{emptyFor}
-use Rattle.composer_put.proofs.Bits.{length-empty, empty-there}
 use Rattle.composer_put.proofs.slots.empty_slots.Statement.{statement}
 use Rattle.composer_put.proofs.slots.empty_slots.Tie as tie
 
@@ -38,7 +38,7 @@ asked : (c : tie.Start Inv-loop μ-loop) (i : ℕ) → i < lastSlot
     → getD (told c) i false ≡ eqb (getD (c .args .plan .now) i 0) (c .args .r) && not (eqb (getD (c .args .filled .now) i 0) 1)
 asked c i inside =
     let a = c .args in
-    empty-there (a .r) (a .plan .now) (marksOf (a .filled .now)) i (omega (arith, c .pre .0)) (omega (arith, marks-long c))
+    empty-at (a .r) (a .plan .now) (marksOf (a .filled .now)) i (omega (arith, c .pre .0)) (omega (arith, marks-long c))
     ∙ ap (λ (m : Bool). eqb (getD (a .plan .now) i 0) (a .r) && not m) (mark-at (a .filled .now) i)
 
 loop-holds : tie.Need-loop-holds Inv-loop μ-loop

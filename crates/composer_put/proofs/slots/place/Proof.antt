@@ -1,9 +1,10 @@
--- `place` meets its contract: the slots before slot i were gone through, and the bits are those of the others. Assumes nothing.
-use Prim.Native.Nat.{ℕ, _+_, _-_, _*_, _/_, _^_, _≤_, _<_}
+-- `place` meets its contract: of the slots and of the stream that part is left which was not placed yet. Assumes nothing.
+use Prim.Native.Nat.{ℕ, _+_, _-_, _*_, _%_, _^_, _≤_, _<_}
 use mathlib.Core.Path.{_≡_, refl, sym, ap, _∙_}
 use mathlib.Core.Bool.{Bool, true, false, not, _&&_}
 use mathlib.Core.Logic.{_⊎_, inl, inr, ⊎-elim}
-use mathlib.Core.List.{List}
+use mathlib.Core.List.{List, map}
+use native.Mathlib.Nat.{lt-of-not-le, one-mul}
 use native.Mathlib.Omega.{arith}
 use borrow.Author.Needs.{needs}
 use borrow.Author.Tests.{eqb-true, eqb-false, leb-true, leb-false, not-true}
@@ -11,63 +12,66 @@ use borrow.Rule.Slice.PartMut.{mid-len, same-len-mid}
 use lib.Count.{trailingZeros}
 use lib.Dec.{eqb, leb}
 use lib.ListN.{length, take, drop, length-set, length-drop}
-use lib.Seq.{take-all, length-take-le}
+use lib.Pow.{pow-pos, pow-mono, shl-exact}
+use lib.Seq.{take-all, drop-drop, length-take-le}
 use Rattle.slices.proofs.Any.{both}
 use Rattle.slices.proofs.Front.{copied-over}
 use Rattle.counters.specs.Counters.{lastSlot}
 use Rattle.packet.specs.Packets.{packetLength, frameLength}
-use Rattle.composer.specs.States.{marksOf}
-use Rattle.composer_put.specs.Bits.{emptySlots}
-use Rattle.composer_put.proofs.Bits.{next-below, behind-below}
-use Rattle.composer_put.proofs.Placing.{Placing, AllPlaced, Next, placing-none, placing-placed, placing-next, placing-over}
+use Rattle.composer.specs.States.{markByte, marksOf}
+use Rattle.composer.proofs.Same.{marks-same}
+use Rattle.slot_bits.specs.Bits.{slotBits}
+use Rattle.slot_bits.proofs.NextBit.{zeros-below}
+use Rattle.composer_put.proofs.Placing.{Placing, placing-none, placing-more, frame-done, marks-done, rest-done, mark-more}
 use Rattle.composer_put.proofs.slots.place.Statement.{statement}
 use Rattle.composer_put.proofs.slots.place.Tie as tie
 
--- a stream and a plan whose still empty slots these are
-abbrev Planned : ℕ → List ℕ → ℕ → List ℕ → Type 0
-Planned r plan slots filled = (length plan ≡ lastSlot) × (slots ≡ emptySlots r plan (marksOf filled))
-
 abbrev Inv-loop : tie.InvT-loop
-Inv-loop frame₀ stream filled₀ slots rest₀ i₀ at₀ frame filled rest i at =
-    (i ≤ lastSlot) × (at ≤ length stream) × (length frame ≡ frameLength) × (length filled ≡ lastSlot) × (2 ^ i * rest < 2 ^ lastSlot)
-    × ((r : ℕ) (plan : List ℕ) → Planned r plan slots filled₀ → Placing r plan filled₀ stream frame₀ frame filled i at rest)
+Inv-loop frame₀ stream filled₀ slots rest₀ at₀ frame filled rest at =
+    (at ≤ length stream) × (length frame ≡ frameLength) × (length filled ≡ lastSlot) × (rest < 2 ^ lastSlot) × (map markByte (marksOf filled) ≡ filled)
+    × ((empty : List Bool) → length empty ≡ lastSlot → slots ≡ slotBits empty → Placing empty stream frame₀ filled₀ frame filled (drop at stream) rest)
 
 abbrev μ-loop : tie.MeasureT-loop
-μ-loop frame₀ stream filled₀ slots rest₀ i₀ at₀ frame filled rest i at = lastSlot - i
+μ-loop frame₀ stream filled₀ slots rest₀ at₀ frame filled rest at = rest
 
 -- what the call was given
 abbrev start : tie.At-loop Inv-loop μ-loop → tie.Start Inv-loop μ-loop
 start c = c .before .before .before .before
 
--- a slot and a packet are left
-some : (c : tie.In-loop Inv-loop μ-loop) → c .before .loop .rest ≡ 0 → ⊥
-some c = eqb-false _ _ (not-true _ (both _ _ (c .loop-test .taken) .0))
+module _ (c : tie.In-loop Inv-loop μ-loop) where
+  -- what is left of the stream
+  abbrev now : List ℕ
+  now = drop (c .before .loop .at) (start (c .before) .args .stream .now)
 
-room : (c : tie.In-loop Inv-loop μ-loop) → packetLength ≤ length (start (c .before) .args .stream .now) - c .before .loop .at
-room c = leb-true _ _ (both (not (eqb (c .before .loop .rest) 0)) _ (c .loop-test .taken) .1)
+  -- a slot and a packet are left
+  some : c .before .loop .rest ≡ 0 → ⊥
+  some = eqb-false _ _ (not-true _ (both _ _ (c .loop-test .taken) .0))
 
--- the slots that are passed over, and the next one
-abbrev zeros : tie.In-loop Inv-loop μ-loop → ℕ
-zeros c = trailingZeros 64 (c .before .loop .rest)
+  room : packetLength ≤ length (start (c .before) .args .stream .now) - c .before .loop .at
+  room = leb-true _ _ (both (not (eqb (c .before .loop .rest) 0)) _ (c .loop-test .taken) .1)
 
-abbrev slot : tie.In-loop Inv-loop μ-loop → ℕ
-slot c = c .before .loop .i + zeros c
+  room-now : packetLength ≤ length now
+  room-now = rw length-drop room
 
-inside : (c : tie.In-loop Inv-loop μ-loop) → slot c < lastSlot
-inside c = next-below (c .before .loop .i) (c .before .loop .rest) lastSlot (c .before .loop .inv .4) 64 (some c)
+  -- the first slot that is left, and its bit
+  abbrev slot : ℕ
+  slot = trailingZeros 64 (c .before .loop .rest)
 
-found : (c : tie.In-loop Inv-loop μ-loop) (r : ℕ) (plan : List ℕ)
-    → Planned r plan (start (c .before) .args .slots) (start (c .before) .args .filled .now)
-    → Next r plan (start (c .before) .args .filled .now) (start (c .before) .args .stream .now) (start (c .before) .args .frame .now)
-    (c .before .loop .frame) (c .before .loop .filled) (c .before .loop .at) (slot c) (c .before .loop .rest / 2 ^ zeros c)
-found c r plan p =
-    let k = c .before in
-    let s = start k in
-    placing-next _ _ _ _ _ (s .pre .1 .0) (p .0) (s .pre .0 .1) (s .pre .0 .0) 64 (omega arith) (k .loop .inv .5 r plan p) (some c) refl
+  bit-within : 2 ^ slot ≤ c .before .loop .rest
+  bit-within = zeros-below 64 (c .before .loop .rest) some
 
--- it has its packet
-taken : (c : tie.After-copy Inv-loop μ-loop)
-    → c .copy .last .0 ≡ take packetLength (drop (c .before .before .before .before .loop .at) (start (c .before .before .before .before) .args .stream .now))
+  inside : slot < lastSlot
+  inside =
+      lt-of-not-le
+      (λ g.
+      let past : 2 ^ lastSlot ≤ 2 ^ slot = pow-mono g in
+      omega (arith, bit-within, c .before .loop .inv .3))
+
+  bit : 1 * 2 ^ slot % 2 ^ 64 ≡ 2 ^ slot
+  bit = shl-exact 1 slot 64 (omega arith) (omega (arith, inside)) ∙ one-mul (2 ^ slot)
+
+-- the packet that was copied
+taken : (c : tie.After-copy Inv-loop μ-loop) → c .copy .last .0 ≡ take packetLength (now (c .before .before .before))
 taken c =
     let t = c .before .before .before in
     let k = t .before in
@@ -89,39 +93,24 @@ over true b e = inl refl
 over false b e = inr e
 
 none : (c : tie.After-loop Inv-loop μ-loop)
-    → (c .before .loop .rest ≡ 0) ⊎ (length (start (c .before) .args .stream .now) - c .before .loop .at < packetLength)
+    → (c .before .loop .rest ≡ 0) ⊎ (length (drop (c .before .loop .at) (start (c .before) .args .stream .now)) < packetLength)
 none c =
     let k = c .before in
     ⊎-elim
     (λ e. inl (eqb-true _ _ e))
-    (λ e. inr (leb-false _ _ e))
+    (λ e. inr (rw length-drop (leb-false _ _ e)))
     (over (eqb (k .loop .rest) 0) (leb packetLength (length (start k .args .stream .now) - k .loop .at)) (c .loop-test .left))
-
--- for such a stream and plan everything is placed
-all : (c : tie.After-loop Inv-loop μ-loop) (r : ℕ) (plan : List ℕ)
-    → Planned r plan (start (c .before) .args .slots) (start (c .before) .args .filled .now)
-    → AllPlaced r plan (start (c .before) .args .filled .now) (start (c .before) .args .stream .now) (start (c .before) .args .frame .now)
-    (c .before .loop .frame) (c .before .loop .filled) (c .before .loop .at)
-all c r plan p =
-    let k = c .before in
-    let s = start k in
-    placing-over _ _ _ _ _ (s .pre .1 .0) (p .0) (s .pre .0 .1) (s .pre .0 .0) (lastSlot - k .loop .i) (omega arith) (k .loop .inv .5 r plan p) (none c)
 
 loop-holds : tie.Need-loop-holds Inv-loop μ-loop
 loop-holds c =
     let s = c .before .before .before in
-    (omega arith, omega arith, s .pre .0 .0, s .pre .0 .1, omega (arith, s .pre .1 .1), λ r plan p. placing-none _ _ _ _ _ (s .pre .1 .0) (p .0) (s .pre .0 .1) (s .pre .0 .0) (p .1))
+    (omega arith, s .pre .0 .0, s .pre .0 .1, s .pre .1 .1, marks-same _ (s .pre .1 .0), λ empty l e. placing-none _ _ _ _ l e)
 
 sub-loop : tie.Need-sub-loop Inv-loop μ-loop
 sub-loop c = search needs
 
-cast-i : tie.Need-cast-i Inv-loop μ-loop
-cast-i c =
-    let next = inside c in
-    search needs
-
-add-i : tie.Need-add-i Inv-loop μ-loop
-add-i c =
+cast-filled : tie.Need-cast-filled Inv-loop μ-loop
+cast-filled c =
     let next = inside c in
     search needs
 
@@ -130,8 +119,13 @@ slice-write-filled c =
     let next = inside c in
     search needs
 
-add-i-2 : tie.Need-add-i-2 Inv-loop μ-loop
-add-i-2 c =
+cast-slot : tie.Need-cast-slot Inv-loop μ-loop
+cast-slot c =
+    let next = inside c in
+    search needs
+
+add-slot : tie.Need-add-slot Inv-loop μ-loop
+add-slot c =
     let next = inside c in
     search needs
 
@@ -185,36 +179,39 @@ cast-rest c =
     let next = inside (c .before .before .before .before .before) in
     search needs
 
-shr-rest : tie.Need-shr-rest Inv-loop μ-loop
-shr-rest c =
+shl-rest : tie.Need-shl-rest Inv-loop μ-loop
+shl-rest c =
     let next = inside (c .before .before .before .before .before) in
     omega arith
 
+sub-rest : tie.Need-sub-rest Inv-loop μ-loop
+sub-rest c =
+    let t = c .before .before .before .before .before in
+    omega (arith, bit t, bit-within t)
+
 loop-less : tie.Need-loop-less Inv-loop μ-loop
 loop-less c =
-    let next = inside (c .before .before .before .before .before) in
-    omega arith
+    let t = c .before .before .before .before .before in
+    omega (arith, bit t, bit-within t, pow-pos (slot t))
 
 loop-again : tie.Need-loop-again Inv-loop μ-loop
 loop-again c =
     let copy = c .before .before in
     let t = copy .before .before .before in
     let k = t .before in
-    let s = start k in
     let from = packetLength * (slot t + 1) in
     let next = inside t in
     let left = room t in
-    let long : length (copy .copy .last .0) ≡ packetLength =
-    ap length (taken copy) ∙ length-take-le packetLength (drop (k .loop .at) (s .args .stream .now)) (rw length-drop (omega arith)) in
-    let lent : from + packetLength - from ≡ packetLength = omega arith in (
+    let long = ap length (taken copy) ∙ length-take-le packetLength (now t) (room-now t) in
+    let lent : from + packetLength - from ≡ packetLength = omega arith in
+    rw (bit t, ← (drop-drop packetLength (k .loop .at) (start k .args .stream .now))) (
       omega arith,
-      omega arith,
-      same-len-mid from (from + packetLength - from) (k .loop .frame) (copy .copy .last .0) (long ∙ sym (mid-len from (from + packetLength) (k .loop .frame) (omega arith) ∙ lent)) ∙ k .loop .inv .2,
-      length-set (k .loop .filled) (slot t) 1 ∙ k .loop .inv .3,
-      behind-below (k .loop .i) (k .loop .rest) lastSlot (k .loop .inv .4) (zeros t),
-      λ r plan p.
-          placing-placed _ _ _ _ _ (s .pre .1 .0) (p .0) (s .pre .0 .1) (s .pre .0 .0) (found t r plan p .placing) next (found t r plan p .here) left (from + packetLength - from) lent
-          (copy .copy .last .0) (taken copy),
+      same-len-mid from (from + packetLength - from) (k .loop .frame) (copy .copy .last .0) (long ∙ sym (mid-len from (from + packetLength) (k .loop .frame) (omega arith) ∙ lent)) ∙ k .loop .inv .1,
+      length-set (k .loop .filled) (slot t) 1 ∙ k .loop .inv .2,
+      omega (arith, k .loop .inv .3),
+      mark-more (k .loop .filled) (slot t) (k .loop .inv .4),
+      λ empty l e.
+          placing-more _ _ _ _ (k .loop .inv .5 empty l e) (some t) (room-now t) (from + packetLength - from) lent (copy .copy .last .0) (taken copy) (omega arith),
     )
 
 sub-result : tie.Need-sub-result Inv-loop μ-loop
@@ -227,18 +224,19 @@ part-result-end : tie.Need-part-result-end Inv-loop μ-loop
 part-result-end c = search needs
 
 same-length : tie.Need-same-length Inv-loop μ-loop
-same-length c = c .before .before .loop .inv .2 ∙ sym (start (c .before .before) .pre .0 .0)
+same-length c = c .before .before .loop .inv .1 ∙ sym (start (c .before .before) .pre .0 .0)
 
 same-length-2 : tie.Need-same-length-2 Inv-loop μ-loop
-same-length-2 c = c .before .before .loop .inv .3 ∙ sym (start (c .before .before) .pre .0 .1)
+same-length-2 c = c .before .before .loop .inv .2 ∙ sym (start (c .before .before) .pre .0 .1)
 
 returns : tie.Need-returns Inv-loop μ-loop
 returns c =
     let k = c .before .before in
-    let s = start k in
-    let stream = s .args .stream .now in (
-      λ r plan l e. take-all (length stream - k .loop .at) (drop (k .loop .at) stream) (rw length-drop (omega arith)) ∙ all (c .before) r plan (l, e) .rest-is,
-      (λ r plan l e. all (c .before) r plan (l, e) .frame-is, λ r plan l e. all (c .before) r plan (l, e) .marks-are),
+    let inv = k .loop .inv in
+    let stream = start k .args .stream .now in (
+      λ empty l e.
+          take-all (length stream - k .loop .at) (drop (k .loop .at) stream) (rw length-drop (omega arith)) ∙ rest-done _ _ _ _ (inv .5 empty l e) (none (c .before)),
+      (λ empty l e. frame-done _ _ _ _ (inv .5 empty l e) (none (c .before)), λ empty l e. marks-done _ _ _ _ (inv .5 empty l e) (none (c .before)) (inv .2) (inv .4)),
     )
 
 pub place-spec : {M : Type 1} → statement M
@@ -249,10 +247,10 @@ place-spec =
     μ-loop
     loop-holds
     sub-loop
-    cast-i
-    add-i
+    cast-filled
     slice-write-filled
-    add-i-2
+    cast-slot
+    add-slot
     mul-slot
     add-copy
     sub-copy
@@ -265,7 +263,8 @@ place-spec =
     copy-requires
     add-at
     cast-rest
-    shr-rest
+    shl-rest
+    sub-rest
     loop-less
     loop-again
     sub-result

@@ -1,0 +1,77 @@
+-- The slots that a put fills, slot by slot. Assumes nothing.
+use Prim.Native.Nat.{ℕ, zero, suc, _/_, _≤_, _<_}
+use mathlib.Core.Path.{_≡_, refl, sym, ap, _∙_}
+use mathlib.Core.Bool.{Bool, true, false, not, _&&_, _||_}
+use mathlib.Core.List.{List, [], _∷_, zipWith}
+use native.Mathlib.Omega.{arith}
+use lib.Dec.{eqb}
+use lib.ListN.{length, getD, drop, length-drop}
+use Rattle.packet.specs.Packets.{packetLength}
+use Rattle.composer.specs.Slots.{emptyFor, firsts, filledBy, marksAfter}
+
+-- two lists, element by element
+length-zip : {A B C : Type 0} (f : A → B → C) (xs : List A) (ys : List B) → length xs ≡ length ys → length (zipWith f xs ys) ≡ length xs
+unfolding zipWith
+length-zip f [] [] e = refl
+length-zip f [] (y ∷ ys) e = refl
+length-zip f (x ∷ xs) [] e = absurd (omega arith)
+length-zip f (x ∷ xs) (y ∷ ys) e = ap suc (length-zip f xs ys (omega arith))
+
+zip-at : {A B C : Type 0} (f : A → B → C) (xs : List A) (ys : List B) (i : ℕ) (a : A) (b : B) (c : C) → i < length xs → i < length ys
+    → getD (zipWith f xs ys) i c ≡ f (getD xs i a) (getD ys i b)
+unfolding zipWith
+zip-at f [] ys i a b c h g = absurd (omega arith)
+zip-at f (x ∷ xs) [] i a b c h g = absurd (omega arith)
+zip-at f (x ∷ xs) (y ∷ ys) zero a b c h g = refl
+zip-at f (x ∷ xs) (y ∷ ys) (suc i) a b c h g = zip-at f xs ys i a b c (omega arith) (omega arith)
+
+module _ (r : ℕ) (plan : List ℕ) (marks : List Bool) where
+  pub length-empty : length plan ≡ length marks → length (emptyFor r plan marks) ≡ length plan
+  unfolding emptyFor
+  length-empty e = length-zip _ plan marks e
+
+  pub empty-at : (i : ℕ) → i < length plan → i < length marks → getD (emptyFor r plan marks) i false ≡ eqb (getD plan i 0) r && not (getD marks i false)
+  unfolding emptyFor
+  empty-at i h g = zip-at _ plan marks i 0 false false h g
+
+length-firsts : (n : ℕ) (bs : List Bool) → length (firsts n bs) ≡ length bs
+unfolding firsts
+length-firsts n [] = refl
+length-firsts n (false ∷ bs) = ap suc (length-firsts n bs)
+length-firsts zero (true ∷ bs) = ap suc (length-firsts zero bs)
+length-firsts (suc n) (true ∷ bs) = ap suc (length-firsts n bs)
+
+-- as many marks as before
+pub length-after : (r : ℕ) (plan : List ℕ) (marks : List Bool) (stream : List ℕ) → length plan ≡ length marks
+    → length (marksAfter r plan marks stream) ≡ length marks
+unfolding marksAfter filledBy
+length-after r plan marks stream same =
+    length-zip _||_ marks (filledBy stream (emptyFor r plan marks))
+    (sym (length-firsts (length stream / packetLength) (emptyFor r plan marks) ∙ length-empty r plan marks same ∙ same))
+
+-- none of a set
+firsts-none : (b : Bool) (bs : List Bool) → firsts 0 (b ∷ bs) ≡ false ∷ firsts 0 bs
+unfolding firsts
+firsts-none true bs = refl
+firsts-none false bs = refl
+
+module _ (r n : ℕ) (ns : List ℕ) (m : Bool) (ms : List Bool) (stream : List ℕ) where
+  -- a slot that is planned for another stream or is filled
+  pub filled-other : eqb n r && not m ≡ false → filledBy stream (emptyFor r (n ∷ ns) (m ∷ ms)) ≡ false ∷ filledBy stream (emptyFor r ns ms)
+  unfolding filledBy emptyFor firsts zipWith
+  filled-other e = rw e
+
+  -- one for which no packet is left
+  pub filled-late : length stream < packetLength → filledBy stream (emptyFor r (n ∷ ns) (m ∷ ms)) ≡ false ∷ filledBy stream (emptyFor r ns ms)
+  unfolding filledBy emptyFor zipWith
+  filled-late h =
+      let none : length stream / packetLength ≡ 0 = omega arith in
+      rw none (firsts-none (eqb n r && not m) (emptyFor r ns ms))
+
+  -- one that takes the next packet
+  pub filled-one : eqb n r && not m ≡ true → packetLength ≤ length stream
+      → filledBy stream (emptyFor r (n ∷ ns) (m ∷ ms)) ≡ true ∷ filledBy (drop packetLength stream) (emptyFor r ns ms)
+  unfolding filledBy emptyFor firsts zipWith
+  filled-one e h =
+      let one : length stream / packetLength ≡ suc (length (drop packetLength stream) / packetLength) = omega (arith, length-drop packetLength stream) in
+      rw (one, e)

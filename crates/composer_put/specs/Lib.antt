@@ -1,2 +1,0 @@
--- What putting packets into a frame goes by.
-pub mod Bits
