@@ -3,4 +3,3 @@ mod Decoded
 mod Ending
 mod Numbers
 pub mod Passed
-pub mod Said

@@ -65,8 +65,8 @@ pub extern "C" fn niranbok_composer_close(state: &mut [u8], frame: &mut [u8]) ->
     let said = header::header_setting(state);
     let pid = setting_bytes::word(state[0], state[1]);
     let kind = setting_bytes::kind_of(state[KIND]);
-    // What passed the checks is not refused here.
-    header_write::write(&mut frame[0..PACKET_BYTES], pid, kind, said);
+    // The checks have asked the rules of what is said.
+    header_write::write_header(&mut frame[0..PACKET_BYTES], pid, kind, said);
     end_frame(state, said.continuity_counter, said.version_number);
     0
 }

@@ -1,7 +1,9 @@
 -- Fields of a few bits as whole bytes: what byte-wise code needs of the bit-wise definition. Assumes nothing.
-use Prim.Native.Nat.{ℕ, _+_, _*_, _/_, _%_, _^_, _<_}
+use Prim.Native.Nat.{ℕ, _+_, _*_, _/_, _%_, _^_}
 use mathlib.Core.Path.{_≡_, sym, ap, ap₂, _∙_}
 use mathlib.Core.List.{List, _++_, append-assoc}
+use native.Mathlib.Nat.{mod-lt, zero-add}
+use lib.Pow.{pow-pos}
 use Rattle.bits.specs.Fields.{bitsOf}
 use Rattle.bits.proofs.Laws.{bitsOf-split, bitsOf-join, bitsOf-mod}
 
@@ -14,11 +16,17 @@ pub two-bytes : (x a b : ℕ) → a % 256 ≡ x / 256 % 256 → b % 256 ≡ x % 
 two-bytes x a b p q =
     bitsOf-split 8 8 x ∙ ap₂ (λ (l r : List ℕ). l ++ r) (sym (byte a (x / 256) p)) (sym (byte b x q))
 
+-- two fields side by side are one field, in which the second shows its low bits
+pub beside : (v w hi lo : ℕ) → bitsOf v hi ++ bitsOf w lo ≡ bitsOf (v + w) (hi * 2 ^ w + lo % 2 ^ w)
+beside v w hi lo =
+    ap (λ (l : List ℕ). bitsOf v hi ++ l) (sym (bitsOf-mod w 0 lo) ∙ ap (λ (n : ℕ). bitsOf w (lo % 2 ^ n)) (zero-add w))
+    ∙ bitsOf-join v w hi (mod-lt lo (pow-pos w))
+
 -- two fields before others
-pub joined : (v w hi : ℕ) {lo : ℕ} → lo < 2 ^ w → {rest rest′ : List ℕ} → rest ≡ rest′
-    → bitsOf v hi ++ (bitsOf w lo ++ rest) ≡ bitsOf (v + w) (hi * 2 ^ w + lo) ++ rest′
-joined v w hi {lo} h {rest} e =
-    sym (append-assoc (bitsOf v hi) (bitsOf w lo) rest) ∙ ap₂ (λ (l r : List ℕ). l ++ r) (bitsOf-join v w hi h) e
+pub joined : (v w hi lo : ℕ) {rest rest′ : List ℕ} → rest ≡ rest′
+    → bitsOf v hi ++ (bitsOf w lo ++ rest) ≡ bitsOf (v + w) (hi * 2 ^ w + lo % 2 ^ w) ++ rest′
+joined v w hi lo {rest} e =
+    sym (append-assoc (bitsOf v hi) (bitsOf w lo) rest) ∙ ap₂ (λ (l r : List ℕ). l ++ r) (beside v w hi lo) e
 
 -- two bytes before others
 pub split : (x a b : ℕ) → a % 256 ≡ x / 256 % 256 → b % 256 ≡ x % 256 → (rest : List ℕ)

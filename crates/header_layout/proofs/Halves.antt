@@ -8,12 +8,14 @@ use lib.ListN.{length, take, getD, set}
 use lib.Seq.{take-all, take-suc, take-suc-set}
 use Rattle.slices.proofs.Front.{stored-behind}
 use Rattle.bits.specs.Fields.{Fit, none, more, bitsOf, run, cut}
-use Rattle.bits.proofs.Laws.{bitsOf-join, run-append, run-one, run-cons, fit-append, cut-run}
+use Rattle.bits.proofs.Laws.{run-append, run-one, run-cons, fit-append, cut-run}
+use Rattle.header_layout.proofs.Bytes.{byte, beside}
 
 -- two values are a byte
-halves : (a b : ℕ) → b < 16 → run 4 (a ∷ b ∷ []) ≡ run 8 ((a * 16 + b) ∷ [])
-halves a b h =
-    run-cons 4 a (b ∷ []) ∙ ap (λ (l : List ℕ). bitsOf 4 a ++ l) (run-one 4 b) ∙ bitsOf-join 4 4 a h ∙ sym (run-one 8 (a * 16 + b))
+halves : (a b : ℕ) → run 4 (a ∷ b ∷ []) ≡ run 8 ((a % 16 * 16 + b % 16) ∷ [])
+halves a b =
+    run-cons 4 a (b ∷ []) ∙ ap (λ (l : List ℕ). bitsOf 4 a ++ l) (run-one 4 b) ∙ beside 4 4 a b
+    ∙ byte (a * 16 + b % 16) (a % 16 * 16 + b % 16) (omega arith) ∙ sym (run-one 8 (a % 16 * 16 + b % 16))
 
 -- two values more
 two-more : (k : ℕ) (vs : List ℕ) → 2 * k + 2 ≤ length vs → take (2 * k + 2) vs ≡ take (2 * k) vs ++ (getD vs (2 * k) 0 ∷ getD vs (2 * k + 1) 0 ∷ [])
@@ -31,16 +33,17 @@ two-stored : (l : List ℕ) (at a b : ℕ) → at + 2 ≤ length l → take (at 
 two-stored l at a b h = rw (add-one at) (stored-behind (a ∷ b ∷ []) l at h)
 
 -- a turn of the loop that writes
-pub half-written : (part vs : List ℕ) (k : ℕ) → k < length part → length vs ≡ 2 * length part → getD vs (2 * k + 1) 0 < 16
+pub half-written : (part vs : List ℕ) (k : ℕ) → k < length part → length vs ≡ 2 * length part
     → run 8 (take k part) ≡ run 4 (take (2 * k) vs)
-    → run 8 (take (k + 1) (set part k (getD vs (2 * k) 0 * 16 + getD vs (2 * k + 1) 0))) ≡ run 4 (take (2 * (k + 1)) vs)
-half-written part vs k h long fit e =
+    → run 8 (take (k + 1) (set part k (getD vs (2 * k) 0 % 16 * 16 + getD vs (2 * k + 1) 0 % 16))) ≡ run 4 (take (2 * (k + 1)) vs)
+half-written part vs k h long e =
     let a = getD vs (2 * k) 0 in
     let b = getD vs (2 * k + 1) 0 in
+    let x = a % 16 * 16 + b % 16 in
     let next : 2 * (k + 1) ≡ 2 * k + 2 = omega arith in
-    ap (run 8) (ap (λ (n : ℕ). take n (set part k (a * 16 + b))) (add-one k) ∙ take-suc-set part k (a * 16 + b) h)
-    ∙ run-append 8 (take k part) ((a * 16 + b) ∷ [])
-    ∙ ap₂ (λ (x y : List ℕ). x ++ y) e (sym (halves a b fit))
+    ap (run 8) (ap (λ (n : ℕ). take n (set part k x)) (add-one k) ∙ take-suc-set part k x h)
+    ∙ run-append 8 (take k part) (x ∷ [])
+    ∙ ap₂ (λ (x y : List ℕ). x ++ y) e (sym (halves a b))
     ∙ sym (run-append 4 (take (2 * k) vs) (a ∷ b ∷ []))
     ∙ ap (run 4) (sym (two-more k vs (omega arith)) ∙ ap (λ (n : ℕ). take n vs) (sym next))
 
@@ -59,13 +62,13 @@ pub halved-next : (vs part : List ℕ) (k : ℕ) → k < length part → length 
 halved-next vs part k h long byte turn =
     let x = getD part k 0 in
     let next : 2 * (k + 1) ≡ 2 * k + 2 = omega arith in
-    let whole : x / 16 * 16 + x % 16 ≡ x = omega arith in
+    let whole : x / 16 % 16 * 16 + x % 16 % 16 ≡ x = omega arith in
     let front =
     ap (λ (n : ℕ). take n (set (set vs (2 * k) (x / 16)) (2 * k + 1) (x % 16))) next ∙ two-stored vs (2 * k) (x / 16) (x % 16) (omega arith) in
     record {
       same =
           ap (run 4) front ∙ run-append 4 (take (2 * k) vs) (x / 16 ∷ x % 16 ∷ [])
-          ∙ ap₂ (λ (l r : List ℕ). l ++ r) (turn .same) (halves (x / 16) (x % 16) (omega arith) ∙ ap (λ (n : ℕ). run 8 (n ∷ [])) whole)
+          ∙ ap₂ (λ (l r : List ℕ). l ++ r) (turn .same) (halves (x / 16) (x % 16) ∙ ap (λ (n : ℕ). run 8 (n ∷ [])) whole)
           ∙ sym (run-append 8 (take k part) (x ∷ [])) ∙ ap (run 8) (sym (take-suc part k 0 h) ∙ ap (λ (n : ℕ). take n part) (sym (add-one k)));
       fit = subst (Fit 4) (sym front) (fit-append (turn .fit) (more (omega arith) (more (omega arith) none)));
     }

@@ -3,7 +3,7 @@ use Prim.Native.Nat.{ℕ, suc, _+_, _-_, _*_, _/_, _%_, _^_, _≤_, _<_}
 use mathlib.Core.Path.{_≡_, refl, sym, ap, ap₂, _∙_}
 use mathlib.Core.List.{List, [], _∷_, _++_, append-assoc}
 use native.Mathlib.Omega.{arith}
-use native.Mathlib.Nat.{suc-mul, zero-mul, mod-lt, mul-le-mul-right, one-mul}
+use native.Mathlib.Nat.{suc-mul, zero-mul, mod-le, mod-lt, mul-le-mul-right, one-mul}
 use native.Mathlib.Numerals.{add-one}
 use lib.Dec.{lit<}
 use lib.Pow.{shl-exact, shl-lt, pow-mono}
@@ -11,6 +11,7 @@ use lib.ListN.{length, take, drop, getD, set}
 use lib.Seq.{take-suc, take-suc-set, drop-cons, take-at, drop-at, drop-drop}
 use Rattle.bits.specs.Fields.{bitsOf, number, run, cut}
 use Rattle.bits.proofs.Laws.{run-append, run-one, run-cons, cut-more, bitsOf-split, bitsOf-join, bitsOf-mod, number-bitsOf, length-bitsOf}
+use Rattle.header_layout.proofs.Bytes.{beside}
 
 -- fewer than eight bits are those of a number's lowest byte
 low-byte : (k x : ℕ) → k < 8 → bitsOf k (x % 256) ≡ bitsOf k x
@@ -35,15 +36,14 @@ packed-none part values w = record { count = sym (zero-mul w); same = refl }
 
 module _ (part values : List ℕ) (w held bits at i : ℕ) (p : Packed part values w held bits at i) where
   -- one value more, behind the bits that are held
-  pub packed-in : bits < 8 → i < length values → getD values i 0 < 2 ^ w
-      → Packed part values w (held % 256 * 2 ^ w + getD values i 0) (bits + w) at (i + 1)
-  packed-in few h fits =
+  pub packed-in : bits < 8 → i < length values → Packed part values w (held % 256 * 2 ^ w + getD values i 0 % 2 ^ w) (bits + w) at (i + 1)
+  packed-in few h =
       let v = getD values i 0 in
       record {
         count = let e : suc i * w ≡ i * w + w = suc-mul i w in rw add-one (let k : at * 8 + bits ≡ i * w = p .count in omega arith);
         same =
             ap (λ (l : List ℕ). run 8 (take at part) ++ l)
-            (sym (bitsOf-join bits w (held % 256) fits) ∙ ap (λ (l : List ℕ). l ++ bitsOf w v) (low-byte bits held few))
+            (sym (beside bits w (held % 256) v) ∙ ap (λ (l : List ℕ). l ++ bitsOf w v) (low-byte bits held few))
             ∙ sym (append-assoc (run 8 (take at part)) (bitsOf bits held) (bitsOf w v))
             ∙ ap₂ (λ (x y : List ℕ). x ++ y) (p .same) (sym (run-one w v))
             ∙ sym (run-append w (take i values) (v ∷ []))
@@ -128,12 +128,12 @@ module _ (values part : List ℕ) (w held bits at i : ℕ) (t : Taken values par
 pub no-wrap : (w x : ℕ) → w ≤ 8 → x % 256 * 2 ^ w % 2 ^ 32 ≡ x % 256 * 2 ^ w
 no-wrap w x h = shl-exact 8 w 32 (mod-lt x (lit< tt)) (omega arith)
 
-pub moved-fits : (w x v : ℕ) → w ≤ 8 → v < 256 → x % 256 * 2 ^ w % 2 ^ 32 + v < 2 ^ 32
+pub moved-fits : (w x v : ℕ) → w ≤ 8 → v < 256 → x % 256 * 2 ^ w % 2 ^ 32 + v % 2 ^ w < 2 ^ 32
 moved-fits w x v h b =
     let m : x % 256 * 2 ^ w < 2 ^ (8 + w) = shl-lt 8 w (mod-lt x (lit< tt)) in
     let few : 8 + w ≤ 16 = omega arith in
     let l : 2 ^ (8 + w) ≤ 2 ^ 16 = pow-mono few in
-    rw (no-wrap w x h) (omega arith)
+    rw (no-wrap w x h) (omega (arith, mod-le v (2 ^ w)))
 
 -- a whole byte of the bits of n values, one more than `at`, has its place
 pub byte-has-room : (n w at bits i : ℕ) → i < n → at * 8 + bits ≡ (i + 1) * w → 8 ≤ bits → at < n * w / 8

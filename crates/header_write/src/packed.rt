@@ -3,22 +3,22 @@ ghost use mathlib.Core.Path.{_≡_};
 ghost use mathlib.Core.List.{_++_};
 ghost use Prim.Native.Nat.{_*_, _/_, _%_, _≤_};
 ghost use lib.ListN.{length};
-ghost use Rattle.bits.specs.Fields.{Fit, bitsOf, run};
+ghost use Rattle.bits.specs.Fields.{bitsOf, run};
 
-// Packs values of `width` bits into `part`, which has room for their whole bytes. Answers what is left: bits that do
+// Packs the low `width` bits of each value into `part`, which has room for their whole bytes. Answers what is left: bits that do
 // not fill a byte, in the answer's low end.
 pub(crate) fn write_run(part: &mut [u8], values: &[u8], width: u32) -> u32
     requires { ⌜ width ≤ 8 ⌝ }
-    requires { ⌜ Fit width (now values) ⌝ }
     requires { ⌜ length (now part) ≡ length (now values) * width / 8 ⌝ }
     ensures { λ r. ⌜ run 8 (now (part .exit)) ++ bitsOf (length (now (values .entry)) * width % 8) r ≡ run width (now (values .entry)) ⌝ }
 {
+    let limit = 1u32 << width;
     let mut held: u32 = 0;
     let mut bits: u32 = 0;
     let mut at = 0;
     let mut i = 0;
     while i < values.len() {
-        held = ((held % 256) << width) + values[i] as u32;
+        held = ((held % 256) << width) + values[i] as u32 % limit;
         bits += width;
         if 8 <= bits {
             bits -= 8;
@@ -30,15 +30,14 @@ pub(crate) fn write_run(part: &mut [u8], values: &[u8], width: u32) -> u32
     held
 }
 
-// Packs values of 4 bits, two a byte: what `write_run` does for this width, many bytes at a time.
+// Packs the low 4 bits of each value, two a byte: what `write_run` does for this width, many bytes at a time.
 pub(crate) fn write_halves(part: &mut [u8], values: &[u8])
-    requires { ⌜ Fit 4 (now values) ⌝ }
     requires { ⌜ length (now values) ≡ 2 * length (now part) ⌝ }
     ensures { λ _. ⌜ run 8 (now (part .exit)) ≡ run 4 (now (values .entry)) ⌝ }
 {
     let mut k = 0;
     while k < part.len() {
-        part[k] = values[2 * k] * 16 + values[2 * k + 1];
+        part[k] = values[2 * k] % 16 * 16 + values[2 * k + 1] % 16;
         k += 1;
     }
 }

@@ -1,35 +1,32 @@
-// The writer's parts: each fills its own bytes of the lent buffer, straight from the setting.
+// The writer's parts: each fills its own bytes of the lent buffer, straight from the setting. A field shows its low bits.
 use crate::packed;
 use setting::AUXILIARY_BYTES;
 use setting::Kind;
 use setting::PRIVATE_BYTES;
 use setting::Setting;
 ghost use mathlib.Core.Path.{_≡_};
-ghost use Prim.Native.Nat.{ℕ, _*_, _<_, _^_};
+ghost use Prim.Native.Nat.{ℕ, _*_};
 ghost use lib.ListN.{length};
 ghost use Rattle.bits.specs.Fields.{bitsOf, run};
 ghost use Rattle.setting.specs.Setting.{privateBytes};
-ghost use Rattle.setting.specs.Refusal.{firstOf};
-ghost use Rattle.setting.specs.Rules.{Narrow, bondingOf};
 ghost use Rattle.header_layout.specs.Layout.{startTable, controlTable, privateTable};
 ghost use Rattle.header_layout.specs.Bytes.{bondingBytes};
-ghost use Rattle.header_layout.specs.Header.{headerLength, paired, lineBits, body, header};
+ghost use Rattle.header_layout.specs.Header.{paired, lineBits, body};
 
 // Bytes 0 to 8: packet header, sync, version, types and availability.
 fn write_start(part: &mut [u8], pid: u16, s: Setting)
-    requires { ⌜ (length (now part) ≡ 9) × (pid < 2 ^ 13) ⌝ }
-    requires { ⌜ Narrow s ⌝ }
+    requires { ⌜ length (now part) ≡ 9 ⌝ }
     ensures { λ _. ⌜ run 8 (now (part .exit)) ≡ lineBits pid s startTable ⌝ }
 {
     let bytes = [
         0x47,
-        (pid / 256) as u8,
+        (pid / 256 % 32) as u8,
         (pid % 256) as u8,
-        16 + s.continuity_counter,
+        16 + s.continuity_counter % 16,
         0xFA,
         0x86,
-        s.version_number * 32 + s.slot_allocation_type * 16 + s.frame_type,
-        (s.availability / 128) as u8,
+        s.version_number % 8 * 32 + s.slot_allocation_type % 2 * 16 + s.frame_type % 16,
+        (s.availability / 128 % 256) as u8,
         (s.availability % 128 * 2 + 1) as u8,
     ];
     slices::copy(part, &bytes);
@@ -57,31 +54,32 @@ fn write_identifiers(part: &mut [u8], ts: &[u16], os: &[u16])
 // The statuses, and in the last byte behind them a reserved bit and the emergency bit.
 fn write_control(part: &mut [u8], s: Setting)
     requires { ⌜ length (now part) ≡ 4 ⌝ }
-    requires { ⌜ Narrow s ⌝ }
     ensures { λ _. ⌜ ((pid : ℕ) → run 8 (now (part .exit)) ≡ lineBits pid s controlTable) ⌝ }
 {
     let receive_status = s.receive_status;
-    let left = packed::write_run(&mut part[0..header_layout::CONTROL_LAST], &receive_status, 2);
-    part[header_layout::CONTROL_LAST] = ((left % 64 * 2) as u8 + 1) * 2 + s.emergency_indicator;
+    let left = packed::write_run(
+        &mut part[0..header_layout::CONTROL_LAST],
+        &receive_status,
+        2,
+    );
+    part[header_layout::CONTROL_LAST] = ((left % 64 * 2) as u8 + 1) * 2 + s.emergency_indicator % 2;
 }
 
 // The bonding fields of an extended header.
 fn write_bonding(part: &mut [u8], s: Setting)
     requires { ⌜ length (now part) ≡ 4 ⌝ }
-    requires { ⌜ firstOf (bondingOf Kind.Extended s) ≡ 0 ⌝ }
     ensures { λ _. ⌜ now (part .exit) ≡ bondingBytes s ⌝ }
 {
     let position = s.frame_position;
     part[0] = s.group_id;
     part[1] = s.number_of_carriers;
     part[2] = s.carrier_sequence;
-    part[3] = s.number_of_frames * 16 + position.0;
+    part[3] = s.number_of_frames % 16 * 16 + position.0 % 16;
 }
 
 // Auxiliary information, the bonding fields and reserved bytes.
 fn write_extended(part: &mut [u8], s: Setting)
     requires { ⌜ length (now part) ≡ privateBytes ⌝ }
-    requires { ⌜ firstOf (bondingOf Kind.Extended s) ≡ 0 ⌝ }
     ensures { λ _. ⌜ ((pid : ℕ) → run 8 (now (part .exit)) ≡ lineBits pid s (privateTable Kind.Extended)) ⌝ }
 {
     let auxiliary = s.auxiliary;
@@ -98,7 +96,6 @@ fn write_extended(part: &mut [u8], s: Setting)
 
 fn write_private(part: &mut [u8], kind: Kind, s: Setting)
     requires { ⌜ length (now part) ≡ privateBytes ⌝ }
-    requires { ⌜ firstOf (bondingOf kind s) ≡ 0 ⌝ }
     ensures { λ _. ⌜ ((pid : ℕ) → run 8 (now (part .exit)) ≡ lineBits pid s (privateTable kind)) ⌝ }
 {
     match kind {
@@ -113,10 +110,8 @@ fn write_private(part: &mut [u8], kind: Kind, s: Setting)
 }
 
 // Everything before the CRC.
-fn write_body(part: &mut [u8], pid: u16, kind: Kind, s: Setting)
-    requires { ⌜ (length (now part) ≡ 184) × (pid < 2 ^ 13) ⌝ }
-    requires { ⌜ Narrow s ⌝ }
-    requires { ⌜ firstOf (bondingOf kind s) ≡ 0 ⌝ }
+pub(crate) fn write_body(part: &mut [u8], pid: u16, kind: Kind, s: Setting)
+    requires { ⌜ length (now part) ≡ 184 ⌝ }
     ensures { λ _. ⌜ run 8 (now (part .exit)) ≡ body kind pid s ⌝ }
 {
     write_start(&mut part[0..header_layout::IDENTIFIERS], pid, s);
@@ -133,11 +128,15 @@ fn write_body(part: &mut [u8], pid: u16, kind: Kind, s: Setting)
         &mut part[header_layout::NUMBERS..header_layout::PRIVATE],
         &relative_ts_number,
     );
-    write_private(&mut part[header_layout::PRIVATE..header_layout::CRC], kind, s);
+    write_private(
+        &mut part[header_layout::PRIVATE..header_layout::CRC],
+        kind,
+        s,
+    );
 }
 
 // A number of 32 bits, high byte first.
-fn write_word(part: &mut [u8], word: u32)
+pub(crate) fn write_word(part: &mut [u8], word: u32)
     requires { ⌜ length (now part) ≡ 4 ⌝ }
     ensures { λ _. ⌜ run 8 (now (part .exit)) ≡ bitsOf 32 word ⌝ }
 {
@@ -145,16 +144,4 @@ fn write_word(part: &mut [u8], word: u32)
     part[1] = (word / 65536 % 256) as u8;
     part[2] = (word / 256 % 256) as u8;
     part[3] = (word % 256) as u8;
-}
-
-// The whole header, once all checks have passed.
-pub(crate) fn write_header(buffer: &mut [u8], pid: u16, kind: Kind, s: Setting)
-    requires { ⌜ (length (now buffer) ≡ headerLength) × (pid < 2 ^ 13) ⌝ }
-    requires { ⌜ Narrow s ⌝ }
-    requires { ⌜ firstOf (bondingOf kind s) ≡ 0 ⌝ }
-    ensures { λ _. ⌜ now (buffer .exit) ≡ header kind pid s ⌝ }
-{
-    write_body(&mut buffer[0..header_layout::CRC], pid, kind, s);
-    let word = crc::register(&buffer[header_layout::TSMF_SYNC..header_layout::CRC]);
-    write_word(&mut buffer[header_layout::CRC..header_layout::HEADER_LENGTH], word);
 }

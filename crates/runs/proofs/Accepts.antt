@@ -25,7 +25,7 @@ use Rattle.composer.specs.Slots.{emptyFor, firsts, howMany, filledBy, placedBy,
 use Rattle.setting.specs.Announcing.{announced, differ, announcedChecks}
 use Rattle.composer.specs.Composing.{Composer, fresh, opened, marked, nextCounter, nextVersion, closedWith, closed, asked, inTurn, stateChecks, openRuleChecks, markChecks, openChecks, streamChecks, beginRefusal, putRefusal, closeRefusal}
 use Rattle.composer.proofs.Refusals.{ask-all, ask-none}
-use Rattle.composer_close.proofs.Said.{version-narrow}
+use Rattle.runs.proofs.Said.{version-narrow}
 use Rattle.runs.specs.Runs.{Call, begin, put, close, Each, none, more, OfTypes, Run, started, refusalOf, after}
 use Rattle.runs.specs.Work.{Work, added, workAfter, doneBy, worksOf, noWork, numbersFilled}
 use Rattle.runs.proofs.Carried.{length-slots}

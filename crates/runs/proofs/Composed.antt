@@ -32,8 +32,7 @@ use Rattle.runs.specs.Work.{Work, noWork, worksOf, slotsFilled, numbersF
 use Rattle.runs.specs.Composed.{headedBy, FramesHold, HeadersRead, FrontsPlaced, PacketsFit}
 use Rattle.runs.proofs.Filled.{marksFilled, length-null}
 use Rattle.runs.proofs.Carried.{numbers-filled, length-slots, length-marks, front-lent, slot-first, slot-next, each-fit}
-use Rattle.composer_close.proofs.Said.{version-narrow, said-meets}
-use Rattle.runs.proofs.Said.{said-types}
+use Rattle.runs.proofs.Said.{version-narrow, said-meets, said-types}
 use Rattle.runs.proofs.Held.{Sound, Done, holds, all-done}
 
 -- ---- the start

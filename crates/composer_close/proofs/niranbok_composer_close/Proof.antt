@@ -1,4 +1,4 @@
--- `niranbok_composer_close` meets its contract: what passed its checks the header's writer does not refuse. Assumes nothing.
+-- `niranbok_composer_close` meets its contract: behind its checks, the header and the state that it leaves. Assumes nothing.
 use mathlib.Core.Path.{_≡_, refl, sym, _∙_}
 use native.Mathlib.Omega.{arith}
 use borrow.Author.Needs.{needs}
@@ -32,10 +32,10 @@ told c = c .before .before .before
 abbrev worded : tie.After-kind-of → tie.After-word
 worded c = c .before .before
 
-abbrev kinded : tie.After-write → tie.After-kind-of
+abbrev kinded : tie.After-write-header → tie.After-kind-of
 kinded c = c .before .before
 
-abbrev wrote : tie.After-end-frame → tie.After-write
+abbrev wrote : tie.After-end-frame → tie.After-write-header
 wrote c = c .before .before .before .before
 
 -- behind the checks
@@ -88,17 +88,17 @@ slice-read-kind-of c = omega (arith, long (passed (looked (told (c .before)))))
 kind-of-requires : tie.Need-kind-of-requires
 kind-of-requires c κs = search needs
 
-sub-write : tie.Need-sub-write
-sub-write c = search needs
+sub-write-header : tie.Need-sub-write-header
+sub-write-header c = search needs
 
-part-write-start : tie.Need-part-write-start
-part-write-start c = search needs
+part-write-header-start : tie.Need-part-write-header-start
+part-write-header-start c = search needs
 
-part-write-end : tie.Need-part-write-end
-part-write-end c = omega (arith, past (passed (looked (told (worded c)))) .long)
+part-write-header-end : tie.Need-part-write-header-end
+part-write-header-end c = omega (arith, past (passed (looked (told (worded c)))) .long)
 
-write-requires : tie.Need-write-requires
-write-requires c κs = search needs
+write-header-requires : tie.Need-write-header-requires
+write-header-requires c κs = search needs
 
 end-frame-requires : tie.Need-end-frame-requires
 end-frame-requires c κs = long (passed (looked (told (worded (kinded (c .before .before .before))))))
@@ -124,8 +124,8 @@ returns-3 c =
     let args = started checks .args in
     let said = say .header-setting .ensures in
     close-done (args .state .now) (args .frame .now) l (checks .before .close-refusal .ensures) (checks .if2 .left)
-    (closed-state (args .state .now) l (p .open-state) said (look .look .ensures) (ended .end-frame .ensures))
-    (closed-memory (args .state .now) l (p .open-state) said (args .frame .now) (p .long) (kind .kind-of .ensures) (word .word .ensures) (write .write .ensures .1))
+    (closed-state (args .state .now) said l (p .open-state) (look .look .ensures) (ended .end-frame .ensures))
+    (closed-memory (args .state .now) said (args .frame .now) (p .long) (kind .kind-of .ensures) (word .word .ensures) (write .write-header .ensures))
 
 pub niranbok-composer-close-spec : {M : Type 1} → statement M
 niranbok-composer-close-spec =
@@ -142,10 +142,10 @@ niranbok-composer-close-spec =
     word-requires
     slice-read-kind-of
     kind-of-requires
-    sub-write
-    part-write-start
-    part-write-end
-    write-requires
+    sub-write-header
+    part-write-header-start
+    part-write-header-end
+    write-header-requires
     end-frame-requires
     same-length-2
     same-length-3

@@ -4,14 +4,14 @@ use mathlib.Core.Path.{_≡_, sym, _∙_}
 use mathlib.Core.Bool.{true}
 use mathlib.Core.List.{List, _++_}
 use native.Mathlib.Omega.{arith}
-use borrow.Author.Tests.{not-true, not-false}
+use borrow.Author.Tests.{eq-eqb, not-true, not-false}
 use lib.ListN.{length}
 use Rattle.setting.specs.Refusal.{Check, firstOf, NoneHolds}
 use Rattle.setting.specs.Rules.{pidAllowed, widthChecks, ruleChecks}
-use Rattle.setting.proofs.Fields.{at-most, narrow, bonding-none}
-use Rattle.setting.proofs.Refusals.{onward, at-once, first-none}
-use Rattle.setting.proofs.Checked.{width-none, rule-none}
+use Rattle.setting.proofs.Refusals.{onward, at-once}
+use Rattle.setting.proofs.Checked.{width-none}
 use Rattle.header_write.specs.Writing.{writeRefusal}
+use Rattle.header_layout.specs.Header.{headerLength}
 use Rattle.header_layout.proofs.Calls.{wrong-length, wrong-pid, right-call}
 use Rattle.header_write.proofs.Calls.{left, made}
 use Rattle.header_write.proofs.write.Statement.{statement}
@@ -93,17 +93,7 @@ returns-4 c =
     (sym e, left (start .args .kind) (start .args .pid) (start .args .s) (start .args .buffer .now) e (c .if4 .taken))
 
 write-header-requires : tie.Need-write-header-requires
-write-header-requires c κs =
-    let rule = c .before in
-    let width = rule .before .before in
-    let start = start₄ rule in
-    let l = at-most 16 8190 (start .args .pid) (allowed (width .before .before)) in (
-      (width .before .before .before .before .if1 .left, omega arith),
-      (
-        narrow (start .args .kind) (no-width width),
-        first-none (bonding-none (start .args .kind) (start .args .s) (rule-none (start .args .kind) (start .args .s) (no-rule rule))),
-      ),
-    )
+write-header-requires c κs = omega arith
 
 same-length : tie.Need-same-length
 same-length c = omega arith
@@ -114,7 +104,8 @@ returns-5 c =
     let rule = write .before .before in
     let start = start₄ rule in
     let e = past₃ (rule .before .before) ∙ no-rule rule in
-    (sym e, write .write-header .ensures ∙ made (start .args .kind) (start .args .pid) (start .args .s) (start .args .buffer .now) e)
+    let buffer = start .args .buffer .now in
+    (sym e, (rw (eq-eqb (length buffer) headerLength (rule .before .before .before .before .before .before .if1 .left)) at (write .write-header .ensures)) ∙ made (start .args .kind) (start .args .pid) (start .args .s) buffer e)
 
 pub write-spec : {M : Type 1} → statement M
 write-spec =

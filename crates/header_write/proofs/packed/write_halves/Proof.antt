@@ -5,7 +5,6 @@ use native.Mathlib.Omega.{arith}
 use lib.ListN.{length, take, length-set}
 use lib.Seq.{take-all}
 use Rattle.bits.specs.Fields.{run}
-use Rattle.bits.proofs.Laws.{fit-getD}
 use Rattle.header_layout.proofs.Halves.{half-written}
 use Rattle.header_write.proofs.packed.write_halves.Statement.{statement}
 use Rattle.header_write.proofs.packed.write_halves.Tie as tie
@@ -28,7 +27,7 @@ shared-slice-read-part : tie.Need-shared-slice-read-part Inv-loop μ-loop
 shared-slice-read-part c = omega arith
 
 mul-part-2 : tie.Need-mul-part-2 Inv-loop μ-loop
-mul-part-2 c = let start = c .before .before .before in omega (arith, fit-getD (start .pre .0) (2 * c .before .before .loop .k))
+mul-part-2 c = omega arith
 
 mul-part-3 : tie.Need-mul-part-3 Inv-loop μ-loop
 mul-part-3 c = omega arith
@@ -40,10 +39,7 @@ shared-slice-read-part-2 : tie.Need-shared-slice-read-part-2 Inv-loop μ-loop
 shared-slice-read-part-2 c = omega arith
 
 add-part-2 : tie.Need-add-part-2 Inv-loop μ-loop
-add-part-2 c =
-    let start = c .before .before .before .before in
-    let k = c .before .before .before .loop .k in
-    omega (arith, fit-getD (start .pre .0) (2 * k), fit-getD (start .pre .0) (2 * k + 1))
+add-part-2 c = omega arith
 
 slice-write-part : tie.Need-slice-write-part Inv-loop μ-loop
 slice-write-part c = omega arith
@@ -61,7 +57,7 @@ loop-again c =
     let args = start .args in (
       omega arith,
       simp length-set (turn .inv .1),
-      half-written (turn .part) (args .values .now) (turn .k) (omega arith) (omega (arith, start .pre .1)) (fit-getD (start .pre .0) (2 * turn .k + 1)) (turn .inv .2),
+      half-written (turn .part) (args .values .now) (turn .k) (omega arith) (omega (arith, start .pre)) (turn .inv .2),
     )
 
 same-length : tie.Need-same-length Inv-loop μ-loop
@@ -72,7 +68,7 @@ returns c =
     let turn = c .before .loop in
     let start = c .before .before in
     let args = start .args in
-    ap (run 8) (sym (take-all (turn .k) (turn .part) (omega arith))) ∙ turn .inv .2 ∙ ap (run 4) (take-all (2 * turn .k) (args .values .now) (omega (arith, start .pre .1)))
+    ap (run 8) (sym (take-all (turn .k) (turn .part) (omega arith))) ∙ turn .inv .2 ∙ ap (run 4) (take-all (2 * turn .k) (args .values .now) (omega (arith, start .pre)))
 
 pub write-halves-spec : {M : Type 1} → statement M
 write-halves-spec =

@@ -34,10 +34,10 @@ slots c = search needs
 
 -- each part is back with its length, and so is the whole
 nine : (c : tie.After-write-start) → length (c .write-start .last .0) ≡ 9
-nine c = c .write-start .kept .0 ∙ mid-len 0 9 (start c .args .part .now) (omega (arith, start c .pre .0 .0))
+nine c = c .write-start .kept .0 ∙ mid-len 0 9 (start c .args .part .now) (omega (arith, start c .pre))
 
 whole₁ : (c : tie.After-write-start) → length (put 0 9 (start c .args .part .now) (c .write-start .last .0)) ≡ 184
-whole₁ c = same-len-mid 0 9 (start c .args .part .now) (c .write-start .last .0) (c .write-start .kept .0) ∙ start c .pre .0 .0
+whole₁ c = same-len-mid 0 9 (start c .args .part .now) (c .write-start .last .0) (c .write-start .kept .0) ∙ start c .pre
 
 abbrev after₁ : tie.After-write-start → List ℕ
 after₁ c = put 0 9 (start c .args .part .now) (c .write-start .last .0)
@@ -132,7 +132,7 @@ write-halves-requires c κs =
     let s = start (started (identified control)) in
     let n = slots s in
     let room = mid-len 73 99 (after₃ control) (omega (arith, whole₃ control)) in
-    (s .pre .1 .0 .numbers, omega arith)
+    omega arith
 
 sub-write-private : tie.Need-sub-write-private
 sub-write-private c = omega arith
@@ -157,7 +157,7 @@ returns c =
     let identifiers = identified control in
     let first = started identifiers in
     let s = start first in
-    body-parts (s .args .kind) (s .args .pid) (s .args .s) (s .args .part .now) _ _ _ _ _ (s .pre .0 .0)
+    body-parts (s .args .kind) (s .args .pid) (s .args .s) (s .args .part .now) _ _ _ _ _ (s .pre)
     (nine first) (sixty identifiers) (four control) (twenty-six numbers)
     (private .write-private .kept .0 ∙ mid-len 99 184 (after₄ numbers) (omega (arith, whole₄ numbers)))
     (first .write-start .ensures) (identifiers .write-identifiers .ensures) (control .write-control .ensures (s .args .pid))

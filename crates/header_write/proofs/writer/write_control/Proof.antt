@@ -29,7 +29,7 @@ write-run-requires : tie.Need-write-run-requires
 write-run-requires c κs =
     let start = c .before .before .before .before in
     let n = statuses start in
-    (omega arith, (start .pre .1 .statuses, length-take-le 3 (start .args .part .now) (omega (arith, start .pre)) ∙ omega arith))
+    (omega arith, length-take-le 3 (start .args .part .now) (omega (arith, start .pre)) ∙ omega arith)
 
 mul-part : tie.Need-mul-part
 mul-part c = omega arith
@@ -59,7 +59,7 @@ returns c pid =
     let n = statuses start in
     let left : length (start .args .s .«receive_status») * 2 % 8 ≡ 6 = omega arith in
     control-bits pid (start .args .s) (call .last .0) (start .args .part .now) (call .result) (call .kept .0 ∙ length-take-le 3 (start .args .part .now) (omega (arith, start .pre)))
-    (start .pre .0) (start .pre .1 .emergency) (rw left at (call .ensures))
+    (start .pre) (rw left at (call .ensures))
 
 pub write-control-spec : {M : Type 1} → statement M
 write-control-spec =

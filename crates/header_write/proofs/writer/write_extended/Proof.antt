@@ -1,12 +1,9 @@
 -- `write_extended` meets its contract: three parts, one behind the other. Assumes nothing.
-use mathlib.Core.Path.{_≡_, refl, sym, _∙_}
+use mathlib.Core.Path.{_≡_, sym, _∙_}
 use native.Mathlib.Omega.{arith}
 use lib.ListN.{length, take}
 use lib.Seq.{length-take-le}
-use Rattle.setting.specs.declared.Kind.{Kind}
 use Rattle.setting.specs.Setting.{auxiliaryBytes}
-use Rattle.setting.specs.Rules.{bondingChecks, bondingOf}
-use Rattle.setting.proofs.Refusals.{none-first}
 use Rattle.header_layout.proofs.Private.{copied-all, extended-parts}
 use borrow.Author.Needs.{needs}
 use Rattle.header_write.proofs.writer.write_extended.Statement.{statement}
@@ -64,18 +61,16 @@ same-length : tie.Need-same-length
 same-length c = omega arith
 
 returns : tie.Need-returns
-unfolding bondingChecks
 returns c pid =
     let filled = c .before .before in
     let bonded = filled .before .before .before .before in
     let copied = bonded .before .before .before .before in
     let start = copied .before .before .before .before .before in
     let part = start .args .part .now in
-    extended-parts pid (start .args .s) part _ _ _ (start .pre .0) (auxiliaries start)
+    extended-parts pid (start .args .s) part _ _ _ (start .pre) (auxiliaries start)
     (copied .copy .ensures ∙ copied-all (take 28 part) (start .args .s .auxiliary) (length-take-le 28 part (omega arith) ∙ sym (auxiliaries start)))
     (bonded .write-bonding .ensures)
     (filled .fill .ensures)
-    (none-first (bondingOf Kind.Extended (start .args .s)) refl (start .pre .1))
 
 pub write-extended-spec : {M : Type 1} → statement M
 write-extended-spec =

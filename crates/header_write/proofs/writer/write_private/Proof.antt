@@ -1,12 +1,10 @@
 -- `write_private` meets its contract, by the kind. Assumes nothing.
-use mathlib.Core.Path.{_≡_, sym, ap, subst, _∙_}
+use mathlib.Core.Path.{_≡_, sym, ap, _∙_}
 use mathlib.Core.List.{append-nil}
 use lib.ListN.{length}
 use Rattle.bits.specs.Fields.{run}
 use Rattle.setting.specs.declared.Kind.{Kind}
 use Rattle.setting.specs.Setting.{privateBytes}
-use Rattle.setting.specs.Refusal.{firstOf}
-use Rattle.setting.specs.Rules.{bondingOf}
 use Rattle.header_layout.specs.Rows.{pack}
 use Rattle.header_layout.specs.Layout.{privateTable}
 use Rattle.header_layout.specs.Header.{held, lineBits}
@@ -32,9 +30,7 @@ enum-told-2 : tie.Need-enum-told-2
 enum-told-2 c = omega arith
 
 write-extended-requires : tie.Need-write-extended-requires
-write-extended-requires c κs =
-    let start = c .before .before .before .before in
-    (start .pre .0, subst (λ (k : Kind). firstOf (bondingOf k (start .args .s)) ≡ 0) (c .before .enum-told2 .given .1) (start .pre .1))
+write-extended-requires c κs = omega arith
 
 same-length : tie.Need-same-length
 same-length c = omega arith
@@ -46,7 +42,7 @@ returns c pid =
     let told = copied .before .before .before .before in
     let start = told .before .before .before in
     let s = start .args .s in
-    ap (run 8) (copied .copy .ensures ∙ copied-all (start .args .part .now) (s .«private_data») (start .pre .0 ∙ sym (privates start)))
+    ap (run 8) (copied .copy .ensures ∙ copied-all (start .args .part .now) (s .«private_data») (start .pre ∙ sym (privates start)))
     ∙ sym (ap (λ (k : Kind). lineBits pid s (privateTable k)) (told .enum-told .given .1) ∙ append-nil (run 8 (s .«private_data»)))
 
 same-length-2 : tie.Need-same-length-2

@@ -7,38 +7,38 @@ use native.Mathlib.Omega.{arith}
 use Rattle.header_write.proofs.writer.write_start.Statement.{statement}
 use Rattle.header_write.proofs.writer.write_start.Tie as tie
 
-cast-t6 : tie.Need-cast-t6
-cast-t6 c = omega arith
+cast-t7 : tie.Need-cast-t7
+cast-t7 c = omega arith
 
-cast-t8 : tie.Need-cast-t8
-cast-t8 c = omega arith
+cast-t9 : tie.Need-cast-t9
+cast-t9 c = omega arith
 
-add-t9 : tie.Need-add-t9
-add-t9 c = omega arith
+add-t11 : tie.Need-add-t11
+add-t11 c = omega arith
 
-mul-t10 : tie.Need-mul-t10
-mul-t10 c = omega arith
+mul-t13 : tie.Need-mul-t13
+mul-t13 c = omega arith
 
-mul-t11 : tie.Need-mul-t11
-mul-t11 c = omega arith
+mul-t15 : tie.Need-mul-t15
+mul-t15 c = omega arith
 
-add-t12 : tie.Need-add-t12
-add-t12 c = omega arith
-
-add-t13 : tie.Need-add-t13
-add-t13 c = omega arith
-
-cast-t15 : tie.Need-cast-t15
-cast-t15 c = omega arith
-
-mul-t17 : tie.Need-mul-t17
-mul-t17 c = omega arith
+add-t16 : tie.Need-add-t16
+add-t16 c = omega arith
 
 add-t18 : tie.Need-add-t18
 add-t18 c = omega arith
 
-cast-t19 : tie.Need-cast-t19
-cast-t19 c = omega arith
+cast-t21 : tie.Need-cast-t21
+cast-t21 c = omega arith
+
+mul-t23 : tie.Need-mul-t23
+mul-t23 c = omega arith
+
+add-t24 : tie.Need-add-t24
+add-t24 c = omega arith
+
+cast-t25 : tie.Need-cast-t25
+cast-t25 c = omega arith
 
 slice-aggregate-copy : tie.Need-slice-aggregate-copy
 slice-aggregate-copy c = omega arith
@@ -54,24 +54,24 @@ returns c =
     let copy = c .before .before in
     let start = copy .before .before .before .before .before .before .before .before .before .before in
     let args = start .args in
-    ap (run 8) (copy .copy .ensures ∙ copied-all (args .part .now) (startBytes (args .pid) (args .s)) (start .pre .0 .0))
-    ∙ start-bits (args .pid) (args .s) (start .pre .0 .1) (start .pre .1)
+    ap (run 8) (copy .copy .ensures ∙ copied-all (args .part .now) (startBytes (args .pid) (args .s)) (start .pre))
+    ∙ start-bits (args .pid) (args .s)
 
 pub write-start-spec : {M : Type 1} → statement M
 write-start-spec =
     tie.close
     (tie.spec
-    cast-t6
-    cast-t8
-    add-t9
-    mul-t10
-    mul-t11
-    add-t12
-    add-t13
-    cast-t15
-    mul-t17
+    cast-t7
+    cast-t9
+    add-t11
+    mul-t13
+    mul-t15
+    add-t16
     add-t18
-    cast-t19
+    cast-t21
+    mul-t23
+    add-t24
+    cast-t25
     slice-aggregate-copy
     copy-requires
     same-length

@@ -1,13 +1,16 @@
 -- `write_header` meets its contract: the body, and its CRC behind it. Assumes nothing.
-use mathlib.Core.Path.{_∙_}
+use mathlib.Core.Path.{refl, _∙_}
 use native.Mathlib.Omega.{arith}
+use borrow.Author.Tests.{eq-eqb, ne-eqb}
 use borrow.Rule.Slice.PartMut.{same-len-mid, mid-len}
+use lib.ListN.{length}
 use Rattle.bits.proofs.Laws.{fit-of}
 use Rattle.slices.proofs.Front.{put}
+use Rattle.header_layout.specs.Header.{headerLength}
 use Rattle.header_layout.proofs.Whole.{header-parts}
 use borrow.Author.Needs.{needs}
-use Rattle.header_write.proofs.writer.write_header.Statement.{statement}
-use Rattle.header_write.proofs.writer.write_header.Tie as tie
+use Rattle.header_write.proofs.write_header.Statement.{statement}
+use Rattle.header_write.proofs.write_header.Tie as tie
 
 sub-write-body : tie.Need-sub-write-body
 sub-write-body c = omega arith
@@ -53,15 +56,21 @@ returns c =
     let word = c .before .before in
     let register = word .before .before in
     let body = register .before .before .before .before .before in
-    let start = body .before .before .before in
+    let test = body .before .before in
+    let start = test .before .before in
+    let long = test .if1 .taken in
     let buffer = start .args .buffer .now in
     let front = put 0 184 buffer (body .write-body .last .0) in
-    let whole = same-len-mid 0 184 buffer (body .write-body .last .0) (body .write-body .kept .0) ∙ start .pre .0 .0 in
-    header-parts (start .args .kind) (start .args .pid) (start .args .s) buffer _ _ (register .register .result) (start .pre .0 .0)
-    (body .write-body .kept .0 ∙ mid-len 0 184 buffer (omega (arith, start .pre .0 .0)))
+    let whole = same-len-mid 0 184 buffer (body .write-body .last .0) (body .write-body .kept .0) ∙ long in
+    rw (eq-eqb (length buffer) headerLength long)
+    (header-parts (start .args .kind) (start .args .pid) (start .args .s) buffer _ _ (register .register .result) (long)
+    (body .write-body .kept .0 ∙ mid-len 0 184 buffer (omega (arith, long)))
     (word .write-word .kept .0 ∙ mid-len 184 188 front (omega arith))
     (body .write-body .ensures) (register .register .ensures) (word .write-word .ensures)
-    (fit-of 8 _ (λ i. c .slice-known3 .given i .fits))
+    (fit-of 8 _ (λ i. c .slice-known3 .given i .fits)))
+
+returns-2 : tie.Need-returns-2
+returns-2 c = rw (ne-eqb (length (c .before .before .args .buffer .now)) headerLength (c .if1 .left)) refl
 
 pub write-header-spec : {M : Type 1} → statement M
 write-header-spec =
@@ -80,4 +89,5 @@ write-header-spec =
     part-write-word-end
     write-word-requires
     same-length
-    returns)
+    returns
+    returns-2)
