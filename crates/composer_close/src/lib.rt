@@ -1,8 +1,6 @@
 // The call for C that closes an open frame: its header says the slots that were filled. The run's state is lent bytes.
 mod header;
 
-use setting_bytes::ANNOUNCED;
-use setting_bytes::ANNOUNCED_BYTES;
 use composer::COMPOSER_BYTES;
 use composer::LAST;
 use composer::OPEN;
@@ -10,6 +8,8 @@ use composer::PLAN;
 use composer::SETTING;
 use packet::FRAME_BYTES;
 use packet::PACKET_BYTES;
+use setting_bytes::ANNOUNCED;
+use setting_bytes::ANNOUNCED_BYTES;
 ghost use mathlib.Core.Path.{_≡_};
 ghost use mathlib.Core.List.{_∷_, _++_};
 ghost use lib.ListN.{length, take, replicate};
@@ -64,7 +64,7 @@ pub extern "C" fn niranbok_composer_close(state: &mut [u8], frame: &mut [u8]) ->
     }
     slices::look(state);
     let said = header::header_setting(state);
-    let pid = setting_bytes::word(state[0], state[1]);
+    let pid = bits::word(state[0], state[1]);
     let kind = setting_bytes::kind_of(state[2]);
     // What passed the checks is not refused here.
     header_write::write(&mut frame[0..PACKET_BYTES], pid, kind, said);
