@@ -1,15 +1,15 @@
 -- Laws of packed fields, over the width. Assumes nothing.
-use Prim.Native.Nat.{ℕ, zero, suc, _+_, _*_, _/_, _%_, _^_, _≤_, _<_}
+use Prim.Native.Nat.{ℕ, zero, suc, _+_, _-_, _*_, _/_, _%_, _^_, _≤_, _<_}
 use mathlib.Core.Path.{_≡_, refl, sym, ap, ap₂, _∙_, subst}
 use mathlib.Core.List.{List, [], _∷_, _++_, append-assoc, append-nil}
 use native.Mathlib.Omega.{arith}
-use native.Mathlib.Nat.{add-comm, zero-add, add-suc, suc-mul, zero-mul, mod-lt, mod-eq-of-lt, pow-succ', suc-add, mod-one}
+use native.Mathlib.Nat.{add-comm, add-mul, mul-assoc, zero-add, add-suc, suc-mul, zero-mul, mod-lt, mod-eq-of-lt, pow-succ', suc-add, mod-one}
 use native.Mathlib.Numerals.{add-one, one-add}
 use lib.ListN.{getD, length, take, drop, length-append, length-drop}
 use lib.Seq.{take-append-le, drop-append-le, take-at, drop-at, take-add, length-take-le, drop-nil, drop-drop}
 use lib.Dec.{lit<}
 use lib.Arith.{digits-lt}
-use lib.Pow.{high, low, mod-mod-pow, pow-pos, shr-shr, mod-pow-add, field}
+use lib.Pow.{high, low, mod-mod-pow, pow-add, pow-pos, shr-shr, mod-pow-add, field}
 use Rattle.bits.specs.Fields.{Fit, none, more, bitsOf, number, run, cut}
 
 -- ---- one field
@@ -70,6 +70,17 @@ bitsOf-number (more {v = b} {vs = bs} h t) =
     ap₂ (λ (x : ℕ) (xs : List ℕ). x ∷ xs)
     (ap (λ (n : ℕ). n % 2) (high b (length bs) (number-lt t)) ∙ mod-eq-of-lt h)
     (bitsOf-low (length bs) b (number-lt t) ∙ bitsOf-number t)
+
+-- of bits in two parts the first are the higher
+pub number-append : (xs ys : List ℕ) → number (xs ++ ys) ≡ number xs * 2 ^ length ys + number ys
+unfolding number
+number-append [] ys = rw (zero-mul, zero-add)
+number-append (x ∷ xs) ys =
+    let a = 2 ^ length xs in
+    let b = 2 ^ length ys in
+    ap₂ (λ (k n : ℕ). x * 2 ^ k + n) (length-append xs ys) (number-append xs ys)
+    ∙ ap (λ (p : ℕ). x * p + (number xs * b + number ys)) (pow-add 2 (length xs) (length ys))
+    ∙ omega (arith, mul-assoc x a b, add-mul (x * a) (number xs) b)
 
 -- ---- runs of fields
 
@@ -159,6 +170,35 @@ run-one w v = append-nil (bitsOf w v)
 pub run-cons : (w v : ℕ) (vs : List ℕ) → run w (v ∷ vs) ≡ bitsOf w v ++ run w vs
 unfolding run
 run-cons w v vs = refl
+
+-- the number of a run with one value more
+pub number-more : (w : ℕ) (vs : List ℕ) (v : ℕ) → number (run w (vs ++ (v ∷ []))) ≡ number (run w vs) * 2 ^ w + v % 2 ^ w
+number-more w vs v =
+    ap number (run-append w vs (v ∷ []) ∙ ap (λ (bs : List ℕ). run w vs ++ bs) (run-one w v))
+    ∙ number-append (run w vs) (bitsOf w v)
+    ∙ ap₂ (λ (k n : ℕ). number (run w vs) * 2 ^ k + n) (length-bitsOf w v) (number-bitsOf w v)
+
+-- a run is the field of its number
+pub bitsOf-run : (w : ℕ) (vs : List ℕ) → bitsOf (length vs * w) (number (run w vs)) ≡ run w vs
+bitsOf-run w vs = ap (λ (n : ℕ). bitsOf n (number (run w vs))) (sym (length-run w vs)) ∙ bitsOf-number (fit-run w vs)
+
+-- up to eight bytes, cut out of others, are the field of their number
+pub bitsOf-part : (n : ℕ) → n ≤ 8 → (bytes : List ℕ) (i : ℕ) → i + n ≤ length bytes → {r : ℕ} → r ≡ number (run 8 (take (i + n - i) (drop i bytes))) % 2 ^ 64
+    → bitsOf (n * 8) r ≡ run 8 (take n (drop i bytes))
+bitsOf-part n h bytes i l {r} e =
+    ap (bitsOf (n * 8)) (e ∙ ap₂ (λ (k j : ℕ). number (run 8 (take k (drop i bytes))) % 2 ^ j) size room)
+    ∙ bitsOf-mod (n * 8) (64 - n * 8) (number (run 8 part))
+    ∙ ap (λ (k : ℕ). bitsOf (k * 8) (number (run 8 part))) (sym (length-take-le n (drop i bytes) (rw length-drop (omega arith))))
+    ∙ bitsOf-run 8 part
+  where
+    part : List ℕ
+    part = take n (drop i bytes)
+
+    size : i + n - i ≡ n
+    size = omega arith
+
+    room : 64 ≡ 64 - n * 8 + n * 8
+    room = omega arith
 
 -- one value more
 pub cut-more : (w n : ℕ) (bs : List ℕ) → cut w (suc n) bs ≡ cut w n bs ++ (number (take w (drop (n * w) bs)) ∷ [])

@@ -2,12 +2,12 @@
 use crate::Bond;
 use counters::FramePosition;
 use counters::RelativeNumber;
+use counters::SLOTS;
+use counters::STREAMS;
 use header_check::Checked;
 use packet::FRAME_BYTES;
 use packet::PACKET_BYTES;
 use setting::Kind;
-use counters::SLOTS;
-use counters::STREAMS;
 ghost use mathlib.Core.Path.{_≡_};
 ghost use mathlib.Core.Bool.{true};
 ghost use Prim.Native.Nat.{_≤_, _%_};

@@ -2,11 +2,11 @@
 mod checks;
 mod slots;
 
-use setting_bytes::SETTING_BYTES;
 use composer::COMPOSER_BYTES;
 use composer::FILLED;
 use composer::OPEN;
 use composer::SETTING;
+use setting_bytes::SETTING_BYTES;
 ghost use mathlib.Core.Path.{_≡_};
 ghost use mathlib.Core.List.{_∷_, _++_};
 ghost use lib.ListN.{length, take, replicate};

@@ -1,6 +1,6 @@
 // The slots of a frame, one after another: slot i is the 188 bytes at 188 × i.
-use packet::PACKET_BYTES;
 use counters::SLOTS;
+use packet::PACKET_BYTES;
 ghost use mathlib.Core.Path.{_≡_};
 ghost use lib.ListN.{length};
 ghost use Rattle.packet.specs.Packets.{packetLength, frameLength, nullPacket};

@@ -45,7 +45,7 @@ fn long_state_refusal(bytes: &[u8]) -> u8
     requires { ⌜ length (now bytes) ≡ composerLength ⌝ }
     ensures { λ r. ⌜ r ≡ firstOf (stateChecks (composerOf (now (bytes .entry)))) ⌝ }
 {
-    if !setting::pid_allowed(setting_bytes::word(bytes[0], bytes[1])) {
+    if !setting::pid_allowed(bits::word(bytes[0], bytes[1])) {
         return 2;
     }
     if !is_coded(bytes) {

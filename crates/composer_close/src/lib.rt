@@ -63,7 +63,7 @@ pub extern "C" fn niranbok_composer_close(state: &mut [u8], frame: &mut [u8]) ->
     }
     slices::look(state);
     let said = header::header_setting(state);
-    let pid = setting_bytes::word(state[0], state[1]);
+    let pid = bits::word(state[0], state[1]);
     let kind = setting_bytes::kind_of(state[KIND]);
     // The checks have asked the rules of what is said.
     header_write::write_header(&mut frame[0..PACKET_BYTES], pid, kind, said);

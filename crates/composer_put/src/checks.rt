@@ -19,10 +19,10 @@ fn stream_refusal(state: &[u8], stream: &[u8], r: RelativeNumber, empty: u64) ->
     requires { ⌜ empty ≡ slotBits (emptyFor (r .0) (part 168 52 (now state)) (marksOf (part 338 52 (now state)))) ⌝ }
     ensures { λ t. ⌜ t ≡ firstOf (streamChecks (composerOf (now (state .entry))) (r .0) (now (stream .entry))) ⌝ }
 {
-    if !r.is_available(setting_bytes::word(state[AVAILABILITY], state[AVAILABILITY + 1])) {
+    if !r.is_available(bits::word(state[AVAILABILITY], state[AVAILABILITY + 1])) {
         return 13;
     }
-    let pid = setting_bytes::word(state[0], state[1]);
+    let pid = bits::word(state[0], state[1]);
     let packets = slots::packets_for(empty, stream.len());
     if packet::has_unfit(&stream[0..PACKET_BYTES * packets], pid) {
         return 12;

@@ -1,12 +1,13 @@
 -- Laws of bytes that enter the register one behind the other. Assumes nothing.
-use Prim.Native.Nat.{ℕ, _+_, _*_, _^_, _≤_, _<_}
-use mathlib.Core.Path.{_≡_, sym, ap, _∙_}
-use mathlib.Core.List.{List, _++_, append-assoc}
+use Prim.Native.Nat.{ℕ, _+_, _-_, _%_, _^_, _≤_, _<_}
+use mathlib.Core.Path.{_≡_, sym, ap, ap₂, _∙_}
+use mathlib.Core.List.{List, _++_}
 use native.Mathlib.Numerals.{add-one}
+use lib.Dec.{lit≤}
 use lib.ListN.{length, take, drop, getD, drop-of-length-le, take-append-drop}
-use lib.Seq.{drop-cons}
-use Rattle.bits.specs.Fields.{bitsOf, run}
-use Rattle.bits.proofs.Laws.{bitsOf-join, run-append}
+use lib.Seq.{drop-cons, drop-drop}
+use Rattle.bits.specs.Fields.{bitsOf, number, run}
+use Rattle.bits.proofs.Laws.{bitsOf-part, run-append}
 use Rattle.crc.specs.Crc.{registerFrom}
 use Rattle.crc.proofs.Laws.{registerFrom-append}
 
@@ -30,10 +31,9 @@ parts-in s m n =
     sym (registerFrom-append s (run 8 (take n m)) (run 8 (drop n m)))
     ∙ ap (registerFrom s) (sym (run-append 8 (take n m) (drop n m)) ∙ ap (run 8) (take-append-drop n m))
 
--- a byte joins the bits before it
-pub byte-joins : (w r : ℕ) (m : List ℕ) (i : ℕ) → i < length m → getD m i 0 < 2 ^ 8
-    → bitsOf w r ++ run 8 (drop i m) ≡ bitsOf (w + 8) (r * 2 ^ 8 + getD m i 0) ++ run 8 (drop (i + 1) m)
-byte-joins w r m i h l =
-    ap (λ (bs : List ℕ). bitsOf w r ++ bs) (byte-first m i h)
-    ∙ sym (append-assoc (bitsOf w r) (bitsOf 8 (getD m i 0)) (run 8 (drop (i + 1) m)))
-    ∙ ap (λ (bs : List ℕ). bs ++ run 8 (drop (i + 1) m)) (bitsOf-join w 8 r l)
+-- the eight bytes at i, as one number, are the first of those that are left
+pub long-first : (m : List ℕ) (i : ℕ) → i + 8 ≤ length m → {w : ℕ} → w ≡ number (run 8 (take (i + 8 - i) (drop i m))) % 2 ^ 64
+    → run 8 (drop i m) ≡ bitsOf 64 w ++ run 8 (drop (i + 8) m)
+long-first m i h e =
+    ap (run 8) (sym (take-append-drop 8 (drop i m))) ∙ run-append 8 (take 8 (drop i m)) (drop 8 (drop i m))
+    ∙ ap₂ (λ (first rest : List ℕ). first ++ rest) (sym (bitsOf-part 8 (lit≤ tt) m i h e)) (ap (run 8) (drop-drop 8 i m))

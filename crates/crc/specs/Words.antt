@@ -1,15 +1,8 @@
 -- What the functions promise each other by which eight bytes at once enter a register.
 use Prim.Native.Nat.{ℕ, _+_, _/_, _%_, _^_, _≤_, _<_}
-use mathlib.Core.List.{List, _++_}
 use mathlib.Core.Path.{_≡_}
 use lib.Bits.{bitXor}
-use lib.ListN.{drop}
-use Rattle.bits.specs.Fields.{bitsOf, run}
 use Rattle.crc.specs.Crc.{shifts}
-
--- the eight bytes at i are the bits of w
-abbrev pub LongAt : List ℕ → ℕ → ℕ → Type 0
-LongAt bytes i w = run 8 (drop i bytes) ≡ bitsOf 64 w ++ run 8 (drop (i + 8) bytes)
 
 -- 64 bits as a register: what stands above the low 32 is so many shifts on
 unfoldable pub reduced : ℕ → ℕ

@@ -4,7 +4,7 @@ ghost use mathlib.Core.Path.{_≡_};
 ghost use lib.ListN.{length};
 ghost use Rattle.bits.specs.Fields.{bitsOf, run};
 ghost use Rattle.crc.specs.Crc.{registerFrom, registerOf, shifts};
-ghost use Rattle.crc.specs.Words.{Ahead, LongAt, Tabled, held, reduced};
+ghost use Rattle.crc.specs.Words.{Ahead, Tabled, held, reduced};
 
 const POLY: u32 = 0x04C1_1DB7;
 
@@ -41,20 +41,6 @@ fn bytes_in(s: u32, bytes: &[u8]) -> u32
     while i < bytes.len() {
         r = byte_in(r, bytes[i]);
         i += 1;
-    }
-    r
-}
-
-// The eight bytes at `i` as one number, the first of them the highest.
-fn long(bytes: &[u8], i: usize) -> u64
-    requires { ⌜ i + 8 ≤ length (now bytes) ⌝ }
-    ensures { λ r. ⌜ LongAt (now (bytes .entry)) i r ⌝ }
-{
-    let mut r: u64 = 0;
-    let mut k = 0;
-    while k < 8 {
-        r = r * 256 + bytes[i + k] as u64;
-        k += 1;
     }
     r
 }
@@ -132,11 +118,11 @@ fn longs_in(bytes: &[u8]) -> u32
     requires { ⌜ (16 ≤ length (now bytes)) × (length (now bytes) % 8 ≡ 0) ⌝ }
     ensures { λ q. ⌜ q ≡ registerOf (now (bytes .entry)) ⌝ }
 {
-    let mut r = long(bytes, 0) ^ 0xFFFF_FFFF_0000_0000;
-    let mut s = long(bytes, 8);
+    let mut r = bits::long(&bytes[0..8]) ^ 0xFFFF_FFFF_0000_0000;
+    let mut s = bits::long(&bytes[8..16]);
     let mut i = 16;
     while i < bytes.len() {
-        let t = long_on(r, 128) ^ long(bytes, i);
+        let t = long_on(r, 128) ^ bits::long(&bytes[i..i + 8]);
         r = s;
         s = t;
         i += 8;

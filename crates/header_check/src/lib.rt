@@ -1,9 +1,9 @@
 // A packet checked as a header: its refusal, and of what it says the part that receiving and gathering use. The reader of whole headers
 // is made of it.
 use counters::FramePosition;
-use setting::Kind;
 use counters::SLOTS;
 use counters::STREAMS;
+use setting::Kind;
 ghost use mathlib.Core.Path.{_≡_};
 ghost use Rattle.header_check.specs.Checking.{checkedOf};
 

@@ -1,9 +1,9 @@
 // The check's parts: what a packet of 188 bytes shows and says, as far as it is asked.
 use crate::Checked;
 use counters::FramePosition;
-use setting::Kind;
 use counters::SLOTS;
 use counters::STREAMS;
+use setting::Kind;
 ghost use mathlib.Core.Path.{_≡_};
 ghost use Prim.Native.Nat.{_+_, _*_, _<_};
 ghost use lib.ListN.{length, getD};
@@ -14,19 +14,12 @@ ghost use Rattle.setting.specs.Rules.{bondingChecks, ruleChecks};
 ghost use Rattle.header_layout.specs.Header.{headerLength, firsts, seconds, packetChecks, reading};
 ghost use Rattle.header_check.specs.Checking.{partsOf, partsBeside};
 
-// A number of 16 bits from its two bytes.
-fn word(high: u8, low: u8) -> u16
-    ensures { λ r. ⌜ r ≡ high * 256 + low ⌝ }
-{
-    (high as u16) * 256 + low as u16
-}
-
 // The number of 16 bits that starts at byte `at`.
 fn word_at(part: &[u8], at: usize) -> u16
     requires { ⌜ at + 1 < length (now part) ⌝ }
     ensures { λ r. ⌜ r ≡ getD (now (part .entry)) at 0 * 256 + getD (now (part .entry)) (at + 1) 0 ⌝ }
 {
-    word(part[at], part[at + 1])
+    bits::word(part[at], part[at + 1])
 }
 
 // 3 to 7: what the packet itself shows.
@@ -145,7 +138,10 @@ pub(crate) fn said_by(packet: &[u8], kind: Kind) -> Checked
     }
     let availability = word_at(packet, 7) / 2;
     let mut numbers = [0u8; SLOTS];
-    read_halves(&mut numbers, &packet[header_layout::NUMBERS..header_layout::PRIVATE]);
+    read_halves(
+        &mut numbers,
+        &packet[header_layout::NUMBERS..header_layout::PRIVATE],
+    );
     if setting_slots::has_unavailable(availability, &numbers) {
         return refused(9);
     }

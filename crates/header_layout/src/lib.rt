@@ -1,9 +1,9 @@
 // The header's 188 bytes: where its parts start, by the formulas over the counts. The table, what stands in it and what a packet says
 // by it are in specs/; the laws that the writer and the reader need are in proofs/.
-use setting::AUXILIARY_BYTES;
-use setting::PRIVATE_BYTES;
 use counters::SLOTS;
 use counters::STREAMS;
+use setting::AUXILIARY_BYTES;
+use setting::PRIVATE_BYTES;
 
 pub const HEADER_LENGTH: usize = 188;
 // The CRC runs from here on.

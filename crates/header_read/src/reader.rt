@@ -1,10 +1,10 @@
 // The reader's parts: what a header says that its check does not answer, and all of it as a setting.
 use crate::packed;
+use counters::STREAMS;
 use header_check::Checked;
 use setting::AUXILIARY_BYTES;
 use setting::Kind;
 use setting::PRIVATE_BYTES;
-use counters::STREAMS;
 use setting::Setting;
 ghost use mathlib.Core.Path.{_≡_};
 ghost use lib.ListN.{length, take, drop};
@@ -25,7 +25,10 @@ fn read_private(data: &mut [u8], auxiliary: &mut [u8], packet: &[u8], kind: Kind
             slices::copy(data, &packet[header_layout::PRIVATE..header_layout::CRC]);
         }
         Kind::Extended => {
-            slices::copy(auxiliary, &packet[header_layout::PRIVATE..header_layout::BONDING]);
+            slices::copy(
+                auxiliary,
+                &packet[header_layout::PRIVATE..header_layout::BONDING],
+            );
         }
     }
 }

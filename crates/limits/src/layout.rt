@@ -1,9 +1,9 @@
 // Lengths in bytes, and where the fields of a setting stand in its bytes.
+use counters::SLOTS;
+use counters::STREAMS;
 use libc::STDOUT_FILENO;
 use setting::AUXILIARY_BYTES;
 use setting::PRIVATE_BYTES;
-use counters::SLOTS;
-use counters::STREAMS;
 
 fn print_length(name: &[u8], bytes: u64) {
     io::write_all(STDOUT_FILENO, b"length\t");
@@ -62,7 +62,11 @@ pub(crate) fn print_stream_places() {
         (setting_bytes::ANNOUNCED + setting_bytes::EMERGENCY) as u64,
         1,
     );
-    print_place(b"relative_ts_number", setting_bytes::NUMBERS as u64, SLOTS as u64);
+    print_place(
+        b"relative_ts_number",
+        setting_bytes::NUMBERS as u64,
+        SLOTS as u64,
+    );
 }
 
 // The private data, and the fields of an extended header.

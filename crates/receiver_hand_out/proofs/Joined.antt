@@ -10,15 +10,13 @@ use borrow.Author.Tests.{eqb-true, not-false}
 use lib.Arith.{digits-lt}
 use lib.Bits.{bitAnd, bitOr, bitXor, and-block, or-block, xor-block, and-le-r, and-lt, or-lt, xor-lt}
 use lib.Dec.{eqb, lit<}
-use lib.ListN.{length, getD, take, drop, replicate, length-drop, drop-of-length-le}
+use lib.ListN.{length, getD, drop, replicate, length-drop, drop-of-length-le}
 use lib.Pow.{pow-add}
 use lib.Seq.{take-all, drop-cons}
 use Rattle.slices.specs.Slices.{anyBelow}
 use Rattle.slices.proofs.Any.{any-each}
 use Rattle.bits.specs.Fields.{Fit, none, more, bitsOf, number, run, cut}
-use Rattle.bits.proofs.Laws.{length-bitsOf, number-bitsOf, bitsOf-split, bitsOf-mod, bitsOf-join, bits-bitsOf, length-cut, fit-drop, fit-cut, cut-run, run-cut}
-use Rattle.receiver.specs.Packed.{packedLength, unpacked}
-use Rattle.receiver.proofs.Packing.{unpacked-part}
+use Rattle.bits.proofs.Laws.{length-bitsOf, number-bitsOf, bitsOf-split, bitsOf-mod, bitsOf-join, bits-bitsOf, length-cut, fit-cut, cut-run, run-cut}
 use Rattle.receiver_hand_out.specs.Halves.{halvesOf, marked}
 
 -- the number that values of w bits make, the first of them the highest
@@ -184,25 +182,9 @@ marks-of w r hw hr =
     ∙ marks-are hr (halves-fit w))
     ∙ halves-joined (marked-fit r hs) (length-marked r hs ∙ length-halves w)
 
--- ---- eight bytes
+-- ---- the lowest four halves
 
-module _ (bs : List ℕ) (l : length bs ≡ 8) where
-  pub bytes-joined : joined 8 bs
-      ≡ getD bs 0 0 * 2 ^ 56 + (getD bs 1 0 * 2 ^ 48 + (getD bs 2 0 * 2 ^ 40 + (getD bs 3 0 * 2 ^ 32
-      + (getD bs 4 0 * 2 ^ 24 + (getD bs 5 0 * 2 ^ 16 + (getD bs 6 0 * 2 ^ 8 + getD bs 7 0))))))
-  bytes-joined =
-      let at = joined-from 8 bs l in
-      let end = joined-none 8 bs 8 (omega arith) in
-      omega (arith, at 0 (omega arith), at 1 (omega arith), at 2 (omega arith), at 3 (omega arith), at 4 (omega arith), at 5 (omega arith), at 6 (omega arith), at 7 (omega arith), end)
-
-  pub bytes-halves : Fit 8 bs → {w : ℕ} → w ≡ joined 8 bs → halvesOf w ≡ cut 4 16 (run 8 bs)
-  unfolding halvesOf
-  bytes-halves f e = ap (cut 4 16) (ap (bitsOf 64) e ∙ ap (λ (n : ℕ). bitsOf (n * 8) (joined 8 bs)) (sym l) ∙ bits-joined f)
-
--- ---- the last two bytes
-
--- the lowest four halves
-low-halves : (w : ℕ) → drop 12 (halvesOf w) ≡ cut 4 4 (bitsOf 16 w)
+pub low-halves : (w : ℕ) → drop 12 (halvesOf w) ≡ cut 4 4 (bitsOf 16 w)
 unfolding halvesOf cut bitsOf
 low-halves w = refl
 
@@ -211,16 +193,3 @@ unfolding halvesOf cut bitsOf number
 only-low w =
     let none : w % 65536 / 65536 ≡ 0 = omega arith in
     ap (cut 4 16) (bitsOf-split 48 16 (w % 65536) ∙ ap₂ (λ (x y : List ℕ). x ++ y) (ap (bitsOf 48) none) (bitsOf-mod 16 0 w))
-
-pub last-four : (bs : List ℕ) → length bs ≡ packedLength → Fit 8 bs → {w : ℕ} → w ≡ getD bs 24 0 * 2 ^ 8 + getD bs 25 0 → drop 12 (halvesOf w) ≡ take 4 (drop 48 (unpacked bs))
-last-four bs l f {w} e =
-    let two : length (drop 24 bs) ≡ 2 = length-drop 24 bs ∙ ap (λ (n : ℕ). n - 24) l in
-    let first = joined-from 8 bs l 24 (omega arith) in
-    let second = joined-from 8 bs l 25 (omega arith) in
-    let end = joined-none 8 bs 26 (omega arith) in
-    let whole : w ≡ joined 8 (drop 24 bs) = omega arith in
-    low-halves w
-    ∙ ap (cut 4 4)
-    (ap (bitsOf 16) whole ∙ ap (λ (n : ℕ). bitsOf (n * 8) (joined 8 (drop 24 bs))) (sym two) ∙ bits-joined (fit-drop 24 f)
-    ∙ ap (run 8) (sym (take-all 2 (drop 24 bs) (omega arith))))
-    ∙ unpacked-part 24 2 bs (omega arith) l

@@ -7,43 +7,18 @@ ghost use mathlib.Core.List.{_++_};
 ghost use Prim.Native.Nat.{_+_, _*_, _≤_};
 ghost use lib.Dec.{ltb};
 ghost use lib.ListN.{length, take, drop, replicate};
-ghost use Rattle.bits.specs.Fields.{run, cut};
 ghost use Rattle.packet.specs.Packets.{packetLength};
 ghost use Rattle.slices.specs.Slices.{over};
 ghost use Rattle.receiver.specs.Packed.{packedLength, unpacked};
 ghost use Rattle.receiver.specs.Store.{storeLength, numbered, slotsFor};
 ghost use Rattle.receiver_hand_out.specs.Halves.{halvesOf, marked};
 
-// A byte as a wider number, of which it is known that it was a byte.
-fn wide(byte: u8) -> u64
-    ensures { λ t. ⌜ (t ≡ byte) × (t ≤ 255) ⌝ }
-{
-    byte as u64
-}
-
-// Eight bytes as one number, the first of them the highest. They are written out, four and four, since the compiler makes one load of that, and
-// not of a loop or of one long sum.
-fn word(bytes: &[u8]) -> u64
-    requires { ⌜ length (now bytes) ≡ 8 ⌝ }
-    ensures { λ t. ⌜ halvesOf t ≡ cut 4 16 (run 8 (now (bytes .entry))) ⌝ }
-{
-    let high = (wide(bytes[0]) << 56)
-        + (wide(bytes[1]) << 48)
-        + (wide(bytes[2]) << 40)
-        + (wide(bytes[3]) << 32);
-    let low = (wide(bytes[4]) << 24)
-        + (wide(bytes[5]) << 16)
-        + (wide(bytes[6]) << 8)
-        + wide(bytes[7]);
-    high + low
-}
-
 // The halves of `word` that are r, each as the highest bit of its half: that of y is set where the half of x is not 0, and no carry leaves a half.
 fn marks(word: u64, r: u8) -> u64
     requires { ⌜ r ≤ 15 ⌝ }
     ensures { λ t. ⌜ halvesOf t ≡ marked r (halvesOf word) ⌝ }
 {
-    let x = word ^ (wide(r) * 0x1111_1111_1111_1111);
+    let x = word ^ (bits::wide(r) * 0x1111_1111_1111_1111);
     let y = ((x & 0x7777_7777_7777_7777) + 0x7777_7777_7777_7777) | x;
     (y & 0x8888_8888_8888_8888) ^ 0x8888_8888_8888_8888
 }
@@ -53,7 +28,7 @@ fn marks_at(numbers: &[u8], at: usize, r: u8) -> u64
     requires { ⌜ (length (now numbers) ≡ packedLength) × (at + 8 ≤ packedLength) × (r ≤ 15) ⌝ }
     ensures { λ t. ⌜ halvesOf t ≡ marked r (take 16 (drop (2 * at) (unpacked (now (numbers .entry))))) ⌝ }
 {
-    marks(word(&numbers[at..at + 8]), r)
+    marks(bits::long(&numbers[at..at + 8]), r)
 }
 
 // Those among the last four slots, in the low halves.
@@ -61,7 +36,7 @@ fn last_marks(numbers: &[u8], r: u8) -> u64
     requires { ⌜ (length (now numbers) ≡ packedLength) × (r ≤ 15) ⌝ }
     ensures { λ t. ⌜ halvesOf t ≡ replicate 12 0 ++ marked r (take 4 (drop 48 (unpacked (now (numbers .entry))))) ⌝ }
 {
-    marks((wide(numbers[24]) << 8) + wide(numbers[25]), r) % 0x1_0000
+    marks(bits::long(&numbers[24..26]), r) % 0x1_0000
 }
 
 // How many slots are marked in four words. A mark leaves three bits of its half free: each word has one of the four, and one count is enough.

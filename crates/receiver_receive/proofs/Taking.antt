@@ -74,9 +74,10 @@ module _ (b p : List ℕ) (store : ℕ) (l : length b ≡ receiverLength) (w : s
         → {opened : List ℕ} → packed (said .«relative_ts_number») ≡ opened
         → after ≡ take stageAt b ++ (stageBytes (r .stage) ++ (opened ++ take packedLength (drop numbersAt b)))
         → Moves event after
-    renews said t o a =
-        (v ∙ ap (λ (u : Received). eventNumber (u .event)) t,
-        a ∙ renumbered-bytes b l w kind-is (r .stage) (said .«relative_ts_number») o ∙ ap (λ (u : Received). receiverBytes (u .state)) t)
+    renews said t o a = (
+      v ∙ ap (λ (u : Received). eventNumber (u .event)) t,
+      a ∙ renumbered-bytes b l w kind-is (r .stage) (said .«relative_ts_number») o ∙ ap (λ (u : Received). receiverBytes (u .state)) t,
+    )
 
 -- numbers that were lent and came back, and the stage written before them
 pub renewed : (b ns opened : List ℕ) (stage : Stage) → length b ≡ receiverLength

@@ -1,5 +1,6 @@
 // The call that takes a packet. A frame is ready when the header behind it has vouched for it. What a packet does not change of the state
 // stays where it is.
+use counters::SLOTS;
 use packet::PACKET_BYTES;
 use receiver::Event;
 use receiver::KIND;
@@ -8,10 +9,9 @@ use receiver::PACKED_BYTES;
 use receiver::RECEIVER_BYTES;
 use receiver::Row;
 use receiver::STAGE;
-use receiver::STORED;
 use receiver::STORE_BYTES;
+use receiver::STORED;
 use receiver::events;
-use counters::SLOTS;
 ghost use mathlib.Core.Path.{_≡_};
 ghost use mathlib.Core.Bool.{true, false};
 ghost use mathlib.Core.List.{_++_};
@@ -101,7 +101,10 @@ fn renew(numbers: &mut [u8], packet: &[u8])
     let own = &packet[header_layout::NUMBERS..header_layout::PRIVATE];
     slices::look(own);
     slices::copy(&mut numbers[0..PACKED_BYTES], own);
-    slices::copy(&mut numbers[PACKED_BYTES..PACKED_BYTES + PACKED_BYTES], &before);
+    slices::copy(
+        &mut numbers[PACKED_BYTES..PACKED_BYTES + PACKED_BYTES],
+        &before,
+    );
 }
 
 // Writes where the receiver stands by a row of the table, and says what happened.
@@ -123,7 +126,7 @@ fn take_header(state: &mut [u8], packet: &[u8]) -> u8
     ensures { λ r. ⌜ r ≡ eventNumber (receiveOf (receiverOf (now (state .entry))) (now (packet .entry)) storeLength .event) ⌝ }
     ensures { λ _. ⌜ now (state .exit) ≡ receiverBytes (receiveOf (receiverOf (now (state .entry))) (now (packet .entry)) storeLength .state) ⌝ }
 {
-    let pid = setting_bytes::word(state[0], state[1]);
+    let pid = bits::word(state[0], state[1]);
     let kind = setting_bytes::kind_of(state[KIND]);
     let stage = receiver_stage::stage_in(state);
     let said = header_check::check(packet, pid, kind);
@@ -131,7 +134,10 @@ fn take_header(state: &mut [u8], packet: &[u8]) -> u8
         return move_on(state, receiver_table::broken_row(stage));
     }
     renew(&mut state[NUMBERS..RECEIVER_BYTES], packet);
-    move_on(state, receiver_table::header_row(stage, said.continuity_counter))
+    move_on(
+        state,
+        receiver_table::header_row(stage, said.continuity_counter),
+    )
 }
 
 // Takes one packet. The state is looked at because what is left of it as it was is what coding it again gives, bytes being bytes.
@@ -153,7 +159,7 @@ pub extern "C" fn niranbok_receiver_receive(
         return refusal;
     }
     slices::look(state);
-    if packet::place_refusal(packet, setting_bytes::word(state[0], state[1])) == 0 {
+    if packet::place_refusal(packet, bits::word(state[0], state[1])) == 0 {
         *event = take_packet(state, packet, store);
         return 0;
     }

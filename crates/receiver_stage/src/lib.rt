@@ -1,11 +1,11 @@
 // What every call asks of a receiver's state, and its stage read and written, where they stand in its 58 bytes.
+use counters::SLOTS;
 use receiver::COUNTER;
 use receiver::KIND;
 use receiver::RECEIVER_BYTES;
 use receiver::STAGE;
 use receiver::STORED;
 use receiver::Stage;
-use counters::SLOTS;
 use setting::limits;
 ghost use mathlib.Core.Path.{_≡_};
 ghost use mathlib.Core.Bool.{cond};
@@ -115,7 +115,7 @@ pub fn state_refusal(state: &[u8]) -> u8
     if state.len() != RECEIVER_BYTES {
         return 1;
     }
-    if !setting::pid_allowed(setting_bytes::word(state[0], state[1])) {
+    if !setting::pid_allowed(bits::word(state[0], state[1])) {
         return 2;
     }
     if 1 < state[KIND] {

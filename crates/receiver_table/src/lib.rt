@@ -1,9 +1,9 @@
 // The receiver's table for headers and broken packets: what each does, by where the receiver stands. The rows of other packets are in
 // receiver_receive, where such a packet is stored.
+use counters::SLOTS;
 use receiver::Event;
 use receiver::Row;
 use receiver::Stage;
-use counters::SLOTS;
 ghost use mathlib.Core.Path.{_≡_};
 ghost use Rattle.receiver.specs.Table.{good, broken, other, openRow, rowOf};
 

@@ -1,21 +1,13 @@
 // Settings, kinds and numbers of 16 bits as bytes, as a caller keeps them and hands them over. The fields of a setting stand in its own
 // order, numbers of 16 bits with the high byte first.
+use counters::SLOTS;
+use counters::STREAMS;
 use setting::AUXILIARY_BYTES;
 use setting::Kind;
 use setting::PRIVATE_BYTES;
-use counters::SLOTS;
-use counters::STREAMS;
 ghost use mathlib.Core.Path.{_≡_};
-ghost use Prim.Native.Nat.{_*_, _+_};
 ghost use Rattle.setting_bytes.specs.Words.{wordsRead};
 ghost use Rattle.setting_bytes.specs.Kinds.{kindOf, kindNumber};
-
-// A number of 16 bits from its two bytes.
-pub fn word(high: u8, low: u8) -> u16
-    ensures { λ r. ⌜ r ≡ high * 256 + low ⌝ }
-{
-    (high as u16) * 256 + low as u16
-}
 
 // Reads a number of each two bytes of a part. A part of any other length than the numbers need changes nothing.
 pub fn read_words(words: &mut [u16], part: &[u8])
@@ -26,7 +18,7 @@ pub fn read_words(words: &mut [u16], part: &[u8])
     }
     let mut k = 0;
     while k < words.len() {
-        words[k] = word(part[2 * k], part[2 * k + 1]);
+        words[k] = bits::word(part[2 * k], part[2 * k + 1]);
         k += 1;
     }
 }

@@ -1,6 +1,6 @@
 // The calls on a setting: a blank one, and what its widths and its rules refuse.
-use setting_bytes::SETTING_BYTES;
 use setting::Setting;
+use setting_bytes::SETTING_BYTES;
 ghost use mathlib.Core.Path.{_≡_};
 ghost use Rattle.setting_calls.specs.Calls.{callRefused, blankRefused, blankMemory, widthsRefused, rulesRefused};
 

@@ -1,4 +1,8 @@
 // Widths and rules asked of a setting's bytes, where they stand.
+use counters::FramePosition;
+use counters::STREAMS;
+use setting::Kind;
+use setting::limits;
 use setting_bytes::ANNOUNCED;
 use setting_bytes::ANNOUNCED_BYTES;
 use setting_bytes::AUXILIARY;
@@ -14,10 +18,6 @@ use setting_bytes::RECEIVE_STATUS;
 use setting_bytes::SEQUENCE;
 use setting_bytes::SETTING_BYTES;
 use setting_bytes::TS_ID;
-use counters::FramePosition;
-use setting::Kind;
-use counters::STREAMS;
-use setting::limits;
 ghost use mathlib.Core.Path.{_≡_};
 ghost use Rattle.setting.specs.Refusal.{firstOf};
 ghost use Rattle.setting.specs.Rules.{widthChecks, ruleChecks};
@@ -47,7 +47,7 @@ pub fn announced_refusal(bytes: &[u8]) -> u8
     setting_widths::information_refusal(
         bytes[0],
         bytes[1],
-        setting_bytes::word(bytes[2], bytes[3]),
+        bits::word(bytes[2], bytes[3]),
         &bytes[RECEIVE_STATUS..EMERGENCY],
         bytes[EMERGENCY],
     )
@@ -95,7 +95,7 @@ pub fn rule_refusal(kind: Kind, bytes: &[u8]) -> u8
     if !setting_rules::frame_type_allowed(kind, bytes[FRAME_TYPE]) {
         return 8;
     }
-    let availability = setting_bytes::word(bytes[AVAILABILITY], bytes[AVAILABILITY_LOW]);
+    let availability = bits::word(bytes[AVAILABILITY], bytes[AVAILABILITY_LOW]);
     if setting_slots::has_unavailable(availability, &bytes[NUMBERS..PRIVATE]) {
         return 9;
     }

@@ -1,10 +1,10 @@
 // A setting, and what a header announces, read from bytes.
 use counters::FramePosition;
+use counters::SLOTS;
+use counters::STREAMS;
 use setting::AUXILIARY_BYTES;
 use setting::Announced;
 use setting::PRIVATE_BYTES;
-use counters::SLOTS;
-use counters::STREAMS;
 use setting::Setting;
 use setting_bytes::ANNOUNCED;
 use setting_bytes::ANNOUNCED_BYTES;
@@ -51,7 +51,7 @@ pub fn announced_of(bytes: &[u8]) -> Announced
     Announced {
         slot_allocation_type: bytes[0],
         frame_type: bytes[1],
-        availability: setting_bytes::word(bytes[2], bytes[3]),
+        availability: bits::word(bytes[2], bytes[3]),
         ts_id,
         original_network_id,
         receive_status,

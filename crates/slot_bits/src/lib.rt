@@ -15,13 +15,6 @@ pub fn share(told: bool, i: usize) -> u8
     0
 }
 
-// A byte as a wider number, of which it is known that it was a byte.
-fn wide(share: u8) -> u64
-    ensures { λ t. ⌜ (t ≡ share) × (t ≤ 255) ⌝ }
-{
-    share as u64
-}
-
 // The shares of up to eight slots, added up.
 fn total_of(part: &[u8]) -> u64
     requires { ⌜ length (now part) ≤ 8 ⌝ }
@@ -31,7 +24,7 @@ fn total_of(part: &[u8]) -> u64
     let mut sum = 0u64;
     let mut i = 0;
     while i < part.len() {
-        sum += wide(part[i]);
+        sum += bits::wide(part[i]);
         i += 1;
     }
     sum

@@ -1,7 +1,7 @@
 // A group of carriers: its sizes, and where each one's super frame stands.
+use counters::SLOTS;
 use packet::FRAME_BYTES;
 use packet::PACKET_BYTES;
-use counters::SLOTS;
 use setting::limits;
 ghost use mathlib.Core.Path.{_≡_};
 ghost use Prim.Native.Nat.{_≤_, _<_};

@@ -6,6 +6,8 @@ use crate::says;
 use crate::tally;
 use crate::tally::Tally;
 use counters::RelativeNumber;
+use counters::SLOTS;
+use counters::STREAMS;
 use libc::STDIN_FILENO;
 use libc::STDOUT_FILENO;
 use packet::PACKET_BYTES;
@@ -13,8 +15,6 @@ use receiver::RECEIVER_BYTES;
 use receiver::STORE_BYTES;
 use receiver::events;
 use setting::Kind;
-use counters::SLOTS;
-use counters::STREAMS;
 use setting::Setting;
 ghost use mathlib.Core.Path.{_≡_};
 ghost use Prim.Native.Nat.{_≤_, _<_};
@@ -306,15 +306,7 @@ fn demux(fd: i32, pid: u16, choice: Choice) {
     let mut state = [0u8; RECEIVER_BYTES];
     let mut store = [0u8; STORE_BYTES];
     receiver_start::niranbok_receiver_start(&mut state, pid, 0);
-    let end = take_all(
-        fd,
-        &mut block,
-        &mut state,
-        &mut store,
-        pid,
-        choice,
-        start(),
-    );
+    let end = take_all(fd, &mut block, &mut state, &mut store, pid, choice, start());
     tally::say(end.tally, pid);
 }
 

@@ -22,7 +22,6 @@ accepted : (c : tie.Else1)
     × (firstOf (readyChecks (receiverOf (start c .args .state .now)) (start c .args .r) (length (start c .args .store .now))) ≡ 0)
 accepted c = lent-accepted (start c .args .state .now) _ (c .before .ready-refusal .ensures) (c .if1 .left)
 
-
 ready-refusal-requires : tie.Need-ready-refusal-requires
 ready-refusal-requires c κs = search needs
 

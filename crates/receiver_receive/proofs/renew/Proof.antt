@@ -84,8 +84,8 @@ returns c =
     let own = take packedLength (drop 73 (a .packet .now)) in
     let before = take packedLength (a .numbers .now) in (
       joined (a .numbers .now) own before (s .pre .0)
-      (length-take-le packedLength (drop 73 (a .packet .now)) (rw length-drop (omega (arith, s .pre .1)))) (length-take-le packedLength (a .numbers .now) (omega (arith, s .pre .0)))
-      (first .copy2 .ensures) (last .copy3 .ensures ∙ ap (copied _) held),
+          (length-take-le packedLength (drop 73 (a .packet .now)) (rw length-drop (omega (arith, s .pre .1)))) (length-take-le packedLength (a .numbers .now) (omega (arith, s .pre .0)))
+          (first .copy2 .ensures) (last .copy3 .ensures ∙ ap (copied _) held),
       look .look .ensures,
     )
 

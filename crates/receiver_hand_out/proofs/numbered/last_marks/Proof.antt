@@ -5,43 +5,43 @@ use mathlib.Core.List.{List, _++_}
 use native.Mathlib.Omega.{arith}
 use borrow.Author.Needs.{needs}
 use lib.ListN.{drop, replicate}
-use Rattle.bits.proofs.Laws.{fit-of}
+use Rattle.bits.specs.Fields.{cut}
+use Rattle.bits.proofs.Laws.{bitsOf-part}
+use Rattle.receiver.proofs.Packing.{unpacked-part}
 use Rattle.receiver_hand_out.specs.Halves.{marked}
-use Rattle.receiver_hand_out.proofs.Joined.{only-low, last-four}
+use Rattle.receiver_hand_out.proofs.Joined.{only-low, low-halves}
 use Rattle.receiver_hand_out.proofs.Marks.{marked-drop}
 use Rattle.receiver_hand_out.proofs.numbered.last_marks.Statement.{statement}
 use Rattle.receiver_hand_out.proofs.numbered.last_marks.Tie as tie
 
-shared-slice-read-wide : tie.Need-shared-slice-read-wide
-shared-slice-read-wide c = search needs
+sub-long : tie.Need-sub-long
+sub-long c = search needs
 
-wide-requires : tie.Need-wide-requires
-wide-requires c κs = search needs
+part-long-start : tie.Need-part-long-start
+part-long-start c = search needs
 
-shared-slice-read-wide-2 : tie.Need-shared-slice-read-wide-2
-shared-slice-read-wide-2 c = search needs
+part-long-end : tie.Need-part-long-end
+part-long-end c = search needs
 
-wide-requires-2 : tie.Need-wide-requires-2
-wide-requires-2 c κs = search needs
-
-add-marks : tie.Need-add-marks
-add-marks c = search needs
+long-requires : tie.Need-long-requires
+long-requires c κs = search needs
 
 marks-requires : tie.Need-marks-requires
 marks-requires c κs = search needs
 
 returns : tie.Need-returns
 returns c =
-    let known = c .before .before .before .before .before in
-    let s = known .before in
-    let bs = s .args .numbers .now in
-    let b₀ = c .before .before .before .wide .ensures in
-    let b₁ = c .before .wide2 .ensures in
+    let start = c .before .before .before .before in
+    let r = start .args .r in
+    let bs = start .args .numbers .now in
     only-low (c .marks .result)
     ∙ ap (λ (l : List ℕ). replicate 12 0 ++ l)
-    (ap (drop 12) (c .marks .ensures) ∙ sym (marked-drop (s .args .r) 12 _)
-    ∙ ap (marked (s .args .r))
-    (last-four bs (s .pre .0) (fit-of 8 bs (λ i. omega (arith, known .shared-slice-known .given i))) (omega (arith, b₀ .0, b₀ .1, b₁ .0, b₁ .1))))
+    (ap (drop 12) (c .marks .ensures) ∙ sym (marked-drop r 12 _)
+    ∙ ap (marked r)
+    (low-halves (c .before .long .result) ∙ ap (cut 4 4) (bitsOf-part 2 (omega arith) bs 24 (omega arith) (c .before .long .ensures))
+    ∙ unpacked-part 24 2 bs (omega arith) (start .pre .0)))
 
 pub last-marks-spec : {M : Type 1} → statement M
-last-marks-spec = tie.close (tie.spec shared-slice-read-wide wide-requires shared-slice-read-wide-2 wide-requires-2 add-marks marks-requires returns)
+last-marks-spec =
+    tie.close
+    (tie.spec sub-long part-long-start part-long-end long-requires marks-requires returns)

@@ -1,44 +1,43 @@
 -- `marks_at` meets its contract. Assumes nothing.
-use Prim.Native.Nat.{ℕ, _+_, _-_}
-use mathlib.Core.Path.{_≡_, ap, _∙_}
+use mathlib.Core.Path.{ap, _∙_}
 use native.Mathlib.Omega.{arith}
 use borrow.Author.Needs.{needs}
-use lib.ListN.{take, drop}
-use Rattle.bits.specs.Fields.{run, cut}
+use Rattle.bits.specs.Fields.{cut}
+use Rattle.bits.proofs.Laws.{bitsOf-part}
 use Rattle.receiver.proofs.Packing.{unpacked-part}
-use Rattle.receiver_hand_out.specs.Halves.{marked}
+use Rattle.receiver_hand_out.specs.Halves.{halvesOf, marked}
 use Rattle.receiver_hand_out.proofs.numbered.marks_at.Statement.{statement}
 use Rattle.receiver_hand_out.proofs.numbered.marks_at.Tie as tie
 
-add-word : tie.Need-add-word
-add-word c = search needs
+add-long : tie.Need-add-long
+add-long c = search needs
 
-sub-word : tie.Need-sub-word
-sub-word c = search needs
+sub-long : tie.Need-sub-long
+sub-long c = search needs
 
-part-word-start : tie.Need-part-word-start
-part-word-start c = search needs
+part-long-start : tie.Need-part-long-start
+part-long-start c = search needs
 
-part-word-end : tie.Need-part-word-end
-part-word-end c = search needs
+part-long-end : tie.Need-part-long-end
+part-long-end c = search needs
 
-word-requires : tie.Need-word-requires
-word-requires c κs = search needs
+long-requires : tie.Need-long-requires
+long-requires c κs = search needs
 
 marks-requires : tie.Need-marks-requires
 marks-requires c κs = search needs
 
 returns : tie.Need-returns
+unfolding halvesOf
 returns c =
-    let a = c .before .before .before .before .args in
-    let given = c .before .before .before .before .pre in
-    let ns = a .numbers .now in
-    let eight : a .at + 8 - a .at ≡ 8 = omega arith in
+    let start = c .before .before .before .before in
+    let at = start .args .at in
+    let bs = start .args .numbers .now in
     c .marks .ensures
-    ∙ ap (marked (a .r))
-    (c .before .word .ensures ∙ ap (λ (n : ℕ). cut 4 16 (run 8 (take n (drop (a .at) ns)))) eight ∙ unpacked-part (a .at) 8 ns (given .1) (given .0))
+    ∙ ap (marked (start .args .r))
+    (ap (cut 4 16) (bitsOf-part 8 (omega arith) bs at (omega arith) (c .before .long .ensures)) ∙ unpacked-part at 8 bs (start .pre .1) (start .pre .0))
 
 pub marks-at-spec : {M : Type 1} → statement M
 marks-at-spec =
     tie.close
-    (tie.spec add-word sub-word part-word-start part-word-end word-requires marks-requires returns)
+    (tie.spec add-long sub-long part-long-start part-long-end long-requires marks-requires returns)
