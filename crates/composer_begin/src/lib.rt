@@ -42,8 +42,8 @@ pub extern "C" fn niranbok_composer_begin(state: &mut [u8], frame: &mut [u8], se
     if refusal != 0 {
         return refusal;
     }
-    slices::look(state);
-    slices::look(setting);
+    slices::are_bytes(state);
+    slices::are_bytes(setting);
     slots::clear(frame);
     open(state, setting);
     0

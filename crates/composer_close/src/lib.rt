@@ -61,7 +61,7 @@ pub extern "C" fn niranbok_composer_close(state: &mut [u8], frame: &mut [u8]) ->
     if refusal != 0 {
         return refusal;
     }
-    slices::look(state);
+    slices::are_bytes(state);
     let said = header::header_setting(state);
     let pid = bits::word(state[0], state[1]);
     let kind = setting_bytes::kind_of(state[KIND]);

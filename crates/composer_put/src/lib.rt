@@ -39,7 +39,7 @@ pub extern "C" fn niranbok_composer_put(
     if refusal != 0 {
         return refusal;
     }
-    slices::look(state);
+    slices::are_bytes(state);
     let left = slots::place(frame, stream, &mut state[FILLED..COMPOSER_BYTES], empty);
     *placed = (stream.len() - left.len()) / PACKET_BYTES;
     0

@@ -99,7 +99,7 @@ fn renew(numbers: &mut [u8], packet: &[u8])
     let mut before = [0u8; PACKED_BYTES];
     slices::copy(&mut before, &numbers[0..PACKED_BYTES]);
     let own = &packet[header_layout::NUMBERS..header_layout::PRIVATE];
-    slices::look(own);
+    slices::are_bytes(own);
     slices::copy(&mut numbers[0..PACKED_BYTES], own);
     slices::copy(
         &mut numbers[PACKED_BYTES..PACKED_BYTES + PACKED_BYTES],
@@ -158,7 +158,7 @@ pub extern "C" fn niranbok_receiver_receive(
         *event = events::NOTHING;
         return refusal;
     }
-    slices::look(state);
+    slices::are_bytes(state);
     if packet::place_refusal(packet, bits::word(state[0], state[1])) == 0 {
         *event = take_packet(state, packet, store);
         return 0;

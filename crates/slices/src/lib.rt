@@ -114,8 +114,8 @@ fn is_byte(x: u8)
     ensures { λ _. ⌜ x < 256 ⌝ }
 {}
 
-// Looks at each element and does nothing with it, so that a compiler leaves it out: a slice's elements are bytes.
-pub fn look(xs: &[u8])
+// Does nothing when it runs: the compiler leaves it out. It tells a proof that each element of a slice is a byte.
+pub fn are_bytes(xs: &[u8])
     ensures { λ _. ⌜ someAtLeast 256 (now (xs .entry)) ≡ false ⌝ }
 {
     let mut at = 0;

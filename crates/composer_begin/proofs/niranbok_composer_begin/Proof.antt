@@ -49,11 +49,11 @@ returns-3 c =
     let a = start₂ k .args in
     begin-refused (a .state .now) (a .setting .now) (a .frame .now) (k .before .if1 .left) (k .if2 .left) (c .before .begin-refusal .ensures) (c .if3 .taken)
 
-look-requires : tie.Need-look-requires
-look-requires c κs = search needs
+are-bytes-requires : tie.Need-are-bytes-requires
+are-bytes-requires c κs = search needs
 
-look-requires-2 : tie.Need-look-requires-2
-look-requires-2 c κs = search needs
+are-bytes-requires-2 : tie.Need-are-bytes-requires-2
+are-bytes-requires-2 c κs = search needs
 
 clear-requires : tie.Need-clear-requires
 clear-requires c κs = begin-passed _ _ _ (past (c .before .before .before .before))
@@ -83,7 +83,7 @@ returns-4 c =
     let coded = coded-by-counter b (begin-counter _ _ _ (past k)) in
     begin-done b s (a .frame .now) long (lengths .if2 .left) (k .before .begin-refusal .ensures) (k .if3 .left)
     (o .«open» .ensures
-    ∙ sym (opened-bytes b long (all-bytes b (looked .before .look .ensures)) coded s (lengths .if2 .left) (all-bytes s (looked .look2 .ensures))))
+    ∙ sym (opened-bytes b long (all-bytes b (looked .before .are-bytes .ensures)) coded s (lengths .if2 .left) (all-bytes s (looked .are-bytes2 .ensures))))
     (cleared .clear .ensures)
 
 pub niranbok-composer-begin-spec : {M : Type 1} → statement M
@@ -95,8 +95,8 @@ niranbok-composer-begin-spec =
     begin-refusal-requires
     same-length
     returns-3
-    look-requires
-    look-requires-2
+    are-bytes-requires
+    are-bytes-requires-2
     clear-requires
     open-requires
     same-length-2

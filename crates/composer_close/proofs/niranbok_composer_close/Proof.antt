@@ -20,10 +20,10 @@ begun c = c .before .before .before
 abbrev tested : tie.After-close-refusal → tie.Else1
 tested c = c .before .before
 
-abbrev passed : tie.After-look → tie.Else2
+abbrev passed : tie.After-are-bytes → tie.Else2
 passed c = c .before .before
 
-abbrev looked : tie.After-header-setting → tie.After-look
+abbrev looked : tie.After-header-setting → tie.After-are-bytes
 looked c = c .before .before
 
 abbrev told : tie.After-word → tie.After-header-setting
@@ -64,14 +64,14 @@ returns-2 c =
     let args = begun test .args in
     close-refused (args .state .now) (args .frame .now) (test .if1 .left) (c .before .close-refusal .ensures) (c .if2 .taken)
 
-look-requires : tie.Need-look-requires
-look-requires c κs = search needs
+are-bytes-requires : tie.Need-are-bytes-requires
+are-bytes-requires c κs = search needs
 
 header-setting-requires : tie.Need-header-setting-requires
 header-setting-requires c κs =
     let checks = passed (c .before) in
     let p = past checks .open-state in
-    ((long checks, c .before .look .ensures), (p .counter, p .version))
+    ((long checks, c .before .are-bytes .ensures), (p .counter, p .version))
 
 slice-read-word : tie.Need-slice-read-word
 slice-read-word c = omega (arith, long (passed (looked (c .before))))
@@ -124,7 +124,7 @@ returns-3 c =
     let args = started checks .args in
     let said = say .header-setting .ensures in
     close-done (args .state .now) (args .frame .now) l (checks .before .close-refusal .ensures) (checks .if2 .left)
-    (closed-state (args .state .now) said l (p .open-state) (look .look .ensures) (ended .end-frame .ensures))
+    (closed-state (args .state .now) said l (p .open-state) (look .are-bytes .ensures) (ended .end-frame .ensures))
     (closed-memory (args .state .now) said (args .frame .now) (p .long) (kind .kind-of .ensures) (word .word .ensures) (write .write-header .ensures))
 
 pub niranbok-composer-close-spec : {M : Type 1} → statement M
@@ -135,7 +135,7 @@ niranbok-composer-close-spec =
     close-refusal-requires
     same-length
     returns-2
-    look-requires
+    are-bytes-requires
     header-setting-requires
     slice-read-word
     slice-read-word-2

@@ -110,8 +110,8 @@ returns-2 c =
     let a = start₁ k .args in
     put-refused (a .state .now) (a .r) (a .stream .now) (a .frame .now) (k .if1 .left) (c .before .put-refusal .ensures) (c .if2 .taken)
 
-look-requires : tie.Need-look-requires
-look-requires c κs = search needs
+are-bytes-requires : tie.Need-are-bytes-requires
+are-bytes-requires c κs = search needs
 
 sub-place : tie.Need-sub-place
 sub-place c = search needs
@@ -127,7 +127,7 @@ place-requires c κs =
     let k = c .before .before .before .before in
     let b = start₂ k .args .state .now in
     let long = k .before .before .before .before .before .before .before .if1 .left in
-    ((past k .long, length-part 338 52 b (omega arith)), (marks-low b long (all-bytes b (c .before .before .look .ensures)) (coded k), k .before .before .before .empty-slots .ensures .1))
+    ((past k .long, length-part 338 52 b (omega arith)), (marks-low b long (all-bytes b (c .before .before .are-bytes .ensures)) (coded k), k .before .before .before .empty-slots .ensures .1))
 
 sub-placed : tie.Need-sub-placed
 sub-placed c =
@@ -148,7 +148,7 @@ returns-3 c =
     let a = start₂ k .args in
     let b = a .state .now in
     let long = k .before .before .before .before .before .before .before .if1 .left in
-    let fit = all-bytes b (p .before .before .before .look .ensures) in
+    let fit = all-bytes b (p .before .before .before .are-bytes .ensures) in
     let slots = bits (k .before .before .before) in
     put-done b (a .r) (a .stream .now) (a .frame .now) long (k .before .put-refusal .ensures) (k .if2 .left)
     (counted _ _ _ _ (left p) ∙ sym (ap₂ (λ (n : List ℕ) (m : List Bool). placedBy (a .r) n m (a .stream .now)) (plan-there b long) (marks-there b)))
@@ -174,7 +174,7 @@ niranbok-composer-put-spec =
     put-refusal-requires
     same-length
     returns-2
-    look-requires
+    are-bytes-requires
     sub-place
     part-place-start
     part-place-end

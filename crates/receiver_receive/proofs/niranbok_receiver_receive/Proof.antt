@@ -43,8 +43,8 @@ returns c =
     let a = begun (c .before) .args in
     receive-refused (a .state .now) (a .packet .now) (a .store .now) (c .before .receive-refusal .ensures) (c .if1 .taken)
 
-look-requires : tie.Need-look-requires
-look-requires c κs = search needs
+are-bytes-requires : tie.Need-are-bytes-requires
+are-bytes-requires c κs = search needs
 
 slice-read-word : tie.Need-slice-read-word
 slice-read-word c = omega (arith, granted (c .before .before .before) .0)
@@ -64,7 +64,7 @@ take-packet-requires c κs =
     let word = fit .before .before in
     let look = word .before .before .before in
     let g = granted (look .before .before) in
-    ((g .0, look .look .ensures), (may-stand _ _ (sym (asked (fit .before)) ∙ fit .if2 .taken), g .1))
+    ((g .0, look .are-bytes .ensures), (may-stand _ _ (sym (asked (fit .before)) ∙ fit .if2 .taken), g .1))
 
 same-length-2 : tie.Need-same-length-2
 same-length-2 c = search needs
@@ -89,7 +89,7 @@ take-header-requires c κs =
     let g = granted k in
     let w = receiverOf (s k .args .state .now) in
     let p = s k .args .packet .now in (
-      (g .0, look .look .ensures),
+      (g .0, look .are-bytes .ensures),
       (
         may-not-stand (w .pid) p (whole-packet w _ _ (g .1)) (λ e. unfits .if2 .left (asked (unfits .before) ∙ e)),
         subst (λ (n : ℕ). receiveRefusal w (length p) n ≡ 0) (whole-store w _ _ (g .1)) (g .1),
@@ -122,7 +122,7 @@ niranbok-receiver-receive-spec =
     receive-refusal-requires
     same-length
     returns
-    look-requires
+    are-bytes-requires
     slice-read-word
     slice-read-word-2
     word-requires

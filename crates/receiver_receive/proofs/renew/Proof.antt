@@ -36,8 +36,8 @@ part-own-start c = search needs
 part-own-end : tie.Need-part-own-end
 part-own-end c = search needs
 
-look-requires : tie.Need-look-requires
-look-requires c κs = search needs
+are-bytes-requires : tie.Need-are-bytes-requires
+are-bytes-requires c κs = search needs
 
 sub-copy-2 : tie.Need-sub-copy-2
 sub-copy-2 c = search needs
@@ -86,7 +86,7 @@ returns c =
       joined (a .numbers .now) own before (s .pre .0)
           (length-take-le packedLength (drop 73 (a .packet .now)) (rw length-drop (omega (arith, s .pre .1)))) (length-take-le packedLength (a .numbers .now) (omega (arith, s .pre .0)))
           (first .copy2 .ensures) (last .copy3 .ensures ∙ ap (copied _) held),
-      look .look .ensures,
+      look .are-bytes .ensures,
     )
 
 pub renew-spec : {M : Type 1} → statement M
@@ -101,7 +101,7 @@ renew-spec =
     sub-own
     part-own-start
     part-own-end
-    look-requires
+    are-bytes-requires
     sub-copy-2
     part-copy-start-2
     part-copy-end-2

@@ -1,4 +1,4 @@
--- `look` meets its contract: each of the elements before `at` was read, and is a byte. Assumes nothing.
+-- `are_bytes` meets its contract: each of the elements before `at` was read, and is a byte. Assumes nothing.
 use Prim.Native.Nat.{_-_, _≤_}
 use mathlib.Core.Path.{_≡_, sym}
 use mathlib.Core.Bool.{false}
@@ -9,8 +9,8 @@ use lib.Dec.{leb}
 use lib.ListN.{length, getD}
 use Rattle.slices.specs.Slices.{anyBelow, someAtLeast}
 use Rattle.slices.proofs.Any.{any-none, any-more}
-use Rattle.slices.proofs.look.Statement.{statement}
-use Rattle.slices.proofs.look.Tie as tie
+use Rattle.slices.proofs.are_bytes.Statement.{statement}
+use Rattle.slices.proofs.are_bytes.Tie as tie
 
 abbrev Inv-loop : tie.InvT-loop
 Inv-loop xs at₀ at = (at ≤ length xs) × (anyBelow at (λ k. leb 256 (getD xs k 0)) ≡ false)
@@ -46,7 +46,7 @@ returns c =
     let all : turn .at ≡ length xs = omega arith in
     rw all at (turn .inv .1)
 
-pub look-spec : {M : Type 1} → statement M
-look-spec =
+pub are-bytes-spec : {M : Type 1} → statement M
+are-bytes-spec =
     tie.close
     (tie.spec Inv-loop μ-loop loop-holds shared-slice-read-is-byte is-byte-requires add-at loop-less loop-again returns)
