@@ -1,40 +1,49 @@
 -- The control information, as byte-wise code writes it. Assumes nothing.
-use Prim.Native.Nat.{ℕ, _+_, _*_, _%_, _^_, _≤_, _<_}
-use mathlib.Core.Path.{_≡_, sym, ap, ap₂, _∙_}
+use Prim.Native.Nat.{ℕ, zero, suc, _+_, _*_, _%_, _^_, _≤_}
+use mathlib.Core.Path.{_≡_, refl, sym, ap, _∙_}
 use mathlib.Core.List.{List, [], _∷_, _++_, append-assoc, append-nil}
 use native.Mathlib.Omega.{arith}
-use lib.ListN.{length, drop, set, getD, drop-of-length-le}
-use lib.Seq.{drop-cons, set-at}
+use lib.ListN.{length, drop, getD, drop-of-length-le}
+use lib.Seq.{drop-cons}
 use Rattle.bits.specs.Fields.{bitsOf, run}
-use Rattle.bits.proofs.Laws.{run-append, run-one, bitsOf-mod}
 use Rattle.setting.specs.declared.Setting.{Setting}
 use Rattle.header_layout.specs.Rows.{pack}
 use Rattle.header_layout.specs.Layout.{controlTable}
+use Rattle.header_layout.specs.Bytes.{quarters}
 use Rattle.header_layout.specs.Header.{held, lineBits}
-use Rattle.header_layout.proofs.Bytes.{beside}
+use Rattle.header_layout.proofs.Bytes.{byte, beside, joined}
 
--- the last byte: six bits of statuses, a reserved bit and the emergency bit
-last-byte : (left e : ℕ) → bitsOf 8 ((left % 64 * 2 + 1) * 2 + e % 2) ≡ bitsOf 6 left ++ (bitsOf 1 1 ++ bitsOf 1 e)
-last-byte left e =
-    sym (beside 7 1 (left % 64 * 2 ^ 1 + 1) e) ∙ ap (λ (l : List ℕ). l ++ bitsOf 1 e) (sym (beside 6 1 (left % 64) 1))
-    ∙ append-assoc (bitsOf 6 (left % 64)) (bitsOf 1 1) (bitsOf 1 e) ∙ ap (λ (l : List ℕ). l ++ (bitsOf 1 1 ++ bitsOf 1 e)) (bitsOf-mod 6 0 left)
+quarters-bits : (a b c d : ℕ) → bitsOf 8 (quarters a b c d) ≡ bitsOf 2 a ++ (bitsOf 2 b ++ (bitsOf 2 c ++ bitsOf 2 d))
+quarters-bits a b c d =
+    let three = (a * 2 ^ 2 + b % 2 ^ 2) * 2 ^ 2 + c % 2 ^ 2 in
+    byte (quarters a b c d) (three * 2 ^ 2 + d % 2 ^ 2) (omega arith)
+    ∙ sym (joined 2 2 a b refl ∙ joined 4 2 (a * 2 ^ 2 + b % 2 ^ 2) c refl ∙ beside 6 2 three d)
 
--- one store behind three bytes, of four
-behind : (ys l : List ℕ) (b : ℕ) → length ys ≡ 3 → length l ≡ 4 → set (ys ++ drop 3 l) 3 b ≡ ys ++ (b ∷ [])
-behind ys l b e f =
-    let room : 3 < length l = omega arith in
-    let whole : length l ≤ 4 = omega arith in
-    ap (λ (r : List ℕ). set (ys ++ r) 3 b) (drop-cons l 3 0 room) ∙ set-at ys (getD l 3 0) (drop 4 l) b 3 e
-    ∙ ap (λ (r : List ℕ). ys ++ (b ∷ r)) (drop-of-length-le l whole)
+-- n elements from the k-th on, spelled one by one
+spelled : ℕ → ℕ → List ℕ → List ℕ
+spelled zero k l = []
+spelled (suc n) k l = getD l k 0 ∷ spelled n (suc k) l
 
-pub control-bits : (pid : ℕ) (s : Setting) (ys l : List ℕ) (left : ℕ) → length ys ≡ 3 → length l ≡ 4
-    → run 8 ys ++ bitsOf 6 left ≡ run 2 (s .«receive_status»)
-    → run 8 (set (ys ++ drop 3 l) 3 ((left % 64 * 2 + 1) * 2 + s .«emergency_indicator» % 2)) ≡ lineBits pid s controlTable
-unfolding lineBits pack controlTable held
-control-bits pid s ys l left e f same =
+all-spelled : (n k : ℕ) (l : List ℕ) → k + n ≡ length l → drop k l ≡ spelled n k l
+unfolding spelled
+all-spelled zero k l e = let whole : length l ≤ k = omega arith in drop-of-length-le l whole
+all-spelled (suc n) k l e = drop-cons l k 0 (omega arith) ∙ ap (λ (r : List ℕ). getD l k 0 ∷ r) (all-spelled n (suc k) l (omega arith))
+
+-- the four bytes: in the last one the statuses of three streams, a reserved bit and the emergency bit
+abbrev pub controlBytes : Setting → List ℕ
+controlBytes s =
+    let r = s .«receive_status» in
+    quarters (getD r 0 0) (getD r 1 0) (getD r 2 0) (getD r 3 0)
+    ∷ quarters (getD r 4 0) (getD r 5 0) (getD r 6 0) (getD r 7 0)
+    ∷ quarters (getD r 8 0) (getD r 9 0) (getD r 10 0) (getD r 11 0)
+    ∷ quarters (getD r 12 0) (getD r 13 0) (getD r 14 0) (2 + s .«emergency_indicator» % 2)
+    ∷ []
+
+pub control-bits : (pid : ℕ) (s : Setting) → length (s .«receive_status») ≡ 15 → run 8 (controlBytes s) ≡ lineBits pid s controlTable
+unfolding lineBits pack controlTable held run spelled
+control-bits pid s e =
+    let r = s .«receive_status» in
     let em = s .«emergency_indicator» in
-    let b = (left % 64 * 2 + 1) * 2 + em % 2 in
-    ap (run 8) (behind ys l b e f) ∙ run-append 8 ys (b ∷ []) ∙ ap (λ (r : List ℕ). run 8 ys ++ r) (run-one 8 b ∙ last-byte left em)
-    ∙ sym (append-assoc (run 8 ys) (bitsOf 6 left) (bitsOf 1 1 ++ bitsOf 1 em))
-    ∙ ap₂ (λ (x y : List ℕ). x ++ y) same
-    (ap₂ (λ (x y : List ℕ). x ++ y) (sym (run-one 1 1)) (sym (append-nil (run 1 (em ∷ [])) ∙ run-one 1 em)))
+    let last : bitsOf 2 (2 + em % 2) ≡ bitsOf 1 1 ++ bitsOf 1 em = sym (beside 1 1 1 em) in
+    let all : r ≡ spelled 15 0 r = all-spelled 15 0 r (sym e) in
+    sym (ap (λ (l : List ℕ). run 2 l ++ (run 1 (1 ∷ []) ++ (run 1 (em ∷ []) ++ []))) all ∙ simp (quarters-bits, last, append-assoc, append-nil) refl)

@@ -7,3 +7,7 @@ use Rattle.setting.specs.declared.Setting.{Setting}
 abbrev pub bondingBytes : Setting → List ℕ
 bondingBytes s =
     s .«group_id» ∷ s .«number_of_carriers» ∷ s .«carrier_sequence» ∷ (s .«number_of_frames» % 16 * 16 + s .«frame_position» .0 % 16) ∷ []
+
+-- four values of 2 bits in a byte
+abbrev pub quarters : ℕ → ℕ → ℕ → ℕ → ℕ
+quarters a b c d = a % 4 * 64 + b % 4 * 16 + c % 4 * 4 + d % 4

@@ -56,13 +56,12 @@ fn write_control(part: &mut [u8], s: Setting)
     requires { ⌜ length (now part) ≡ 4 ⌝ }
     ensures { λ _. ⌜ ((pid : ℕ) → run 8 (now (part .exit)) ≡ lineBits pid s controlTable) ⌝ }
 {
-    let receive_status = s.receive_status;
-    let left = packed::write_run(
-        &mut part[0..header_layout::CONTROL_LAST],
-        &receive_status,
-        2,
-    );
-    part[header_layout::CONTROL_LAST] = ((left % 64 * 2) as u8 + 1) * 2 + s.emergency_indicator % 2;
+    let r = s.receive_status;
+    part[0] = packed::four(r[0], r[1], r[2], r[3]);
+    part[1] = packed::four(r[4], r[5], r[6], r[7]);
+    part[2] = packed::four(r[8], r[9], r[10], r[11]);
+    // The last value is the reserved bit, a one, and the emergency bit.
+    part[3] = packed::four(r[12], r[13], r[14], 2 + s.emergency_indicator % 2);
 }
 
 // The bonding fields of an extended header.

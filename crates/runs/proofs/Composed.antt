@@ -12,7 +12,6 @@ use Rattle.setting.specs.declared.Kind.{Kind}
 use Rattle.setting.specs.declared.Setting.{Setting}
 use Rattle.counters.specs.Counters.{firstStream, firstSlot, lastSlot}
 use Rattle.setting.specs.Setting.{blank, OfItsTypes}
-use Rattle.setting.specs.Refusal.{firstOf}
 use Rattle.setting.specs.Rules.{pidAllowed, ruleChecks}
 use Rattle.setting.proofs.Refusals.{none-at}
 use Rattle.setting.proofs.Fields.{at-most}
