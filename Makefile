@@ -8,7 +8,7 @@ SHELL = /bin/bash
 .SHELLFLAGS = -o pipefail -c
 
 # The crates with functions for C (`#[no_mangle]`).
-BOARD = counters setting crc packet setting_calls header_calls composer_start composer_begin composer_put composer_close \
+BOARD = counters setting crc packet setting_calls header_calls header_calls_write composer_start composer_begin composer_put composer_close \
 	receiver_start receiver_receive receiver_hand_out bond_calls
 
 # The archive and the programs are for x86-64. On another processor an emulator runs them, and Debian's cross compilers make what is

@@ -1,11 +1,11 @@
-// The calls that write and read a header, over the bytes of a setting.
+// The calls on a header over the bytes of a setting: what they answer and leave, what both ask, and the one that reads.
 use packet::PACKET_BYTES;
 use setting_bytes::SETTING_BYTES;
 ghost use mathlib.Core.Path.{_≡_};
-ghost use Rattle.header_calls.specs.Calls.{callRefused, readRefused, readMemory, writeRefused, writeMemory};
+ghost use Rattle.header_calls.specs.Calls.{callRefused, readRefused, readMemory};
 
 // 1, 2, 17: the lengths of what is lent, the PID, the kind.
-fn call_refusal(packet: usize, setting: usize, pid: u16, kind: u8) -> u8
+pub fn call_refusal(packet: usize, setting: usize, pid: u16, kind: u8) -> u8
     ensures { λ r. ⌜ r ≡ callRefused packet setting pid kind ⌝ }
 {
     if packet != PACKET_BYTES {
@@ -39,22 +39,4 @@ pub extern "C" fn niranbok_header_read(packet: &[u8], pid: u16, kind: u8, settin
     }
     setting_write::write_setting(setting, reading.setting);
     0
-}
-
-// Writes the setting's header.
-#[no_mangle]
-pub extern "C" fn niranbok_header_write(packet: &mut [u8], pid: u16, kind: u8, setting: &[u8]) -> u8
-    ensures { λ r. ⌜ r ≡ writeRefused (now (packet .entry)) pid kind (now (setting .entry)) ⌝ }
-    ensures { λ _. ⌜ now (packet .exit) ≡ writeMemory (now (packet .entry)) pid kind (now (setting .entry)) ⌝ }
-{
-    let refusal = call_refusal(packet.len(), setting.len(), pid, kind);
-    if refusal != 0 {
-        return refusal;
-    }
-    header_write::write(
-        packet,
-        pid,
-        setting_bytes::kind_of(kind),
-        setting_read::setting_of(setting),
-    )
 }

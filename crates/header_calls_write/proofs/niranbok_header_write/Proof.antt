@@ -2,10 +2,10 @@
 use mathlib.Core.Path.{refl, sym, _∙_}
 use borrow.Author.Tests.{ne-eqb}
 use Rattle.setting.specs.Refusal.{leaves}
 use Rattle.header_calls.specs.Calls.{thenRefused, writeRefused, writeMemory}
 use borrow.Author.Needs.{needs}
-use Rattle.header_calls.proofs.niranbok_header_write.Statement.{statement}
-use Rattle.header_calls.proofs.niranbok_header_write.Tie as tie
+use Rattle.header_calls_write.proofs.niranbok_header_write.Statement.{statement}
+use Rattle.header_calls_write.proofs.niranbok_header_write.Tie as tie
 
 call-refusal-requires : tie.Need-call-refusal-requires
 call-refusal-requires c κs = search needs
