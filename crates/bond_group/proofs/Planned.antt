@@ -11,12 +11,13 @@ use lib.Dec.{ltb, eqb}
 use lib.ListN.{length, getD, set, length-set, length-replicate, length-append}
 use lib.Seq.{getD-set-same, getD-set-other}
 use Rattle.slices.specs.Slices.{anyBelow}
+use Rattle.setting.specs.declared.Setting.{Setting}
 use Rattle.bond_group.specs.declared.Bond.{Bond}
 use Rattle.bond_places.specs.Order.{picked, framePackets}
 use Rattle.bond_places.specs.Walk.{lastCarrier, mostFrames, twelfths, placeAt, packetAt, isStop, isMarked, stops}
 use Rattle.bond_group.specs.Group.{framesIn, packetsIn, said, carries, bondedSlot, bonded, placeIn, earlier, order}
 use Rattle.bond_group.specs.Plan.{marks, nothingSeen, seen, planAfter}
-use Rattle.bond_group.proofs.Marks.{marks-bit, marks-ones}
+use Rattle.bond_group.proofs.Marks.{picked-few, marks-bit, marks-ones}
 use Rattle.bond_places.proofs.Sorting.{length-sorted, picked-append}
 use Rattle.bond_places.proofs.Frames.{frames-within}
 use Rattle.bond_places.proofs.Sweep.{Grouped, NoHeader, swept}
@@ -58,15 +59,6 @@ none-picked : (t : ℕ → Bool) (s : ℕ) → 0 ≡ length (picked t s 0)
 unfolding picked
 none-picked t s = refl
 
-picked-few : (t : ℕ → Bool) (s n : ℕ) → length (picked t s n) ≤ n
-unfolding picked
-picked-few t s zero = omega arith
-picked-few t s (suc n) = by-test (t s) (picked-few t (s + 1) n)
-  where
-    by-test : (x : Bool) → length (picked t (s + 1) n) ≤ n → length (cond x (s ∷ []) [] ++ picked t (s + 1) n) ≤ suc n
-    by-test true l = omega arith
-    by-test false l = omega arith
-
 -- a place is one of its super frame
 place-short : (t f : ℕ) → (f ≡ 3) ⊎ (f ≡ 4) → t < twelfths → placeAt t f < framePackets * f
 unfolding placeAt
@@ -89,6 +81,11 @@ module _ (b : Bond) (group : List ℕ) where
   carried zero = refl
   carried (suc j) = ap (λ (x : Bool). x || carries b (said group j)) (carried j)
 
+  -- the header is no bonded slot
+  header-bare : (s : Setting) → bondedSlot b s 0 ≡ false
+  unfolding bondedSlot
+  header-bare s = refl
+
   -- of frame j as of the group
   bonded-at : (j i : ℕ) → i < framePackets → bonded b group (framePackets * j + i) ≡ bondedSlot b (said group j) i
   unfolding bonded
@@ -103,7 +100,7 @@ module _ (b : Bond) (group : List ℕ) where
   counted (suc j) =
       let a : framePackets * suc j ≡ framePackets * j + framePackets = omega arith in
       ap₂ _+_ (counted j)
-      (marks-ones (bondedSlot b (said group j)) framePackets
+      (marks-ones (bondedSlot b (said group j)) (header-bare (said group j))
       ∙ sym (picked-shift (bonded b group) (bondedSlot b (said group j)) (0 + framePackets * j) 0 framePackets (λ i l. one j i l)))
       ∙ sym (ap (λ (x : ℕ). length (picked (bonded b group) 0 x)) a ∙ ap length (picked-append (bonded b group) 0 (framePackets * j) framePackets)
       ∙ length-append (picked (bonded b group) 0 (framePackets * j)) (picked (bonded b group) (0 + framePackets * j) framePackets))
@@ -163,7 +160,7 @@ module _ (b : Bond) (group : List ℕ) where
       unfolding isMarked bonded marks
       marked-bonded m l =
           rw (marked n (w .each) .each (m / framePackets) (omega arith))
-          (marks-bit (bondedSlot b (said group (m / framePackets))) framePackets (m % framePackets) (omega arith))
+          (marks-bit (bondedSlot b (said group (m / framePackets))) (header-bare (said group (m / framePackets))) (m % framePackets) (omega arith))
 
       all : Grouped (b .carriers) frames n (placeIn group)
       all = grouped b group few some w

@@ -1,28 +1,29 @@
 -- The plan of a group: what its headers said of the carriers and of the stream.
-use Prim.Native.Nat.{ℕ, zero, suc, _+_, _-_, _^_}
+use Prim.Native.Nat.{ℕ, zero, suc, _+_, _-_}
 use mathlib.Core.Bool.{Bool, false, cond, _||_}
-use mathlib.Core.List.{List}
+use mathlib.Core.List.{List, [], _∷_}
 use lib.Dec.{eqb}
 use lib.ListN.{set, replicate}
 use lib.Count.{ones}
+use Rattle.slot_bits.specs.Bits.{slotsAsBits}
+use Rattle.counters.specs.Counters.{firstSlot, lastSlot}
 use Rattle.setting.specs.declared.Setting.{Setting}
 use Rattle.setting.specs.Refusal.{firstOf}
 use Rattle.bond_group.specs.declared.Bond.{Bond}
 use Rattle.bond_group.specs.declared.headers.Plan.{Plan}
 use Rattle.bond_group.specs.declared.headers.Planned.{Planned}
-use Rattle.bond_places.specs.Order.{framePackets}
 use Rattle.bond_places.specs.Walk.{lastCarrier, mostFrames}
 use Rattle.bond_group.specs.Group.{framesIn, said, carries, bondedSlot}
 use Rattle.bond_group.specs.Standing.{groupChecks, planChecks}
 
--- the slots below n that pass the test as one number, slot i its bit i
-unfoldable pub marksUpTo : (ℕ → Bool) → ℕ → ℕ
-marksUpTo test zero = 0
-marksUpTo test (suc i) = marksUpTo test i + cond (test i) (2 ^ i) 0
+-- whether slots i, i + 1 and so on pass the test, n of them
+unfoldable pub passing : (ℕ → Bool) → ℕ → ℕ → List Bool
+passing test i zero = []
+passing test i (suc n) = test i ∷ passing test (i + 1) n
 
--- the bonded ones of a frame with this header
+-- the bonded slots of a frame with this header as one number, slot i in bit i
 unfoldable pub marks : Bond → Setting → ℕ
-marks b s = marksUpTo (bondedSlot b s) framePackets
+marks b s = slotsAsBits (passing (bondedSlot b s) firstSlot lastSlot)
 
 -- before the first header
 unfoldable pub nothingSeen : Plan

@@ -13,7 +13,8 @@ ghost use mathlib.Core.Bool.{true};
 ghost use Prim.Native.Nat.{_≤_, _%_};
 ghost use lib.ListN.{length};
 ghost use lib.Count.{ones};
-ghost use Rattle.counters.specs.Counters.{lastSlot, lastPosition};
+ghost use Rattle.counters.specs.Counters.{firstSlot, lastSlot, lastPosition};
+ghost use Rattle.slot_bits.specs.Bits.{slotsAsBits};
 ghost use Rattle.setting.specs.declared.Setting.{Setting};
 ghost use Rattle.setting.specs.Setting.{blank};
 ghost use Rattle.setting.specs.Refusal.{firstOf};
@@ -24,7 +25,7 @@ ghost use Rattle.bond_places.specs.Order.{framePackets};
 ghost use Rattle.bond_places.specs.Walk.{lastCarrier};
 ghost use Rattle.bond_group.specs.Group.{hasNumber, numberOf, carries};
 ghost use Rattle.bond_group.specs.Standing.{shownBy, isLast, isEnd, nextCarrier, nextPosition, standingChecks};
-ghost use Rattle.bond_group.specs.Plan.{marksUpTo, marks, nothingSeen, plannedBy};
+ghost use Rattle.bond_group.specs.Plan.{passing, marks, nothingSeen, plannedBy};
 
 // The most carriers of a group, and the most frames.
 pub const CARRIERS: usize = 8;
@@ -78,22 +79,19 @@ fn number_of(heard: Checked, b: Bond) -> u8
     number
 }
 
-// The slots with number r, slot i in bit i; none where r is 0. Each is asked alike and none stops it, so that many are compared at a
-// time.
+// The slots with number r as bits, slot i in bit i; none where r is 0. Each slot is asked alike and none stops the loop, so that the
+// compiler compares many at a time.
 fn marks_of(numbers: &[u8], r: u8) -> u64
     requires { ⌜ length (now numbers) ≡ lastSlot ⌝ }
-    ensures { λ t. ⌜ t ≡ marksUpTo (hasNumber (now (numbers .entry)) r) framePackets ⌝ }
+    ensures { λ t. ⌜ t ≡ slotsAsBits (passing (hasNumber (now (numbers .entry)) r) firstSlot lastSlot) ⌝ }
 {
-    if r == 0 {
-        return 0;
-    }
-    let mut shares = [0u8; SLOTS];
+    let mut marks = [false; SLOTS];
     let mut i = 0;
     while i < SLOTS {
-        shares[i] = slot_bits::share(numbers[i] == r, i);
+        marks[i] = (r != 0) & (numbers[i] == r);
         i += 1;
     }
-    2 * slot_bits::summed_of(&shares)
+    slot_bits::slots_as_bits(&marks)
 }
 
 // What a header says of the stream: whether it knows it, and its slots, slot i in bit i.

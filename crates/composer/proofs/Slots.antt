@@ -7,7 +7,7 @@ use native.Mathlib.Omega.{arith}
 use lib.Dec.{eqb}
 use lib.ListN.{length, getD, drop, length-drop}
 use Rattle.packet.specs.Packets.{packetLength}
-use Rattle.composer.specs.Slots.{emptyFor, firsts, filledBy, marksAfter}
+use Rattle.composer.specs.Slots.{emptyFor, firstSlots, filledBy, marksAfter}
 
 -- two lists, element by element
 length-zip : {A B C : Type 0} (f : A → B → C) (xs : List A) (ys : List B) → length xs ≡ length ys → length (zipWith f xs ys) ≡ length xs
@@ -34,12 +34,12 @@ module _ (r : ℕ) (plan : List ℕ) (marks : List Bool) where
   unfolding emptyFor
   empty-at i h g = zip-at _ plan marks i 0 false false h g
 
-length-firsts : (n : ℕ) (bs : List Bool) → length (firsts n bs) ≡ length bs
-unfolding firsts
-length-firsts n [] = refl
-length-firsts n (false ∷ bs) = ap suc (length-firsts n bs)
-length-firsts zero (true ∷ bs) = ap suc (length-firsts zero bs)
-length-firsts (suc n) (true ∷ bs) = ap suc (length-firsts n bs)
+length-first : (n : ℕ) (bs : List Bool) → length (firstSlots n bs) ≡ length bs
+unfolding firstSlots
+length-first n [] = refl
+length-first n (false ∷ bs) = ap suc (length-first n bs)
+length-first zero (true ∷ bs) = ap suc (length-first zero bs)
+length-first (suc n) (true ∷ bs) = ap suc (length-first n bs)
 
 -- as many marks as before
 pub length-after : (r : ℕ) (plan : List ℕ) (marks : List Bool) (stream : List ℕ) → length plan ≡ length marks
@@ -47,18 +47,18 @@ pub length-after : (r : ℕ) (plan : List ℕ) (marks : List Bool) (stream : Lis
 unfolding marksAfter filledBy
 length-after r plan marks stream same =
     length-zip _||_ marks (filledBy stream (emptyFor r plan marks))
-    (sym (length-firsts (length stream / packetLength) (emptyFor r plan marks) ∙ length-empty r plan marks same ∙ same))
+    (sym (length-first (length stream / packetLength) (emptyFor r plan marks) ∙ length-empty r plan marks same ∙ same))
 
 -- none of a set
-firsts-none : (b : Bool) (bs : List Bool) → firsts 0 (b ∷ bs) ≡ false ∷ firsts 0 bs
-unfolding firsts
-firsts-none true bs = refl
-firsts-none false bs = refl
+first-none : (b : Bool) (bs : List Bool) → firstSlots 0 (b ∷ bs) ≡ false ∷ firstSlots 0 bs
+unfolding firstSlots
+first-none true bs = refl
+first-none false bs = refl
 
 module _ (r n : ℕ) (ns : List ℕ) (m : Bool) (ms : List Bool) (stream : List ℕ) where
   -- a slot that is planned for another stream or is filled
   pub filled-other : eqb n r && not m ≡ false → filledBy stream (emptyFor r (n ∷ ns) (m ∷ ms)) ≡ false ∷ filledBy stream (emptyFor r ns ms)
-  unfolding filledBy emptyFor firsts zipWith
+  unfolding filledBy emptyFor firstSlots zipWith
   filled-other e = rw e
 
   -- one for which no packet is left
@@ -66,12 +66,12 @@ module _ (r n : ℕ) (ns : List ℕ) (m : Bool) (ms : List Bool) (stream : List 
   unfolding filledBy emptyFor zipWith
   filled-late h =
       let none : length stream / packetLength ≡ 0 = omega arith in
-      rw none (firsts-none (eqb n r && not m) (emptyFor r ns ms))
+      rw none (first-none (eqb n r && not m) (emptyFor r ns ms))
 
   -- one that takes the next packet
   pub filled-one : eqb n r && not m ≡ true → packetLength ≤ length stream
       → filledBy stream (emptyFor r (n ∷ ns) (m ∷ ms)) ≡ true ∷ filledBy (drop packetLength stream) (emptyFor r ns ms)
-  unfolding filledBy emptyFor firsts zipWith
+  unfolding filledBy emptyFor firstSlots zipWith
   filled-one e h =
       let one : length stream / packetLength ≡ suc (length (drop packetLength stream) / packetLength) = omega (arith, length-drop packetLength stream) in
       rw (one, e)

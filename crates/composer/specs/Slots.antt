@@ -24,25 +24,25 @@ unfoldable pub emptyFor : ℕ → List ℕ → List Bool → List Bool
 emptyFor r plan marks = zipWith (λ (n : ℕ) (m : Bool). eqb n r && not m) plan marks
 
 -- the first n slots of a set
-unfoldable pub firsts : ℕ → List Bool → List Bool
-firsts n [] = []
-firsts n (false ∷ bs) = false ∷ firsts n bs
-firsts zero (true ∷ bs) = false ∷ firsts zero bs
-firsts (suc n) (true ∷ bs) = true ∷ firsts n bs
+unfoldable pub firstSlots : ℕ → List Bool → List Bool
+firstSlots n [] = []
+firstSlots n (false ∷ bs) = false ∷ firstSlots n bs
+firstSlots zero (true ∷ bs) = false ∷ firstSlots zero bs
+firstSlots (suc n) (true ∷ bs) = true ∷ firstSlots n bs
 
 -- how many slots a set has
-unfoldable pub howMany : List Bool → ℕ
-howMany [] = 0
-howMany (false ∷ bs) = howMany bs
-howMany (true ∷ bs) = suc (howMany bs)
+unfoldable pub slotsIn : List Bool → ℕ
+slotsIn [] = 0
+slotsIn (false ∷ bs) = slotsIn bs
+slotsIn (true ∷ bs) = suc (slotsIn bs)
 
 -- of the empty slots those that a stream fills: one for each of its packets, in rising order, until slots or packets run out
 unfoldable pub filledBy : List ℕ → List Bool → List Bool
-filledBy stream empty = firsts (length stream / packetLength) empty
+filledBy stream empty = firstSlots (length stream / packetLength) empty
 
 -- the number placed
 unfoldable pub placedBy : ℕ → List ℕ → List Bool → List ℕ → ℕ
-placedBy r plan marks stream = howMany (filledBy stream (emptyFor r plan marks))
+placedBy r plan marks stream = slotsIn (filledBy stream (emptyFor r plan marks))
 
 -- whether one of the packets placed is unfit
 unfoldable pub someUnfit : ℕ → ℕ → List ℕ → List Bool → List ℕ → Bool

@@ -4,32 +4,31 @@ use mathlib.Core.Path.{_≡_, refl, sym, ap, ap₂, _∙_}
 use mathlib.Core.Bool.{Bool, true, false, _||_, or-true, or-false}
 use mathlib.Core.Logic.{_⊎_, inl, inr, ⊎-elim}
 use mathlib.Core.List.{List, [], _∷_, _++_, map, zipWith, append-assoc}
-use native.Mathlib.Numerals.{add-one}
 use native.Mathlib.Omega.{arith}
 use lib.Count.{trailingZeros}
 use lib.Dec.{eqb}
-use lib.ListN.{length, take, drop, set, replicate, length-append, length-drop, length-map, take-append-drop}
+use lib.ListN.{length, take, drop, set, replicate, length-append, length-drop, length-map, length-replicate, take-append-drop}
 use lib.Seq.{take-at, drop-at, take-add, drop-drop, length-take-le}
 use Rattle.slices.proofs.Front.{put}
 use Rattle.counters.specs.Counters.{lastSlot}
 use Rattle.packet.specs.Packets.{packetLength, restOf}
-use Rattle.composer.specs.Slots.{firsts, howMany, filledBy, slotsWith}
+use Rattle.composer.specs.Slots.{firstSlots, slotsIn, filledBy, slotsWith}
 use Rattle.composer.specs.States.{markByte, marksOf}
-use Rattle.slot_bits.specs.Bits.{slotBits}
-use Rattle.slot_bits.proofs.NextBit.{First, first}
+use Rattle.slot_bits.specs.Bits.{asBits, slotsAsBits}
+use Rattle.slot_bits.proofs.Bits.{FirstSlot, first-slot}
 
 -- ---- slots of which the first t are passed over
 
 abbrev passing : ℕ → List Bool → List Bool
 passing t bs = replicate t false ++ bs
 
-firsts-pass : (n t : ℕ) (bs : List Bool) → firsts n (passing t bs) ≡ passing t (firsts n bs)
-unfolding firsts
-firsts-pass n zero bs = refl
-firsts-pass n (suc t) bs = ap (λ (l : List Bool). false ∷ l) (firsts-pass n t bs)
+first-pass : (n t : ℕ) (bs : List Bool) → firstSlots n (passing t bs) ≡ passing t (firstSlots n bs)
+unfolding firstSlots
+first-pass n zero bs = refl
+first-pass n (suc t) bs = ap (λ (l : List Bool). false ∷ l) (first-pass n t bs)
 
-many-pass : (t : ℕ) (bs : List Bool) → howMany (passing t bs) ≡ howMany bs
-unfolding howMany
+many-pass : (t : ℕ) (bs : List Bool) → slotsIn (passing t bs) ≡ slotsIn bs
+unfolding slotsIn
 many-pass zero bs = refl
 many-pass (suc t) bs = many-pass t bs
 
@@ -68,8 +67,8 @@ slots-over (suc n) stream slots =
     ap (λ (l : List ℕ). take packetLength slots ++ l) (slots-over n stream (drop packetLength slots)) ∙ take-append-drop packetLength slots
 
 -- none is left, or no packet
-none-left : (n : ℕ) (bs : List Bool) → (slotBits bs ≡ 0) ⊎ (n ≡ 0) → firsts n bs ≡ replicate (length bs) false
-unfolding firsts slotBits
+none-left : (n : ℕ) (bs : List Bool) → (asBits bs ≡ 0) ⊎ (n ≡ 0) → firstSlots n bs ≡ replicate (length bs) false
+unfolding firstSlots asBits
 none-left n [] none = refl
 none-left n (false ∷ bs) none = ap (λ (l : List Bool). false ∷ l) (none-left n bs (⊎-elim (λ z. inl (omega arith)) (λ z. inr z) none))
 none-left zero (true ∷ bs) none = ap (λ (l : List Bool). false ∷ l) (none-left zero bs (inr refl))
@@ -109,73 +108,87 @@ module _ (empty : List Bool) (stream frame₀ bytes₀ : List ℕ) where
   pub record Placing (frame bytes now : List ℕ) (m : ℕ) : Type 0 where
     pub left : List Bool
     pub long : length left ≡ lastSlot
-    pub bits : m ≡ slotBits left
+    pub bits : m ≡ slotsAsBits left
     pub frame-is : slotsWith (false ∷ filledBy now left) now frame ≡ slotsWith (false ∷ filledBy stream empty) stream frame₀
     pub marks-are : zipWith _||_ (marksOf bytes) (filledBy now left) ≡ zipWith _||_ (marksOf bytes₀) (filledBy stream empty)
-    pub rest-is : restOf now (howMany (filledBy now left)) ≡ restOf stream (howMany (filledBy stream empty))
+    pub rest-is : restOf now (slotsIn (filledBy now left)) ≡ restOf stream (slotsIn (filledBy stream empty))
 
-  pub placing-none : length empty ≡ lastSlot → {m : ℕ} → m ≡ slotBits empty → Placing frame₀ bytes₀ stream m
+  pub placing-none : length empty ≡ lastSlot → {m : ℕ} → m ≡ slotsAsBits empty → Placing frame₀ bytes₀ stream m
   placing-none l e = record { left = empty; long = l; bits = e; frame-is = refl; marks-are = refl; rest-is = refl }
 
   module _ {frame bytes now : List ℕ} {m : ℕ} (p : Placing frame bytes now m) where
     -- a packet is placed in the first slot that is left
-    module _ (some : m ≡ 0 → ⊥) (room : packetLength ≤ length now) where
+    module _ (some : m ≡ 0 → ⊥) where
+      abbrev slot : ℕ
+      slot = trailingZeros 64 m
+
+      next : FirstSlot (p .left) slot
+      next = rw (p .bits) (first-slot (p .left) (omega (arith, p .long)) (λ z. some (p .bits ∙ z)))
+
+      -- so many slots stand before it
       abbrev t : ℕ
-      t = trailingZeros 64 m
+      t = next .before
 
-      next : First (p .left) t
-      next = rw (p .bits) (first 64 (p .left) (omega (arith, p .long)) (λ z. some (p .bits ∙ z)))
+      passed : length (passing t (true ∷ next .later)) ≡ lastSlot
+      passed = sym (ap length (next .slots)) ∙ p .long
 
-      abbrev n : ℕ
-      n = length (drop packetLength now) / packetLength
+      pub slot-inside : (1 ≤ slot) × (slot ≤ lastSlot) × (2 ^ slot ≤ m)
+      slot-inside =
+          let behind = length-append (replicate t false) (true ∷ next .later) in
+          let before : length (replicate t false) ≡ t = length-replicate t false in
+          rw (next .number) (omega arith, omega (arith, passed), omega (arith, p .bits, next .bits))
 
-      one : length now / packetLength ≡ suc n
-      one = omega (arith, length-drop packetLength now)
+      module _ (room : packetLength ≤ length now) where
+        abbrev n : ℕ
+        n = length (drop packetLength now) / packetLength
 
-      before : filledBy now (p .left) ≡ passing t (true ∷ firsts n (next .later))
-      unfolding firsts filledBy
-      before = ap₂ firsts one (next .slots) ∙ firsts-pass (suc n) t (true ∷ next .later)
+        one : length now / packetLength ≡ suc n
+        one = omega (arith, length-drop packetLength now)
 
-      behind : filledBy (drop packetLength now) (passing t (false ∷ next .later)) ≡ passing t (false ∷ firsts n (next .later))
-      unfolding firsts filledBy
-      behind = firsts-pass n t (false ∷ next .later)
+        before : filledBy now (p .left) ≡ passing t (true ∷ firstSlots n (next .later))
+        unfolding firstSlots filledBy
+        before = ap₂ firstSlots one (next .slots) ∙ first-pass (suc n) t (true ∷ next .later)
 
-      pub placing-more : (k : ℕ) → k ≡ packetLength → (ys : List ℕ) → ys ≡ take packetLength now → packetLength * (t + 1) ≤ length frame
-          → Placing (put (packetLength * (t + 1)) k frame ys) (set bytes t 1) (drop packetLength now) (m - 2 ^ t)
-      unfolding restOf howMany
-      placing-more k l ys y inside =
-          let later = firsts n (next .later) in
-          let many = howMany later in
-          let whole = ap length y ∙ length-take-le packetLength now room in
-          let same : packetLength + packetLength * many ≡ packetLength * suc many = omega arith in
-          rw (add-one t)
-          (record {
-            left = passing t (false ∷ next .later);
-            long =
-                length-append (replicate t false) (false ∷ next .later) ∙ sym (length-append (replicate t false) (true ∷ next .later))
-                ∙ sym (ap length (next .slots)) ∙ p .long;
-            bits = omega (arith, p .bits, next .bits);
-            frame-is =
-                ap (λ (bs : List Bool). slotsWith (false ∷ bs) (drop packetLength now) (put (packetLength * suc t) k frame ys)) behind
-                ∙ slots-one (suc t) later now frame ys k l whole (omega arith) y
-                ∙ ap (λ (bs : List Bool). slotsWith (false ∷ bs) now frame) (sym before) ∙ p .frame-is;
-            marks-are =
-                ap₂ (zipWith _||_) (set-map (λ (b : ℕ). eqb b 1) bytes t 1) behind ∙ marks-one t later (marksOf bytes)
-                ∙ ap (zipWith _||_ (marksOf bytes)) (sym before) ∙ p .marks-are;
-            rest-is =
-                ap (λ (bs : List Bool). drop (packetLength * howMany bs) (drop packetLength now)) behind
-                ∙ ap (λ (i : ℕ). drop (packetLength * i) (drop packetLength now)) (many-pass t (false ∷ later))
-                ∙ drop-drop (packetLength * many) packetLength now ∙ ap (λ (i : ℕ). drop i now) same
-                ∙ ap (λ (i : ℕ). drop (packetLength * i) now) (sym (many-pass t (true ∷ later)))
-                ∙ ap (λ (bs : List Bool). drop (packetLength * howMany bs) now) (sym before) ∙ p .rest-is;
-          })
+        behind : filledBy (drop packetLength now) (passing t (false ∷ next .later)) ≡ passing t (false ∷ firstSlots n (next .later))
+        unfolding firstSlots filledBy
+        behind = first-pass n t (false ∷ next .later)
+
+        pub placing-more : (k : ℕ) → k ≡ packetLength → (ys : List ℕ) → ys ≡ take packetLength now → packetLength * slot ≤ length frame
+            → Placing (put (packetLength * slot) k frame ys) (set bytes (slot - 1) 1) (drop packetLength now) (m - 2 ^ slot)
+        unfolding restOf slotsIn
+        placing-more k l ys y inside =
+            let later = firstSlots n (next .later) in
+            let many = slotsIn later in
+            let whole = ap length y ∙ length-take-le packetLength now room in
+            let same : packetLength + packetLength * many ≡ packetLength * suc many = omega arith in
+            let index : suc t - 1 ≡ t = omega arith in
+            let fits : packetLength * suc t ≤ length frame = rw (next .number) at inside in
+            rw (next .number, index)
+            (record {
+              left = passing t (false ∷ next .later);
+              long = length-append (replicate t false) (false ∷ next .later) ∙ sym (length-append (replicate t false) (true ∷ next .later)) ∙ passed;
+              bits = omega (arith, p .bits, next .bits);
+              frame-is =
+                  ap (λ (bs : List Bool). slotsWith (false ∷ bs) (drop packetLength now) (put (packetLength * suc t) k frame ys)) behind
+                  ∙ slots-one (suc t) later now frame ys k l whole fits y
+                  ∙ ap (λ (bs : List Bool). slotsWith (false ∷ bs) now frame) (sym before) ∙ p .frame-is;
+              marks-are =
+                  ap₂ (zipWith _||_) (set-map (λ (b : ℕ). eqb b 1) bytes t 1) behind ∙ marks-one t later (marksOf bytes)
+                  ∙ ap (zipWith _||_ (marksOf bytes)) (sym before) ∙ p .marks-are;
+              rest-is =
+                  ap (λ (bs : List Bool). drop (packetLength * slotsIn bs) (drop packetLength now)) behind
+                  ∙ ap (λ (i : ℕ). drop (packetLength * i) (drop packetLength now)) (many-pass t (false ∷ later))
+                  ∙ drop-drop (packetLength * many) packetLength now ∙ ap (λ (i : ℕ). drop i now) same
+                  ∙ ap (λ (i : ℕ). drop (packetLength * i) now) (sym (many-pass t (true ∷ later)))
+                  ∙ ap (λ (bs : List Bool). drop (packetLength * slotsIn bs) now) (sym before) ∙ p .rest-is;
+            })
 
     -- nothing is left to place
     module _ (none : (m ≡ 0) ⊎ (length now < packetLength)) where
       over : filledBy now (p .left) ≡ replicate lastSlot false
-      unfolding filledBy
+      unfolding filledBy slotsAsBits asBits
       over =
-          none-left (length now / packetLength) (p .left) (⊎-elim (λ z. inl (sym (p .bits) ∙ z)) (λ h. inr (omega arith)) none)
+          none-left (length now / packetLength) (p .left) (⊎-elim (λ z. inl (omega (arith, p .bits))) (λ h. inr (omega arith)) none)
           ∙ ap (λ (i : ℕ). replicate i false) (p .long)
 
       pub frame-done : frame ≡ slotsWith (false ∷ filledBy stream empty) stream frame₀
@@ -188,6 +201,6 @@ module _ (empty : List Bool) (stream frame₀ bytes₀ : List ℕ) where
           ∙ ap (map markByte)
           (sym (marks-over (marksOf bytes) lastSlot (length-map bytes (λ (b : ℕ). eqb b 1) ∙ l)) ∙ ap (zipWith _||_ (marksOf bytes)) (sym over) ∙ p .marks-are)
 
-      pub rest-done : now ≡ restOf stream (howMany (filledBy stream empty))
-      unfolding restOf howMany
-      rest-done = ap (λ (bs : List Bool). drop (packetLength * howMany bs) now) (sym over) ∙ p .rest-is
+      pub rest-done : now ≡ restOf stream (slotsIn (filledBy stream empty))
+      unfolding restOf slotsIn
+      rest-done = ap (λ (bs : List Bool). drop (packetLength * slotsIn bs) now) (sym over) ∙ p .rest-is

@@ -1,7 +1,7 @@
-// The slots of a frame: slot i is the 188 bytes at 188 × i, and bit i - 1 of a number that has slots. A byte of 1 marks a filled one.
+// The slots of a frame: slot i is the 188 bytes at 188 × i, and bit i of a number that has slots. A byte of 1 marks a filled one.
 use counters::SLOTS;
 use packet::PACKET_BYTES;
-ghost use Prim.Native.Nat.{_/_, _^_, _<_, min};
+ghost use Prim.Native.Nat.{_/_, min};
 ghost use mathlib.Core.Path.{_≡_};
 ghost use mathlib.Core.Bool.{Bool, false, _||_};
 ghost use mathlib.Core.List.{List, _∷_, map, zipWith};
@@ -10,23 +10,23 @@ ghost use lib.ListN.{length};
 ghost use Rattle.slices.specs.Slices.{someAtLeast};
 ghost use Rattle.counters.specs.Counters.{lastSlot};
 ghost use Rattle.packet.specs.Packets.{packetLength, frameLength, restOf};
-ghost use Rattle.composer.specs.Slots.{emptyFor, howMany, filledBy, slotsWith};
+ghost use Rattle.composer.specs.Slots.{emptyFor, slotsIn, filledBy, slotsWith};
 ghost use Rattle.composer.specs.States.{markByte, marksOf};
-ghost use Rattle.slot_bits.specs.Bits.{slotBits};
+ghost use Rattle.slot_bits.specs.Bits.{slotsAsBits};
 
-// The still empty slots planned for stream r. Each is asked alike and none stops it, so that many are compared at a time.
+// The still empty slots planned for stream r, as bits. Each slot is asked alike and none stops the loop, so that the compiler compares
+// many at a time.
 pub(crate) fn empty_slots(plan: &[u8], filled: &[u8], r: u8) -> u64
     requires { ⌜ (length (now plan) ≡ lastSlot) × (length (now filled) ≡ lastSlot) ⌝ }
-    ensures { λ t. ⌜ t ≡ slotBits (emptyFor r (now (plan .entry)) (marksOf (now (filled .entry)))) ⌝ }
-    ensures { λ t. ⌜ t < 2 ^ lastSlot ⌝ }
+    ensures { λ t. ⌜ t ≡ slotsAsBits (emptyFor r (now (plan .entry)) (marksOf (now (filled .entry)))) ⌝ }
 {
-    let mut shares = [0u8; SLOTS];
+    let mut marks = [false; SLOTS];
     let mut i = 0;
     while i < SLOTS {
-        shares[i] = slot_bits::share((plan[i] == r) & (filled[i] != 1), i);
+        marks[i] = (plan[i] == r) & (filled[i] != 1);
         i += 1;
     }
-    slot_bits::summed_of(&shares)
+    slot_bits::slots_as_bits(&marks)
 }
 
 // How many packets of a stream of so many bytes the slots take.
@@ -42,7 +42,8 @@ pub(crate) fn packets_for(slots: u64, bytes: usize) -> usize
 }
 
 // Copies the stream's packets into the slots, in rising order, until slots or packets run out, marks them filled, and hands back
-// the rest of the stream. The contract holds for the slots that these are the bits of.
+// the rest of the stream. The lowest bit that is set is the next slot's, and is taken out once the slot is filled. The contract is
+// about the set of slots that these bits are.
 pub(crate) fn place<'a>(
     frame: &mut [u8],
     stream: &'a [u8],
@@ -51,23 +52,23 @@ pub(crate) fn place<'a>(
 ) -> &'a [u8]
     requires { ⌜ (length (now frame) ≡ frameLength) × (length (now filled) ≡ lastSlot) ⌝ }
     requires { ⌜ someAtLeast 2 (now filled) ≡ false ⌝ }
-    requires { ⌜ slots < 2 ^ lastSlot ⌝ }
-    ensures { λ t. ⌜ ((empty : List Bool) → length empty ≡ lastSlot → slots ≡ slotBits empty → now t ≡ restOf (now (stream .entry)) (howMany (filledBy (now (stream .entry)) empty))) ⌝ }
-    ensures { λ _. ⌜ ((empty : List Bool) → length empty ≡ lastSlot → slots ≡ slotBits empty → now (frame .exit) ≡ slotsWith (false ∷ filledBy (now (stream .entry)) empty) (now (stream .entry)) (now (frame .entry))) ⌝ }
-    ensures { λ _. ⌜ ((empty : List Bool) → length empty ≡ lastSlot → slots ≡ slotBits empty → now (filled .exit) ≡ map markByte (zipWith _||_ (marksOf (now (filled .entry))) (filledBy (now (stream .entry)) empty))) ⌝ }
+    requires { ⌜ ((empty : List Bool) × (length empty ≡ lastSlot) × (slots ≡ slotsAsBits empty)) ⌝ }
+    ensures { λ t. ⌜ ((empty : List Bool) → length empty ≡ lastSlot → slots ≡ slotsAsBits empty → now t ≡ restOf (now (stream .entry)) (slotsIn (filledBy (now (stream .entry)) empty))) ⌝ }
+    ensures { λ _. ⌜ ((empty : List Bool) → length empty ≡ lastSlot → slots ≡ slotsAsBits empty → now (frame .exit) ≡ slotsWith (false ∷ filledBy (now (stream .entry)) empty) (now (stream .entry)) (now (frame .entry))) ⌝ }
+    ensures { λ _. ⌜ ((empty : List Bool) → length empty ≡ lastSlot → slots ≡ slotsAsBits empty → now (filled .exit) ≡ map markByte (zipWith _||_ (marksOf (now (filled .entry))) (filledBy (now (stream .entry)) empty))) ⌝ }
 {
     let mut rest = slots;
     let mut at = 0;
     while (rest != 0) & (PACKET_BYTES <= stream.len() - at) {
-        let i = u64::trailing_zeros(rest);
-        filled[i as usize] = 1;
-        let slot = PACKET_BYTES * (i as usize + 1);
+        let slot = u64::trailing_zeros(rest);
+        filled[slot as usize - 1] = 1;
+        let to = PACKET_BYTES * slot as usize;
         slices::copy(
-            &mut frame[slot..slot + PACKET_BYTES],
+            &mut frame[to..to + PACKET_BYTES],
             &stream[at..at + PACKET_BYTES],
         );
         at += PACKET_BYTES;
-        rest -= 1u64 << i;
+        rest -= 1u64 << slot;
     }
     &stream[at..]
 }

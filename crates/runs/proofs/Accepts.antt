@@ -21,7 +21,7 @@ use Rattle.setting.proofs.Fields.{fit-some}
 use Rattle.header_layout.specs.Rows.{place, rowAt}
 use Rattle.header_layout.specs.Layout.{startTable, rowWith}
 use Rattle.packet.specs.Packets.{packetLength, frameLength, slot, unfit, someUnfitIn}
-use Rattle.composer.specs.Slots.{emptyFor, firsts, howMany, filledBy, placedBy, someUnfit, marksAfter, someUnplanned}
+use Rattle.composer.specs.Slots.{emptyFor, firstSlots, slotsIn, filledBy, placedBy, someUnfit, marksAfter, someUnplanned}
 use Rattle.setting.specs.Announcing.{announced, differ, announcedChecks}
 use Rattle.composer.specs.Composing.{Composer, fresh, opened, marked, nextCounter, nextVersion, closedWith, closed, asked, inTurn, stateChecks, openRuleChecks, markChecks, openChecks, streamChecks, beginRefusal, putRefusal, closeRefusal}
 use Rattle.composer.proofs.Refusals.{ask-all, ask-none}
@@ -105,7 +105,7 @@ zero-numbers zero lent = refl
 zero-numbers (suc n) lent = ap (λ (ns : List ℕ). 0 ∷ ns) (zero-numbers n lent)
 
 pub put-marks : marksAfter 1 plan noMarks thePacket ≡ true ∷ replicate 51 false
-unfolding marksAfter filledBy firsts emptyFor zipWith thePacket
+unfolding marksAfter filledBy firstSlots emptyFor zipWith thePacket
 put-marks = refl
 
 unplanned-one : someUnplanned plan (true ∷ replicate 51 false) ≡ false
@@ -117,7 +117,7 @@ unfolding thePacket unfit startTable rowWith decide rowAt place cut run bitsOf n
 fit-packet = refl
 
 all-fit : someUnfit thePid 1 plan noMarks thePacket ≡ false
-unfolding someUnfit someUnfitIn anyBelow slot placedBy howMany filledBy firsts emptyFor zipWith thePacket
+unfolding someUnfit someUnfitIn anyBelow slot placedBy slotsIn filledBy firstSlots emptyFor zipWith thePacket
 all-fit = fit-packet
 
 -- ---- what is not refused

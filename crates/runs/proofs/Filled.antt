@@ -12,7 +12,7 @@ use lib.Seq.{take-at, drop-at, take-add, take-append-le, drop-append-le, length-
 use Rattle.slices.proofs.Any.{neither}
 use Rattle.packet.specs.Packets.{packetLength, nullPacket, unfit, someUnfitIn}
 use Rattle.packet.proofs.Fit.{unfit-first}
-use Rattle.composer.specs.Slots.{emptyFor, firsts, howMany, filledBy, placedBy, someUnfit, marksAfter, slotsWith}
+use Rattle.composer.specs.Slots.{emptyFor, firstSlots, slotsIn, filledBy, placedBy, someUnfit, marksAfter, slotsWith}
 use Rattle.composer.proofs.Slots.{filled-other, filled-late, filled-one}
 use Rattle.runs.specs.Work.{added, carries, taken, slotsFilled, numbersFilled}
 
@@ -141,7 +141,7 @@ module _ (pid r n : ℕ) (ns : List ℕ) (lent : ℕ → List ℕ) (stream : Lis
       → Slot pid n ns (added r stream lent) p k m (added r stream rest) bad
       → filledBy stream (emptyFor r (n ∷ ns) (m ∷ marksFilled ns rest)) ≡ false ∷ filledBy stream (emptyFor r ns (marksFilled ns rest))
       → Added pid r ns rest stream → Added pid r (n ∷ ns) lent stream
-  unfolding slotsWith marksAfter zipWith someUnfit placedBy howMany
+  unfolding slotsWith marksAfter zipWith someUnfit placedBy slotsIn
   kept p k m rest bad b a e ih =
       let fs = filledBy stream (emptyFor r ns (marksFilled ns rest)) in
       let filled = ap (λ (ms : List Bool). filledBy stream (emptyFor r (n ∷ ns) ms)) (b .marks) ∙ e in
@@ -153,7 +153,7 @@ module _ (pid r n : ℕ) (ns : List ℕ) (lent : ℕ → List ℕ) (stream : Lis
         marks = ap₂ (zipWith _||_) (b .marks) filled ∙ ap₂ (λ (x : Bool) (ms : List Bool). x ∷ ms) (or-false m) (ih .marks) ∙ sym (a .marks);
         fit = λ u s.
             let before = neither bad (unfitFilled pid ns rest) (sym (b .unfits) ∙ u) in
-            let placed = sym (ap (λ (bs : List Bool). someUnfitIn pid (take (packetLength * howMany bs) stream)) filled) ∙ s in
+            let placed = sym (ap (λ (bs : List Bool). someUnfitIn pid (take (packetLength * slotsIn bs) stream)) filled) ∙ s in
             a .unfits ∙ ap₂ _||_ (before .0) (ih .fit (before .1) placed);
       }
 
@@ -162,12 +162,12 @@ module _ (pid r n : ℕ) (ns : List ℕ) (lent : ℕ → List ℕ) (stream : Lis
       → Slot pid n ns (added r stream lent) (take packetLength stream) n true (added r (drop packetLength stream) lent) (unfit pid (take packetLength stream))
       → filledBy stream (emptyFor r (n ∷ ns) (false ∷ marksFilled ns lent)) ≡ true ∷ filledBy (drop packetLength stream) (emptyFor r ns (marksFilled ns lent))
       → packetLength ≤ length stream → Added pid r ns lent (drop packetLength stream) → Added pid r (n ∷ ns) lent stream
-  unfolding slotsWith marksAfter zipWith someUnfit placedBy howMany
+  unfolding slotsWith marksAfter zipWith someUnfit placedBy slotsIn
   placed b a e h ih =
       let rest = drop packetLength stream in
       let fs = filledBy rest (emptyFor r ns (marksFilled ns lent)) in
       let filled = ap (λ (ms : List Bool). filledBy stream (emptyFor r (n ∷ ns) ms)) (b .marks) ∙ e in
-      let more : packetLength * suc (howMany fs) ≡ packetLength + packetLength * howMany fs = omega arith in
+      let more : packetLength * suc (slotsIn fs) ≡ packetLength + packetLength * slotsIn fs = omega arith in
       record {
         slots =
             ap₂ (λ (bs : List Bool) (l : List ℕ). slotsWith bs stream l) filled (b .slots)
@@ -176,10 +176,10 @@ module _ (pid r n : ℕ) (ns : List ℕ) (lent : ℕ → List ℕ) (stream : Lis
         marks = ap₂ (zipWith _||_) (b .marks) filled ∙ ap (λ (ms : List Bool). true ∷ ms) (ih .marks) ∙ sym (a .marks);
         fit = λ u s.
             let both =
-            neither (unfit pid (take packetLength stream)) (someUnfitIn pid (take (packetLength * howMany fs) rest))
-            (sym (ap (λ (bs : List Bool). someUnfitIn pid (take (packetLength * howMany bs) stream)) filled
-            ∙ ap (someUnfitIn pid) (ap (λ (k : ℕ). take k stream) more ∙ take-add packetLength (packetLength * howMany fs) stream)
-            ∙ unfit-first pid (take packetLength stream) (take (packetLength * howMany fs) rest) (length-take-le packetLength stream h)) ∙ s) in
+            neither (unfit pid (take packetLength stream)) (someUnfitIn pid (take (packetLength * slotsIn fs) rest))
+            (sym (ap (λ (bs : List Bool). someUnfitIn pid (take (packetLength * slotsIn bs) stream)) filled
+            ∙ ap (someUnfitIn pid) (ap (λ (k : ℕ). take k stream) more ∙ take-add packetLength (packetLength * slotsIn fs) stream)
+            ∙ unfit-first pid (take packetLength stream) (take (packetLength * slotsIn fs) rest) (length-take-le packetLength stream h)) ∙ s) in
             a .unfits ∙ ap₂ _||_ (both .0) (ih .fit (sym (b .unfits) ∙ u) (both .1));
       }
 
@@ -246,7 +246,7 @@ module _ (pid r : ℕ) (ns : List ℕ) (lent : ℕ → List ℕ) (stream : List 
 
 pub put-adds : (pid r : ℕ) → (r ≡ 0 → ⊥) → (plan : List ℕ) (lent : ℕ → List ℕ) (stream : List ℕ) → EachWhole lent → Whole stream
     → Added pid r plan lent stream
-unfolding slotsWith marksAfter zipWith slotsFilled marksFilled unfitFilled filledBy emptyFor firsts
+unfolding slotsWith marksAfter zipWith slotsFilled marksFilled unfitFilled filledBy emptyFor firstSlots
 put-adds pid r z [] lent stream w v = record { slots = refl; marks = refl; fit = λ u s. u }
 put-adds pid r z (n ∷ ns) lent stream w v = by-number (λ l s. put-adds pid r z ns l s) (ℕ-discrete n r)
   where

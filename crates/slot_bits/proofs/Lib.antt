@@ -1,3 +1,3 @@
-pub mod NextBit
-pub mod Sharing
-pub mod Summing
+pub mod Bits
+mod Bytes
+pub mod Marking

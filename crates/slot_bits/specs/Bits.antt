@@ -1,28 +1,25 @@
--- Slots as bits of one number, and the shares that make it.
-use Prim.Native.Nat.{ℕ, _+_, _*_, _/_, _%_, _^_}
-use mathlib.Core.Bool.{Bool, cond}
+-- Slots as bits of one number.
+use Prim.Native.Nat.{ℕ, _+_, _*_, _/_, _^_}
+use mathlib.Core.Bool.{Bool, false, cond}
 use mathlib.Core.List.{List, [], _∷_}
 
--- the slots that are told: the first one's bit is the lowest
-unfoldable pub slotBits : List Bool → ℕ
-slotBits [] = 0
-slotBits (b ∷ bs) = cond b 1 0 + 2 * slotBits bs
+-- marks as bits of one number, the first mark as the lowest bit
+unfoldable pub asBits : List Bool → ℕ
+asBits [] = 0
+asBits (b ∷ bs) = cond b 1 0 + 2 * asBits bs
 
--- what slot k, if it is told, leaves of the byte that eight slots make
-abbrev pub shareOf : Bool → ℕ → ℕ
-shareOf b k = cond b (2 ^ (k % 8)) 0
+-- the marks of slots 1, 2 and so on as one number: slot i in bit i. The false is for slot 0, the header
+unfoldable pub slotsAsBits : List Bool → ℕ
+slotsAsBits marks = asBits (false ∷ marks)
 
--- what each slot leaves, from slot k on
-unfoldable pub shares : ℕ → List Bool → List ℕ
-shares k [] = []
-shares k (b ∷ bs) = shareOf b k ∷ shares (k + 1) bs
+-- ---- what the code makes it of
 
 -- numbers added up
 unfoldable pub total : List ℕ → ℕ
 total [] = 0
 total (n ∷ ns) = n + total ns
 
--- the shares from slot k on, each in its byte
-unfoldable pub summed : ℕ → List ℕ → ℕ
-summed k [] = 0
-summed k (s ∷ ss) = s * 2 ^ (8 * (k / 8)) + summed (k + 1) ss
+-- numbers added up, of which those at places 0 to 7 count in byte 0, the next eight in byte 1, and so on; k is the first one's place
+unfoldable pub inBytes : ℕ → List ℕ → ℕ
+inBytes k [] = 0
+inBytes k (n ∷ ns) = n * 2 ^ (8 * (k / 8)) + inBytes (k + 1) ns

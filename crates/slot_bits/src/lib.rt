@@ -1,45 +1,67 @@
-// Slots as bits of one number, made of bytes: a slot that is told leaves its share, and the shares of eight slots are a byte.
+// Slots as bits of one number: slot i in bit i. Bit 0 is the header's place, and always 0.
 use counters::SLOTS;
+ghost use Prim.Native.Nat.{_*_, _%_, _^_, _≤_, _<_};
 ghost use mathlib.Core.Path.{_≡_};
-ghost use Prim.Native.Nat.{_*_, _≤_};
+ghost use mathlib.Core.Bool.{cond};
 ghost use lib.ListN.{length};
-ghost use Rattle.slot_bits.specs.Bits.{shareOf, total, summed};
+ghost use Rattle.slot_bits.specs.Bits.{slotsAsBits, total, inBytes};
 
-// The share that slot i leaves where it is told.
-pub fn share(told: bool, i: usize) -> u8
-    ensures { λ t. ⌜ t ≡ shareOf told i ⌝ }
+// The bytes that the slots' bits fill, eight in each.
+const BYTES: usize = SLOTS / 8 + 1;
+
+// The bit of mark i, from 0, in its byte, if the slot is marked.
+fn bit_of(is_marked: bool, i: usize) -> u8
+    ensures { λ t. ⌜ t ≡ cond («is_marked») (2 ^ (i % 8)) 0 ⌝ }
 {
-    if told {
+    if is_marked {
         return 1u8 << ((i % 8) as u32);
     }
     0
 }
 
-// The shares of up to eight slots, added up.
-fn total_of(part: &[u8]) -> u64
-    requires { ⌜ length (now part) ≤ 8 ⌝ }
-    ensures { λ t. ⌜ t ≡ total (now (part .entry)) ⌝ }
+// The bits of up to eight slots added up, which is their byte.
+fn byte_of(bits: &[u8]) -> u64
+    requires { ⌜ length (now bits) ≤ 8 ⌝ }
+    ensures { λ t. ⌜ t ≡ total (now (bits .entry)) ⌝ }
     ensures { λ t. ⌜ t ≤ 255 * 8 ⌝ }
 {
     let mut sum = 0u64;
     let mut i = 0;
-    while i < part.len() {
-        sum += bits::wide(part[i]);
+    while i < bits.len() {
+        sum += bits::wide(bits[i]);
         i += 1;
     }
     sum
 }
 
-// The bytes that the slots' shares make, side by side: eight slots at a time are added, which is quicker than a bit for each.
-pub fn summed_of(shares: &[u8; SLOTS]) -> u64
-    ensures { λ t. ⌜ t ≡ summed 0 (now (shares .entry)) ⌝ }
+// The bytes side by side, the first one lowest.
+fn number_of(bits: &[u8; 8 * BYTES]) -> u64
+    ensures { λ t. ⌜ t ≡ inBytes 0 (now (bits .entry)) ⌝ }
+    ensures { λ t. ⌜ t < 2 ^ 60 ⌝ }
 {
-    let shares: &[u8] = shares;
-    total_of(&shares[0..8])
-        + (total_of(&shares[8..16]) << 8)
-        + (total_of(&shares[16..24]) << 16)
-        + (total_of(&shares[24..32]) << 24)
-        + (total_of(&shares[32..40]) << 32)
-        + (total_of(&shares[40..48]) << 40)
-        + (total_of(&shares[48..SLOTS]) << 48)
+    let bits: &[u8] = bits;
+    let mut number = 0u64;
+    let mut byte = 0;
+    while byte < BYTES {
+        let at = 8 * byte;
+        number += byte_of(&bits[at..at + 8]) << (at as u32);
+        byte += 1;
+    }
+    number
+}
+
+// The marked slots as bits of one number; the first mark is slot 1's. The bits of eight slots are added into a byte at a time, and no
+// mark stops a loop, so that the compiler works on many slots at once: that is quicker than a shift for each slot. The bytes have slot 1
+// in bit 0, so twice their number has it in bit 1.
+pub fn slots_as_bits(marks: &[bool; SLOTS]) -> u64
+    ensures { λ t. ⌜ t ≡ slotsAsBits (now (marks .entry)) ⌝ }
+{
+    let marks: &[bool] = marks;
+    let mut bits = [0u8; 8 * BYTES];
+    let mut i = 0;
+    while i < SLOTS {
+        bits[i] = bit_of(marks[i], i);
+        i += 1;
+    }
+    2 * number_of(&bits)
 }

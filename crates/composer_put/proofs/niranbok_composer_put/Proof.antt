@@ -20,7 +20,7 @@ use Rattle.composer.proofs.Same.{marked-bytes, marks-low, all-bytes, coded-by-c
 use Rattle.composer.proofs.There.{put-end, plan-there, marks-there}
 use Rattle.composer.specs.Calls.{putRefused, putPlaced, putState, putMemory}
 use Rattle.composer.proofs.Calls.{put-refused, put-done}
-use Rattle.slot_bits.specs.Bits.{slotBits}
+use Rattle.slot_bits.specs.Bits.{slotsAsBits}
 use Rattle.composer.proofs.Slots.{length-empty}
 use Rattle.composer_put.proofs.Placed.{left-within, counted}
 use Rattle.composer_put.proofs.Passed.{PutPassed, put-passed}
@@ -59,8 +59,8 @@ empty-long c =
 
 -- their bits
 bits : (c : tie.After-empty-slots)
-    → c .empty-slots .result ≡ slotBits (empty (start₁ (c .before .before .before .before) .args .r) (start₁ (c .before .before .before .before) .args .state .now))
-bits c = c .empty-slots .ensures .0
+    → c .empty-slots .result ≡ slotsAsBits (empty (start₁ (c .before .before .before .before) .args .r) (start₁ (c .before .before .before .before) .args .state .now))
+bits c = c .empty-slots .ensures
 
 -- what the placing leaves of the stream
 left : (c : tie.After-place)
@@ -127,7 +127,7 @@ place-requires c κs =
     let k = c .before .before .before .before in
     let b = start₂ k .args .state .now in
     let long = k .before .before .before .before .before .before .before .if1 .left in
-    ((past k .long, length-part 338 52 b (omega arith)), (marks-low b long (all-bytes b (c .before .before .are-bytes .ensures)) (coded k), k .before .before .before .empty-slots .ensures .1))
+    ((past k .long, length-part 338 52 b (omega arith)), (marks-low b long (all-bytes b (c .before .before .are-bytes .ensures)) (coded k), (_, empty-long k, bits (k .before .before .before))))
 
 sub-placed : tie.Need-sub-placed
 sub-placed c =

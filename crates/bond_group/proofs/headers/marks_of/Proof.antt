@@ -1,50 +1,50 @@
--- `marks_of` meets its contract: the shares of the slots before slot i + 1 are left. Assumes nothing.
-use Prim.Native.Nat.{ℕ, suc, _-_, _*_, _≤_}
-use mathlib.Core.Path.{_≡_, sym, ap, _∙_}
-use mathlib.Core.Bool.{Bool, and-false}
-use mathlib.Core.List.{List, map}
+-- `marks_of` meets its contract: the slots before slot i + 1 are marked. Assumes nothing.
+use Prim.Native.Nat.{ℕ, _+_, _-_, _≤_, _<_}
+use mathlib.Core.Path.{_≡_, ap, _∙_}
+use mathlib.Core.Bool.{Bool, false, not, _&&_}
+use mathlib.Core.List.{List}
 use native.Mathlib.Omega.{arith}
 use borrow.Author.Needs.{needs}
-use borrow.Author.Tests.{eq-eqb}
+use borrow.Author.Tests.{ne-eqb}
 use lib.Dec.{eqb}
-use lib.ListN.{length, length-map}
-use Rattle.counters.specs.Counters.{lastSlot}
-use Rattle.slot_bits.proofs.Sharing.{Sharing, sharing-none, sharing-more, sharing-long, sharing-all}
-use Rattle.bond_places.specs.Order.{framePackets}
+use lib.ListN.{length, getD, length-set}
+use Rattle.counters.specs.Counters.{firstSlot, lastSlot}
+use Rattle.slot_bits.specs.Bits.{slotsAsBits}
+use Rattle.slot_bits.proofs.Marking.{Marking, marking-none, marking-more, marking-all}
 use Rattle.bond_group.specs.Group.{hasNumber}
-use Rattle.bond_group.specs.Plan.{marksUpTo}
-use Rattle.bond_group.proofs.Marks.{marks-none, marks-small, told-at, numbered-marks}
+use Rattle.bond_group.specs.Plan.{passing}
+use Rattle.bond_group.proofs.Marks.{length-passing, passing-at}
 use Rattle.bond_group.proofs.headers.marks_of.Statement.{statement}
 use Rattle.bond_group.proofs.headers.marks_of.Tie as tie
 
+-- the marks that are made
+abbrev made : List ℕ → ℕ → List Bool
+made numbers r = passing (hasNumber numbers r) firstSlot lastSlot
+
+made-long : (numbers : List ℕ) (r : ℕ) → length (made numbers r) ≡ lastSlot
+made-long numbers r = length-passing (hasNumber numbers r) firstSlot lastSlot
+
+-- slot i + 1 as it is asked
+asked : (numbers : List ℕ) (r i : ℕ) → i < lastSlot → getD (made numbers r) i false ≡ not (eqb r 0) && eqb (getD numbers i 0) r
+asked numbers r i inside =
+    let no-header : firstSlot + i ≡ 0 → ⊥ = λ e. omega arith in
+    let index : firstSlot + i - 1 ≡ i = omega arith in
+    passing-at (hasNumber numbers r) firstSlot lastSlot i inside ∙ rw (ne-eqb (firstSlot + i) 0 no-header, index)
+
 abbrev Inv-loop : tie.InvT-loop
-Inv-loop numbers r shares₀ i₀ shares i = (i ≤ lastSlot) × (length shares ≡ lastSlot) × Sharing (map (λ (n : ℕ). eqb n r) numbers) shares i
+Inv-loop numbers r marks₀ i₀ marks i = (i ≤ lastSlot) × (length marks ≡ lastSlot) × Marking (made numbers r) marks i
 
 abbrev μ-loop : tie.MeasureT-loop
-μ-loop numbers r shares₀ i₀ shares i = lastSlot - i
-
--- which slots have the number, and how many slots there are
-abbrev told : tie.Start Inv-loop μ-loop → List Bool
-told c = map (λ (n : ℕ). eqb n (c .args .r)) (c .args .numbers .now)
-
-told-long : (c : tie.Start Inv-loop μ-loop) → length (told c) ≡ lastSlot
-told-long c = length-map (c .args .numbers .now) (λ (n : ℕ). eqb n (c .args .r)) ∙ c .pre
-
-returns : tie.Need-returns Inv-loop μ-loop
-returns c =
-    sym (marks-none _ (λ i. simp (eq-eqb (c .before .before .args .r) 0 (c .if1 .taken), and-false)) framePackets)
+μ-loop numbers r marks₀ i₀ marks i = lastSlot - i
 
 loop-holds : tie.Need-loop-holds Inv-loop μ-loop
-loop-holds c = (omega arith, omega arith, sharing-none (told (c .before .before)))
+loop-holds c = (omega arith, omega arith, marking-none _)
 
-shared-slice-read-share : tie.Need-shared-slice-read-share Inv-loop μ-loop
-shared-slice-read-share c = search needs
+shared-slice-read-marks : tie.Need-shared-slice-read-marks Inv-loop μ-loop
+shared-slice-read-marks c = search needs
 
-share-requires : tie.Need-share-requires Inv-loop μ-loop
-share-requires c κs = search needs
-
-array-write-shares : tie.Need-array-write-shares Inv-loop μ-loop
-array-write-shares c = search needs
+array-write-marks : tie.Need-array-write-marks Inv-loop μ-loop
+array-write-marks c = search needs
 
 add-i : tie.Need-add-i Inv-loop μ-loop
 add-i c = search needs
@@ -54,34 +54,22 @@ loop-less c = search needs
 
 loop-again : tie.Need-loop-again Inv-loop μ-loop
 loop-again c =
-    let loop = c .before .before .before in
-    let start = loop .before .before .before in
-    let i = loop .loop .i in
-    let shared = sharing-more (told start) (told-long start) (loop .loop .inv .2) (omega arith)
-    (told-at (start .args .r) (loop .before .if1 .left) (start .args .numbers .now) i) (c .share .ensures) in
-    (omega arith, sharing-long (told start) (told-long start) shared (omega arith), shared)
+    let t = c .before .before in
+    let a = t .before .before .args in
+    let inside : t .loop .i < lastSlot = omega arith in (
+      omega arith,
+      simp length-set (t .loop .inv .1),
+      marking-more (made (a .numbers .now) (a .r)) (made-long (a .numbers .now) (a .r)) (t .loop .inv .2) inside (asked (a .numbers .now) (a .r) (t .loop .i) inside),
+    )
 
-summed-of-requires : tie.Need-summed-of-requires Inv-loop μ-loop
-summed-of-requires c κs = search needs
+slots-as-bits-requires : tie.Need-slots-as-bits-requires Inv-loop μ-loop
+slots-as-bits-requires c κs = search needs
 
--- all slots are asked, and their bits stand one higher
-abbrev asked : tie.After-summed-of Inv-loop μ-loop → ℕ → Bool
-asked c = let args = c .before .before .before .before .before .before .args in hasNumber (args .numbers .now) (args .r)
-
-doubled : (c : tie.After-summed-of Inv-loop μ-loop) → 2 * c .summed-of .result ≡ marksUpTo (asked c) framePackets
-doubled c =
-    let loop = c .before .before .before in
-    let start = loop .before .before .before in
-    let numbers = start .args .numbers .now in
-    let r = start .args .r in
-    ap (λ (m : ℕ). 2 * m) (c .summed-of .ensures ∙ sharing-all (told start) (told-long start) (loop .loop .inv .2) (omega arith))
-    ∙ numbered-marks r (loop .before .if1 .left) numbers ∙ ap (λ (n : ℕ). marksUpTo (hasNumber numbers r) (suc n)) (start .pre)
-
-mul-result : tie.Need-mul-result Inv-loop μ-loop
-mul-result c = omega (arith, doubled c, marks-small (asked c) framePackets)
-
-returns-2 : tie.Need-returns-2 Inv-loop μ-loop
-returns-2 c = doubled c
+returns : tie.Need-returns Inv-loop μ-loop
+returns c =
+    let t = c .before .before .before in
+    let a = t .before .before .args in
+    c .slots-as-bits .ensures ∙ ap slotsAsBits (marking-all (made (a .numbers .now) (a .r)) (made-long (a .numbers .now) (a .r)) (t .loop .inv .2) (omega arith))
 
 pub marks-of-spec : {M : Type 1} → statement M
 marks-of-spec =
@@ -89,14 +77,11 @@ marks-of-spec =
     (tie.spec
     Inv-loop
     μ-loop
-    returns
     loop-holds
-    shared-slice-read-share
-    share-requires
-    array-write-shares
+    shared-slice-read-marks
+    array-write-marks
     add-i
     loop-less
     loop-again
-    summed-of-requires
-    mul-result
-    returns-2)
+    slots-as-bits-requires
+    returns)

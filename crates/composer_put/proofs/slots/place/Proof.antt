@@ -4,7 +4,7 @@ use mathlib.Core.Path.{_≡_, refl, sym, ap, _∙_}
 use mathlib.Core.Bool.{Bool, true, false, not, _&&_}
 use mathlib.Core.Logic.{_⊎_, inl, inr, ⊎-elim}
 use mathlib.Core.List.{List, map}
-use native.Mathlib.Nat.{lt-of-not-le, one-mul}
+use native.Mathlib.Nat.{one-mul}
 use native.Mathlib.Omega.{arith}
 use borrow.Author.Needs.{needs}
 use borrow.Author.Tests.{eqb-true, eqb-false, leb-true, leb-false, not-true}
@@ -12,7 +12,7 @@ use borrow.Rule.Slice.PartMut.{mid-len, same-len-mid}
 use lib.Count.{trailingZeros}
 use lib.Dec.{eqb, leb}
 use lib.ListN.{length, take, drop, length-set, length-drop}
-use lib.Pow.{pow-pos, pow-mono, shl-exact}
+use lib.Pow.{pow-pos, shl-exact}
 use lib.Seq.{take-all, drop-drop, length-take-le}
 use Rattle.slices.proofs.Any.{both}
 use Rattle.slices.proofs.Front.{copied-over}
@@ -20,16 +20,21 @@ use Rattle.counters.specs.Counters.{lastSlot}
 use Rattle.packet.specs.Packets.{packetLength, frameLength}
 use Rattle.composer.specs.States.{markByte, marksOf}
 use Rattle.composer.proofs.Same.{marks-same}
-use Rattle.slot_bits.specs.Bits.{slotBits}
-use Rattle.slot_bits.proofs.NextBit.{zeros-below}
-use Rattle.composer_put.proofs.Placing.{Placing, placing-none, placing-more, frame-done, marks-done, rest-done, mark-more}
+use Rattle.slot_bits.specs.Bits.{slotsAsBits}
+use Rattle.slot_bits.proofs.Bits.{same-slots}
+use Rattle.composer_put.proofs.Placing.{Placing, placing-none, slot-inside, placing-more, frame-done, marks-done, rest-done, mark-more}
 use Rattle.composer_put.proofs.slots.place.Statement.{statement}
 use Rattle.composer_put.proofs.slots.place.Tie as tie
 
+-- a set of slots of which these are the bits, and how far the placing is
+abbrev Of : ℕ → List ℕ → List ℕ → List ℕ → List ℕ → List ℕ → List ℕ → ℕ → Type 0
+Of slots stream frame₀ filled₀ frame filled now rest =
+    (empty : List Bool) × (length empty ≡ lastSlot) × (slots ≡ slotsAsBits empty) × Placing empty stream frame₀ filled₀ frame filled now rest
+
 abbrev Inv-loop : tie.InvT-loop
 Inv-loop frame₀ stream filled₀ slots rest₀ at₀ frame filled rest at =
-    (at ≤ length stream) × (length frame ≡ frameLength) × (length filled ≡ lastSlot) × (rest < 2 ^ lastSlot) × (map markByte (marksOf filled) ≡ filled)
-    × ((empty : List Bool) → length empty ≡ lastSlot → slots ≡ slotBits empty → Placing empty stream frame₀ filled₀ frame filled (drop at stream) rest)
+    (at ≤ length stream) × (length frame ≡ frameLength) × (length filled ≡ lastSlot) × (map markByte (marksOf filled) ≡ filled)
+    × Of slots stream frame₀ filled₀ frame filled (drop at stream) rest
 
 abbrev μ-loop : tie.MeasureT-loop
 μ-loop frame₀ stream filled₀ slots rest₀ at₀ frame filled rest at = rest
@@ -57,15 +62,8 @@ module _ (c : tie.In-loop Inv-loop μ-loop) where
   abbrev slot : ℕ
   slot = trailingZeros 64 (c .before .loop .rest)
 
-  bit-within : 2 ^ slot ≤ c .before .loop .rest
-  bit-within = zeros-below 64 (c .before .loop .rest) some
-
-  inside : slot < lastSlot
-  inside =
-      lt-of-not-le
-      (λ g.
-      let past : 2 ^ lastSlot ≤ 2 ^ slot = pow-mono g in
-      omega (arith, bit-within, c .before .loop .inv .3))
+  inside : (1 ≤ slot) × (slot ≤ lastSlot) × (2 ^ slot ≤ c .before .loop .rest)
+  inside = slot-inside _ _ _ _ (c .before .loop .inv .4 .3) some
 
   bit : 1 * 2 ^ slot % 2 ^ 64 ≡ 2 ^ slot
   bit = shl-exact 1 slot 64 (omega arith) (omega (arith, inside)) ∙ one-mul (2 ^ slot)
@@ -75,7 +73,7 @@ taken : (c : tie.After-copy Inv-loop μ-loop) → c .copy .last .0 ≡ take pack
 taken c =
     let t = c .before .before .before in
     let k = t .before in
-    let from = packetLength * (slot t + 1) in
+    let from = packetLength * slot t in
     let stream = start k .args .stream .now in
     let left = room t in
     let next = inside t in
@@ -104,7 +102,8 @@ none c =
 loop-holds : tie.Need-loop-holds Inv-loop μ-loop
 loop-holds c =
     let s = c .before .before .before in
-    (omega arith, s .pre .0 .0, s .pre .0 .1, s .pre .1 .1, marks-same _ (s .pre .1 .0), λ empty l e. placing-none _ _ _ _ l e)
+    let w = s .pre .1 .1 in
+    (omega arith, s .pre .0 .0, s .pre .0 .1, marks-same _ (s .pre .1 .0), (w .0, w .1, w .2, placing-none _ _ _ _ (w .1) (w .2)))
 
 sub-loop : tie.Need-sub-loop Inv-loop μ-loop
 sub-loop c = search needs
@@ -114,23 +113,23 @@ cast-filled c =
     let next = inside c in
     search needs
 
+sub-filled : tie.Need-sub-filled Inv-loop μ-loop
+sub-filled c =
+    let next = inside c in
+    search needs
+
 slice-write-filled : tie.Need-slice-write-filled Inv-loop μ-loop
 slice-write-filled c =
     let next = inside c in
     search needs
 
-cast-slot : tie.Need-cast-slot Inv-loop μ-loop
-cast-slot c =
+cast-to : tie.Need-cast-to Inv-loop μ-loop
+cast-to c =
     let next = inside c in
     search needs
 
-add-slot : tie.Need-add-slot Inv-loop μ-loop
-add-slot c =
-    let next = inside c in
-    search needs
-
-mul-slot : tie.Need-mul-slot Inv-loop μ-loop
-mul-slot c =
+mul-to : tie.Need-mul-to Inv-loop μ-loop
+mul-to c =
     let next = inside c in
     search needs
 
@@ -187,19 +186,20 @@ shl-rest c =
 sub-rest : tie.Need-sub-rest Inv-loop μ-loop
 sub-rest c =
     let t = c .before .before .before .before .before in
-    omega (arith, bit t, bit-within t)
+    omega (arith, bit t, inside t)
 
 loop-less : tie.Need-loop-less Inv-loop μ-loop
 loop-less c =
     let t = c .before .before .before .before .before in
-    omega (arith, bit t, bit-within t, pow-pos (slot t))
+    omega (arith, bit t, inside t, pow-pos (slot t))
 
 loop-again : tie.Need-loop-again Inv-loop μ-loop
 loop-again c =
     let copy = c .before .before in
     let t = copy .before .before .before in
     let k = t .before in
-    let from = packetLength * (slot t + 1) in
+    let of = k .loop .inv .4 in
+    let from = packetLength * slot t in
     let next = inside t in
     let left = room t in
     let long = ap length (taken copy) ∙ length-take-le packetLength (now t) (room-now t) in
@@ -207,11 +207,9 @@ loop-again c =
     rw (bit t, ← (drop-drop packetLength (k .loop .at) (start k .args .stream .now))) (
       omega arith,
       same-len-mid from (from + packetLength - from) (k .loop .frame) (copy .copy .last .0) (long ∙ sym (mid-len from (from + packetLength) (k .loop .frame) (omega arith) ∙ lent)) ∙ k .loop .inv .1,
-      length-set (k .loop .filled) (slot t) 1 ∙ k .loop .inv .2,
-      omega (arith, k .loop .inv .3),
-      mark-more (k .loop .filled) (slot t) (k .loop .inv .4),
-      λ empty l e.
-          placing-more _ _ _ _ (k .loop .inv .5 empty l e) (some t) (room-now t) (from + packetLength - from) lent (copy .copy .last .0) (taken copy) (omega arith),
+      length-set (k .loop .filled) (slot t - 1) 1 ∙ k .loop .inv .2,
+      mark-more (k .loop .filled) (slot t - 1) (k .loop .inv .3),
+      (of .0, of .1, of .2, placing-more _ _ _ _ (of .3) (some t) (room-now t) (from + packetLength - from) lent (copy .copy .last .0) (taken copy) (omega arith)),
     )
 
 sub-result : tie.Need-sub-result Inv-loop μ-loop
@@ -229,14 +227,19 @@ same-length c = c .before .before .loop .inv .1 ∙ sym (start (c .before .befor
 same-length-2 : tie.Need-same-length-2 Inv-loop μ-loop
 same-length-2 c = c .before .before .loop .inv .2 ∙ sym (start (c .before .before) .pre .0 .1)
 
+-- for the slots that these are the bits of
+module _ (c : tie.After-loop Inv-loop μ-loop) (empty : List Bool) (l : length empty ≡ lastSlot) (e : start (c .before) .args .slots ≡ slotsAsBits empty) where
+  those : Placing empty (start (c .before) .args .stream .now) (start (c .before) .args .frame .now) (start (c .before) .args .filled .now)
+      (c .before .loop .frame) (c .before .loop .filled) (drop (c .before .loop .at) (start (c .before) .args .stream .now)) (c .before .loop .rest)
+  those = let of = c .before .loop .inv .4 in rw (same-slots empty (of .0) (l ∙ sym (of .1)) (sym e ∙ of .2)) (of .3)
+
 returns : tie.Need-returns Inv-loop μ-loop
 returns c =
-    let k = c .before .before in
-    let inv = k .loop .inv in
+    let t = c .before in
+    let k = t .before in
     let stream = start k .args .stream .now in (
-      λ empty l e.
-          take-all (length stream - k .loop .at) (drop (k .loop .at) stream) (rw length-drop (omega arith)) ∙ rest-done _ _ _ _ (inv .5 empty l e) (none (c .before)),
-      (λ empty l e. frame-done _ _ _ _ (inv .5 empty l e) (none (c .before)), λ empty l e. marks-done _ _ _ _ (inv .5 empty l e) (none (c .before)) (inv .2) (inv .4)),
+      λ empty l e. take-all (length stream - k .loop .at) (drop (k .loop .at) stream) (rw length-drop (omega arith)) ∙ rest-done _ _ _ _ (those t empty l e) (none t),
+      (λ empty l e. frame-done _ _ _ _ (those t empty l e) (none t), λ empty l e. marks-done _ _ _ _ (those t empty l e) (none t) (k .loop .inv .2) (k .loop .inv .3)),
     )
 
 pub place-spec : {M : Type 1} → statement M
@@ -248,10 +251,10 @@ place-spec =
     loop-holds
     sub-loop
     cast-filled
+    sub-filled
     slice-write-filled
-    cast-slot
-    add-slot
-    mul-slot
+    cast-to
+    mul-to
     add-copy
     sub-copy
     part-copy-start

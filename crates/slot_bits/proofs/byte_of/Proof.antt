@@ -1,4 +1,4 @@
--- `total_of` meets its contract: the shares before i are added up. Assumes nothing.
+-- `byte_of` meets its contract: the bits before i are added up. Assumes nothing.
 use Prim.Native.Nat.{ℕ, _+_, _-_, _*_, _≤_, _<_}
 use mathlib.Core.Path.{_≡_, sym, ap, _∙_}
 use mathlib.Core.List.{List}
@@ -9,19 +9,19 @@ use borrow.Author.Needs.{needs}
 use lib.ListN.{length, getD, drop, drop-of-length-le}
 use lib.Seq.{drop-cons}
 use Rattle.slot_bits.specs.Bits.{total}
-use Rattle.slot_bits.proofs.total_of.Statement.{statement}
-use Rattle.slot_bits.proofs.total_of.Tie as tie
+use Rattle.slot_bits.proofs.byte_of.Statement.{statement}
+use Rattle.slot_bits.proofs.byte_of.Tie as tie
 
--- the shares from one on are it and those behind it
+-- the numbers from one on are it and those behind it
 total-from : (ns : List ℕ) (i : ℕ) → i < length ns → total (drop i ns) ≡ getD ns i 0 + total (drop (i + 1) ns)
 unfolding total
 total-from ns i h = ap total (drop-cons ns i 0 h) ∙ ap (λ (k : ℕ). getD ns i 0 + total (drop k ns)) (sym (add-one i))
 
 abbrev Inv-loop : tie.InvT-loop
-Inv-loop part sum₀ i₀ sum i = (i ≤ length part) × (sum ≤ 255 * i) × (sum + total (drop i part) ≡ total part)
+Inv-loop bits sum₀ i₀ sum i = (i ≤ length bits) × (sum ≤ 255 * i) × (sum + total (drop i bits) ≡ total bits)
 
 abbrev μ-loop : tie.MeasureT-loop
-μ-loop part sum₀ i₀ sum i = length part - i
+μ-loop bits sum₀ i₀ sum i = length bits - i
 
 loop-holds : tie.Need-loop-holds Inv-loop μ-loop
 loop-holds c = (omega arith, omega arith, zero-add _)
@@ -44,7 +44,7 @@ loop-less c = search needs
 loop-again : tie.Need-loop-again Inv-loop μ-loop
 loop-again c =
     let turn = c .before .before .before in
-    let ns = turn .before .before .args .part .now in
+    let ns = turn .before .before .args .bits .now in
     let more = total-from ns (turn .loop .i) (omega arith) in
     let wide = c .wide .ensures in
     (omega arith, omega arith, omega (arith, more, turn .loop .inv .2))
@@ -53,12 +53,12 @@ returns : tie.Need-returns Inv-loop μ-loop
 unfolding total
 returns c =
     let turn = c .before in
-    let ns = turn .before .before .args .part .now in
+    let ns = turn .before .before .args .bits .now in
     let none : total (drop (turn .loop .i) ns) ≡ 0 = ap total (drop-of-length-le ns {i = turn .loop .i} (omega arith)) in
     (omega (arith, none, turn .loop .inv .2), omega arith)
 
-pub total-of-spec : {M : Type 1} → statement M
-total-of-spec =
+pub byte-of-spec : {M : Type 1} → statement M
+byte-of-spec =
     tie.close
     (tie.spec
     Inv-loop
