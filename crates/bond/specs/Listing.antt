@@ -8,7 +8,8 @@ use lib.ListN.{length, getD, drop}
 use Rattle.slices.specs.Slices.{Among}
 use Rattle.packet.specs.Packets.{packetLength}
 use Rattle.bond_places.specs.Order.{framePackets, picked}
-use Rattle.bond_places.specs.Walk.{lastCarrier, mostFrames, share, framesBefore, packetAt, isMarked, stops, Walkable}
+use Rattle.counters.specs.Counters.{lastCarrier}
+use Rattle.bond_places.specs.Walk.{mostFrames, share, framesBefore, packetAt, isMarked, stops, Walkable}
 
 -- all of these packets lie in the group
 abbrev pub Within : List ℕ → List ℕ → Type 0

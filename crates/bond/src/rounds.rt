@@ -8,7 +8,8 @@ ghost use mathlib.Core.List.{_++_};
 ghost use Prim.Native.Nat.{ℕ, _+_, _*_, _≤_, _<_};
 ghost use lib.ListN.{length, take};
 ghost use Rattle.bond_places.specs.Order.{framePackets};
-ghost use Rattle.bond_places.specs.Walk.{lastCarrier, mostFrames, isMarked, Walkable};
+ghost use Rattle.counters.specs.Counters.{lastCarrier};
+ghost use Rattle.bond_places.specs.Walk.{mostFrames, isMarked, Walkable};
 ghost use Rattle.bond.specs.Listing.{roundTwelfths, roundSteps, Noted, packetIn, markedIn, placesFrom, Listable};
 
 // The packets of a frame, and so the rounds of a super frame.

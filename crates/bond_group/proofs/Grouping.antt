@@ -12,12 +12,12 @@ use lib.ListN.{length, getD, set, replicate, length-set, length-replicate}
 use lib.Seq.{getD-set-same, getD-set-other, set-getD}
 use Rattle.slices.proofs.Any.{both}
 use Rattle.setting.specs.declared.Setting.{Setting}
-use Rattle.counters.specs.Counters.{firstPosition, lastPosition}
+use Rattle.counters.specs.Counters.{firstPosition, lastPosition, lastCarrier}
 use Rattle.setting.specs.Setting.{blank}
 use Rattle.bond_group.specs.declared.Bond.{Bond}
 use Rattle.bond_group.specs.declared.headers.Shown.{Shown}
 use Rattle.bond_places.specs.Order.{framePackets}
-use Rattle.bond_places.specs.Walk.{lastCarrier, mostFrames, framesBefore, Walkable}
+use Rattle.bond_places.specs.Walk.{mostFrames, framesBefore, Walkable}
 use Rattle.bond_group.specs.Group.{framesIn, said, placeIn}
 use Rattle.bond_group.specs.Standing.{shownBy, before, isLast, isEnd, nextCarrier, nextPosition}
 use Rattle.bond_group.specs.Plan.{nothingSeen, seen, planAfter}

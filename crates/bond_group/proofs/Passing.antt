@@ -7,14 +7,13 @@ use borrow.Author.Tests.{eqb-true, eqb-false, ne-eqb, not-false}
 use lib.Dec.{eqb}
 use lib.ListN.{length}
 use Rattle.slices.proofs.Any.{neither}
-use Rattle.counters.specs.Counters.{within}
+use Rattle.counters.specs.Counters.{within, lastCarrier}
 use Rattle.setting.specs.Refusal.{NoneHolds, firstOf}
 use Rattle.setting.specs.Rules.{pidAllowed, ruleChecks, bondingChecks}
 use Rattle.setting.proofs.Refusals.{numbered-append, numbered, none-first, none-at, onward, at-once}
 use Rattle.setting.proofs.Fields.{at-most}
 use Rattle.header_layout.specs.Header.{packetChecks}
 use Rattle.packet.specs.Packets.{frameLength}
-use Rattle.bond_places.specs.Walk.{lastCarrier}
 use Rattle.bond_group.specs.declared.Bond.{Bond}
 use Rattle.bond_group.specs.declared.headers.Planned.{Planned}
 use Rattle.bond_group.specs.Group.{framesIn}

@@ -14,7 +14,8 @@ use Rattle.slices.specs.Slices.{anyBelow}
 use Rattle.setting.specs.declared.Setting.{Setting}
 use Rattle.bond_group.specs.declared.Bond.{Bond}
 use Rattle.bond_places.specs.Order.{picked, framePackets}
-use Rattle.bond_places.specs.Walk.{lastCarrier, mostFrames, twelfths, placeAt, packetAt, isStop, isMarked, stops}
+use Rattle.counters.specs.Counters.{lastCarrier}
+use Rattle.bond_places.specs.Walk.{mostFrames, twelfths, placeAt, packetAt, isStop, isMarked, stops}
 use Rattle.bond_group.specs.Group.{framesIn, packetsIn, said, carries, bondedSlot, bonded, placeIn, earlier, order}
 use Rattle.bond_group.specs.Plan.{marks, nothingSeen, seen, planAfter}
 use Rattle.bond_group.proofs.Marks.{picked-few, marks-bit, marks-ones}

@@ -11,7 +11,7 @@ use lib.Dec.{leb}
 use Rattle.slices.proofs.Any.{both}
 use Rattle.setting.specs.declared.Kind.{Kind}
 use Rattle.setting.specs.declared.Setting.{Setting}
-use Rattle.counters.specs.Counters.{firstPosition, within}
+use Rattle.counters.specs.Counters.{firstPosition, within, lastCarrier}
 use Rattle.setting.specs.Refusal.{NoneHolds}
 use Rattle.setting.specs.Rules.{ruleChecks, bondingChecks}
 use Rattle.setting.proofs.Refusals.{none-at, none-before, none-behind}
@@ -21,7 +21,6 @@ use Rattle.packet.specs.Packets.{slot}
 use Rattle.bond_group.specs.declared.Bond.{Bond}
 use Rattle.bond_group.specs.declared.headers.Shown.{Shown}
 use Rattle.bond_places.specs.Order.{framePackets}
-use Rattle.bond_places.specs.Walk.{lastCarrier}
 use Rattle.bond_group.specs.Group.{framesIn, said}
 use Rattle.bond_group.specs.Standing.{shownBy, before, isLast, isEnd, nextCarrier, nextPosition, standingChecks, headerChecks, headersChecks, groupChecks}
 

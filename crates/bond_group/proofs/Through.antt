@@ -11,7 +11,7 @@ use lib.Dec.{eqb}
 use lib.ListN.{length, take, drop, length-drop}
 use lib.Seq.{length-take-le}
 use Rattle.setting.specs.declared.Kind.{Kind}
-use Rattle.counters.specs.Counters.{lastPosition}
+use Rattle.counters.specs.Counters.{lastPosition, lastCarrier}
 use Rattle.setting.specs.Setting.{blank}
 use Rattle.setting.specs.Refusal.{Check, NoneHolds, firstOf}
 use Rattle.setting.specs.Rules.{pidAllowed, ruleChecks, bondingChecks}
@@ -27,7 +27,6 @@ use Rattle.bond_group.specs.declared.headers.Shown.{Shown}
 use Rattle.bond_group.specs.declared.headers.Plan.{Plan}
 use Rattle.bond_group.specs.declared.headers.Planned.{Planned}
 use Rattle.bond_places.specs.Order.{framePackets}
-use Rattle.bond_places.specs.Walk.{lastCarrier}
 use Rattle.bond_group.specs.Group.{framesIn, said}
 use Rattle.bond_group.specs.Standing.{shownBy, before, isEnd, standingChecks, headerChecks, headersChecks, groupChecks}
 use Rattle.bond_group.specs.Plan.{nothingSeen, seen, planAfter, plannedBy}

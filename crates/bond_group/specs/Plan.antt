@@ -6,13 +6,13 @@ use lib.Dec.{eqb}
 use lib.ListN.{set, replicate}
 use lib.Count.{ones}
 use Rattle.slot_bits.specs.Bits.{slotsAsBits}
-use Rattle.counters.specs.Counters.{firstSlot, lastSlot}
+use Rattle.counters.specs.Counters.{firstSlot, lastSlot, lastCarrier}
 use Rattle.setting.specs.declared.Setting.{Setting}
 use Rattle.setting.specs.Refusal.{firstOf}
 use Rattle.bond_group.specs.declared.Bond.{Bond}
 use Rattle.bond_group.specs.declared.headers.Plan.{Plan}
 use Rattle.bond_group.specs.declared.headers.Planned.{Planned}
-use Rattle.bond_places.specs.Walk.{lastCarrier, mostFrames}
+use Rattle.bond_places.specs.Walk.{mostFrames}
 use Rattle.bond_group.specs.Group.{framesIn, said, carries, bondedSlot}
 use Rattle.bond_group.specs.Standing.{groupChecks, planChecks}
 

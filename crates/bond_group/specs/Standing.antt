@@ -7,7 +7,7 @@ use lib.ListN.{length}
 use Rattle.slices.specs.Slices.{anyBelow}
 use Rattle.setting.specs.declared.Kind.{Kind}
 use Rattle.setting.specs.declared.Setting.{Setting}
-use Rattle.counters.specs.Counters.{firstPosition, within}
+use Rattle.counters.specs.Counters.{firstPosition, within, lastCarrier}
 use Rattle.setting.specs.Setting.{blank}
 use Rattle.setting.specs.Refusal.{Check}
 use Rattle.setting.specs.Rules.{pidAllowed, ruleChecks}
@@ -16,7 +16,6 @@ use Rattle.packet.specs.Packets.{frameLength, slot}
 use Rattle.bond_group.specs.declared.Bond.{Bond}
 use Rattle.bond_group.specs.declared.headers.Shown.{Shown}
 use Rattle.bond_places.specs.Order.{framePackets}
-use Rattle.bond_places.specs.Walk.{lastCarrier}
 use Rattle.bond_group.specs.Group.{framesIn, said, carries}
 
 -- ---- where a header stands

@@ -8,12 +8,13 @@ use header_check::Checked;
 use packet::FRAME_BYTES;
 use packet::PACKET_BYTES;
 use setting::Kind;
+use setting::limits;
 ghost use mathlib.Core.Path.{_≡_};
 ghost use mathlib.Core.Bool.{true};
 ghost use Prim.Native.Nat.{_≤_, _%_};
 ghost use lib.ListN.{length};
 ghost use lib.Count.{ones};
-ghost use Rattle.counters.specs.Counters.{firstSlot, lastSlot, lastPosition};
+ghost use Rattle.counters.specs.Counters.{firstSlot, lastSlot, lastPosition, lastCarrier};
 ghost use Rattle.slot_bits.specs.Bits.{slotsAsBits};
 ghost use Rattle.setting.specs.declared.Setting.{Setting};
 ghost use Rattle.setting.specs.Setting.{blank};
@@ -22,13 +23,12 @@ ghost use Rattle.setting.specs.Rules.{pidAllowed};
 ghost use Rattle.header_check.specs.Checking.{partsOf};
 ghost use Rattle.packet.specs.Packets.{frameLength};
 ghost use Rattle.bond_places.specs.Order.{framePackets};
-ghost use Rattle.bond_places.specs.Walk.{lastCarrier};
 ghost use Rattle.bond_group.specs.Group.{hasNumber, numberOf, carries};
 ghost use Rattle.bond_group.specs.Standing.{shownBy, isLast, isEnd, nextCarrier, nextPosition, standingChecks};
 ghost use Rattle.bond_group.specs.Plan.{passing, marks, nothingSeen, plannedBy};
 
 // The most carriers of a group, and the most frames.
-pub const CARRIERS: usize = 8;
+pub const CARRIERS: usize = limits::LAST_CARRIER as usize;
 
 pub const FRAMES: usize = CARRIERS * FramePosition::LAST as usize;
 

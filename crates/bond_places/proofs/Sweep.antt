@@ -12,7 +12,8 @@ use lib.ListN.{getD}
 use Rattle.slices.proofs.Any.{both}
 use Rattle.slices.specs.Slices.{Among}
 use Rattle.bond_places.specs.Order.{Place, comesBefore, Framed, picked, sorted, Rising, framePackets}
-use Rattle.bond_places.specs.Walk.{lastCarrier, twelfths, placeAt, framesBefore, packetAt, isStop}
+use Rattle.counters.specs.Counters.{lastCarrier}
+use Rattle.bond_places.specs.Walk.{twelfths, placeAt, framesBefore, packetAt, isStop}
 use Rattle.bond_places.proofs.Frames.{frames-within}
 use Rattle.bond_places.proofs.Order.{Less, less, level, from-test, to-test, from-key, strict-total}
 use Rattle.bond_places.proofs.Sorting.{map-among, among-map, among-sorted, sorted-among, among-picked, picked-among, same-rising, map-rising, sort-rising, picked-rising}

@@ -7,12 +7,8 @@ use mathlib.Core.Bool.{Bool, cond, _&&_}
 use mathlib.Core.List.{List, [], _∷_}
 use lib.Dec.{ltb, eqb}
 use lib.ListN.{length, getD}
-use Rattle.counters.specs.Counters.{lastPosition}
+use Rattle.counters.specs.Counters.{lastPosition, lastCarrier}
 use Rattle.bond_places.specs.Order.{framePackets, picked}
-
--- a group has up to 8 carriers
-abbrev pub lastCarrier : ℕ
-lastCarrier = 8
 
 -- the most frames that a group can have
 abbrev pub mostFrames : ℕ

@@ -10,13 +10,14 @@ ghost use Rattle.setting.specs.Refusal.{firstOf};
 ghost use Rattle.composer.specs.Slots.{emptyFor};
 ghost use Rattle.composer.specs.Composing.{streamChecks, putRefusal};
 ghost use Rattle.setting_bytes.specs.Settings.{part};
-ghost use Rattle.composer.specs.States.{composerLength, composerOf, marksOf};
+ghost use Rattle.counters.specs.Counters.{lastSlot};
+ghost use Rattle.composer.specs.States.{planAt, filledAt, composerLength, composerOf, marksOf};
 ghost use Rattle.slot_bits.specs.Bits.{slotsAsBits};
 
 // 13 and 12: what is asked of the packets that would be placed.
 fn stream_refusal(state: &[u8], stream: &[u8], r: RelativeNumber, empty: u64) -> u8
     requires { ⌜ length (now state) ≡ composerLength ⌝ }
-    requires { ⌜ empty ≡ slotsAsBits (emptyFor (r .0) (part 168 52 (now state)) (marksOf (part 338 52 (now state)))) ⌝ }
+    requires { ⌜ empty ≡ slotsAsBits (emptyFor (r .0) (part planAt lastSlot (now state)) (marksOf (part filledAt lastSlot (now state)))) ⌝ }
     ensures { λ t. ⌜ t ≡ firstOf (streamChecks (composerOf (now (state .entry))) (r .0) (now (stream .entry))) ⌝ }
 {
     if !r.is_available(bits::word(state[AVAILABILITY], state[AVAILABILITY + 1])) {
@@ -39,7 +40,7 @@ pub(crate) fn put_refusal(
     lent: usize,
 ) -> u8
     requires { ⌜ length (now state) ≡ composerLength ⌝ }
-    requires { ⌜ empty ≡ slotsAsBits (emptyFor (r .0) (part 168 52 (now state)) (marksOf (part 338 52 (now state)))) ⌝ }
+    requires { ⌜ empty ≡ slotsAsBits (emptyFor (r .0) (part planAt lastSlot (now state)) (marksOf (part filledAt lastSlot (now state)))) ⌝ }
     ensures { λ t. ⌜ t ≡ putRefusal (composerOf (now (state .entry))) (r .0) (now (stream .entry)) lent ⌝ }
 {
     if lent != FRAME_BYTES {

@@ -8,7 +8,8 @@ use native.Mathlib.Omega.{arith}
 use borrow.Author.Tests.{lt-ltb, le-ltb, eq-eqb}
 use lib.ListN.{getD, take}
 use Rattle.bond_places.specs.Order.{framePackets, picked}
-use Rattle.bond_places.specs.Walk.{lastCarrier, twelfths, placeAt, framesBefore, packetAt, isStop}
+use Rattle.counters.specs.Counters.{lastCarrier}
+use Rattle.bond_places.specs.Walk.{twelfths, placeAt, framesBefore, packetAt, isStop}
 use Rattle.bond_places.proofs.Sorting.{picked-append}
 use Rattle.bond_places.proofs.Sweep.{Grouped, NoHeader, swept}
 use Rattle.examples.specs.Examples.{placeOfPair, notHeader, shown, firstPlaces}

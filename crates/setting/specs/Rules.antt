@@ -8,7 +8,7 @@ use Rattle.bits.specs.Fields.{Fit}
 use Rattle.slices.specs.Slices.{anyBelow, someAtLeast}
 use Rattle.setting.specs.declared.Kind.{Kind}
 use Rattle.setting.specs.declared.Setting.{Setting}
-use Rattle.counters.specs.Counters.{lastStream, firstPosition, within, available}
+use Rattle.counters.specs.Counters.{lastStream, firstPosition, lastCarrier, within, available}
 use Rattle.setting.specs.Refusal.{Check}
 
 -- one thing for a plain header, another for an extended one
@@ -88,7 +88,7 @@ pairTwice availability ts os = anyBelow (length ts) (λ j. anyBelow j (λ i. sam
 unfoldable pub bondingChecks : Kind → ℕ → ℕ → ℕ → ℕ → List Check
 bondingChecks Kind.Plain carriers sequence frames position = []
 bondingChecks Kind.Extended carriers sequence frames position =
-    (11, not (within 1 8 carriers))
+    (11, not (within 1 lastCarrier carriers))
     ∷ (11, not (within 1 carriers sequence))
     ∷ (11, not (within 3 4 frames))
     ∷ (11, not (within firstPosition frames position))

@@ -7,8 +7,9 @@ use borrow.Author.Needs.{needs}
 use borrow.Rule.Slice.PartMut.{same-len-mid}
 use lib.ListN.{length, length-set}
 use Rattle.slices.proofs.Front.{put}
-use Rattle.composer.specs.States.{composerLength}
+use Rattle.composer.specs.States.{composerLength, lastAt, openAt, openLength}
 use Rattle.composer_close.proofs.Ending.{numbered, length-numbered, length-announced, ended}
+use Rattle.setting_bytes.specs.Settings.{announcedLength}
 use Rattle.composer_close.proofs.end_frame.Statement.{statement}
 use Rattle.composer_close.proofs.end_frame.Tie as tie
 
@@ -30,7 +31,7 @@ whole₁ : (s : tie.Start) → length (after₁ s) ≡ composerLength
 whole₁ s = length-numbered (s .args .state .now) (s .args .counter) (s .args .version) (s .pre)
 
 abbrev after₂ : tie.After-copy2 → List ℕ
-after₂ c = put 5 80 (after₁ (begun (told c))) (c .copy2 .last .0)
+after₂ c = put lastAt announcedLength (after₁ (begun (told c))) (c .copy2 .last .0)
 
 whole₂ : (c : tie.After-copy2) → length (after₂ c) ≡ composerLength
 whole₂ c =
@@ -89,7 +90,7 @@ same-length : tie.Need-same-length
 same-length c =
     let filled = c .before .before in
     let copied = announced filled in
-    same-len-mid 85 305 (after₂ copied) (filled .fill .last .0) (filled .fill .kept .0) ∙ whole₂ copied ∙ sym (begun (told copied) .pre)
+    same-len-mid openAt openLength (after₂ copied) (filled .fill .last .0) (filled .fill .kept .0) ∙ whole₂ copied ∙ sym (begun (told copied) .pre)
 
 returns : tie.Need-returns
 returns c =

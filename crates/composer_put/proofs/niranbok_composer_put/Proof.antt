@@ -15,7 +15,7 @@ use Rattle.setting_bytes.specs.Settings.{part}
 use Rattle.setting_bytes.proofs.Parts.{length-part}
 use Rattle.packet.specs.Packets.{restOf}
 use Rattle.composer.specs.Slots.{emptyFor, filledBy, placedBy, marksAfter, frameAfter}
-use Rattle.composer.specs.States.{composerLength, markByte, marksOf, isCoded, composerOf}
+use Rattle.composer.specs.States.{composerLength, markByte, marksOf, isCoded, composerOf, filledAt, planAt}
 use Rattle.composer.proofs.Same.{marked-bytes, marks-low, all-bytes, coded-by-counter}
 use Rattle.composer.proofs.There.{put-end, plan-there, marks-there}
 use Rattle.composer.specs.Calls.{putRefused, putPlaced, putState, putMemory}
@@ -47,15 +47,15 @@ coded c = coded-by-counter (start₂ c .args .state .now) (past c .open-state .c
 
 -- the still empty slots, by the plan and the marks in the state's bytes
 abbrev empty : ℕ → List ℕ → List Bool
-empty r state = emptyFor r (part 168 52 state) (marksOf (part 338 52 state))
+empty r state = emptyFor r (part planAt lastSlot state) (marksOf (part filledAt lastSlot state))
 
 empty-long : (c : tie.Else2) → length (empty (start₂ c .args .r) (start₂ c .args .state .now)) ≡ lastSlot
 empty-long c =
     let state = start₂ c .args .state .now in
     let long : length state ≡ composerLength = c .before .before .before .before .before .before .before .if1 .left in
-    let plan = length-part 168 52 state (omega arith) in
-    let marks = length-map (part 338 52 state) (λ (n : ℕ). eqb n 1) ∙ length-part 338 52 state (omega arith) in
-    length-empty (start₂ c .args .r) (part 168 52 state) (marksOf (part 338 52 state)) (plan ∙ sym marks) ∙ plan
+    let plan = length-part planAt lastSlot state (omega arith) in
+    let marks = length-map (part filledAt lastSlot state) (λ (n : ℕ). eqb n 1) ∙ length-part filledAt lastSlot state (omega arith) in
+    length-empty (start₂ c .args .r) (part planAt lastSlot state) (marksOf (part filledAt lastSlot state)) (plan ∙ sym marks) ∙ plan
 
 -- their bits
 bits : (c : tie.After-empty-slots)
@@ -66,7 +66,7 @@ bits c = c .empty-slots .ensures
 left : (c : tie.After-place)
     → now (c .place .result)
     ≡ restOf (start₂ (checked c) .args .stream .now)
-    (placedBy (start₂ (checked c) .args .r) (part 168 52 (start₂ (checked c) .args .state .now)) (marksOf (part 338 52 (start₂ (checked c) .args .state .now))) (start₂ (checked c) .args .stream .now))
+    (placedBy (start₂ (checked c) .args .r) (part planAt lastSlot (start₂ (checked c) .args .state .now)) (marksOf (part filledAt lastSlot (start₂ (checked c) .args .state .now))) (start₂ (checked c) .args .stream .now))
 unfolding placedBy filledBy
 left c = c .place .ensures .0 _ (empty-long (checked c)) (bits (checked c .before .before .before))
 
@@ -127,7 +127,7 @@ place-requires c κs =
     let k = c .before .before .before .before in
     let b = start₂ k .args .state .now in
     let long = k .before .before .before .before .before .before .before .if1 .left in
-    ((past k .long, length-part 338 52 b (omega arith)), (marks-low b long (all-bytes b (c .before .before .are-bytes .ensures)) (coded k), (_, empty-long k, bits (k .before .before .before))))
+    ((past k .long, length-part filledAt lastSlot b (omega arith)), (marks-low b long (all-bytes b (c .before .before .are-bytes .ensures)) (coded k), (_, empty-long k, bits (k .before .before .before))))
 
 sub-placed : tie.Need-sub-placed
 sub-placed c =
@@ -152,9 +152,9 @@ returns-3 c =
     let slots = bits (k .before .before .before) in
     put-done b (a .r) (a .stream .now) (a .frame .now) long (k .before .put-refusal .ensures) (k .if2 .left)
     (counted _ _ _ _ (left p) ∙ sym (ap₂ (λ (n : List ℕ) (m : List Bool). placedBy (a .r) n m (a .stream .now)) (plan-there b long) (marks-there b)))
-    (put-end 338 52 b _ long ∙ ap (λ (l : List ℕ). take 338 b ++ l) (p .place .ensures .1 .1 _ (empty-long k) slots)
+    (put-end filledAt lastSlot b _ long ∙ ap (λ (l : List ℕ). take filledAt b ++ l) (p .place .ensures .1 .1 _ (empty-long k) slots)
     ∙ sym (marked-bytes b long fit (coded k) _
-    ∙ ap₂ (λ (n : List ℕ) (m : List Bool). take 338 b ++ map markByte (marksAfter (a .r) n m (a .stream .now))) (plan-there b long) (marks-there b)))
+    ∙ ap₂ (λ (n : List ℕ) (m : List Bool). take filledAt b ++ map markByte (marksAfter (a .r) n m (a .stream .now))) (plan-there b long) (marks-there b)))
     (p .place .ensures .1 .0 _ (empty-long k) slots
     ∙ sym (ap₂ (λ (n : List ℕ) (m : List Bool). frameAfter (a .r) n m (a .stream .now) (a .frame .now)) (plan-there b long) (marks-there b)))
 

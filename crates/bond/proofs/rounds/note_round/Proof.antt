@@ -2,7 +2,7 @@
 use Prim.Native.Nat.{_-_, _*_, _≤_}
 use mathlib.Core.Path.{subst}
 use native.Mathlib.Omega.{arith}
-use Rattle.bond_places.specs.Walk.{lastCarrier}
+use Rattle.counters.specs.Counters.{lastCarrier}
 use Rattle.bond.specs.Listing.{roundTwelfths, Noted}
 use Rattle.bond.proofs.ByRound.{noted-none}
 use Rattle.bond.proofs.rounds.note_round.Statement.{statement}

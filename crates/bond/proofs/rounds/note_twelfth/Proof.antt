@@ -5,7 +5,8 @@ use mathlib.Core.Logic.{⊎-elim}
 use native.Mathlib.Omega.{arith}
 use borrow.Author.Needs.{needs}
 use lib.ListN.{getD}
-use Rattle.bond_places.specs.Walk.{lastCarrier, framesBefore}
+use Rattle.counters.specs.Counters.{lastCarrier}
+use Rattle.bond_places.specs.Walk.{framesBefore}
 use Rattle.bond.specs.Listing.{Noted}
 use Rattle.bond.proofs.ByRound.{Small, small, carrier-in, carrier-next, carrier-less, here-first, here-room, here-more, here-less, noted-behind}
 use Rattle.bond.proofs.rounds.note_twelfth.Statement.{statement}

@@ -8,7 +8,7 @@ use borrow.Author.Tests.{eq-eqb, ne-eqb}
 use Rattle.setting.specs.Refusal.{firstOf}
 use Rattle.setting.proofs.Refusals.{Past, answers, passed}
 use Rattle.counters.proofs.Within.{under, past, between}
-use Rattle.bond_places.specs.Walk.{lastCarrier}
+use Rattle.counters.specs.Counters.{lastCarrier}
 use Rattle.bond_group.specs.Standing.{callChecks}
 use Rattle.bond_group.proofs.checks.call_refusal.Statement.{statement}
 use Rattle.bond_group.proofs.checks.call_refusal.Tie as tie

@@ -13,7 +13,8 @@ use Rattle.setting.specs.declared.Setting.{Setting}
 use Rattle.setting.specs.Refusal.{firstOf}
 use Rattle.header_check.specs.Checking.{partsOf}
 use Rattle.bond_places.specs.Order.{framePackets}
-use Rattle.bond_places.specs.Walk.{lastCarrier, mostFrames}
+use Rattle.counters.specs.Counters.{lastCarrier}
+use Rattle.bond_places.specs.Walk.{mostFrames}
 use Rattle.bond_group.specs.declared.Bond.{Bond}
 use Rattle.bond_group.specs.declared.headers.Shown.{Shown}
 use Rattle.bond_group.specs.declared.headers.Plan.{Plan}

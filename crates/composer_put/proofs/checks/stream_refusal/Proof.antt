@@ -6,14 +6,14 @@ use native.Mathlib.Nat.{sub-zero}
 use borrow.Author.Needs.{needs}
 use lib.Count.{ones}
 use lib.ListN.{length, take}
-use Rattle.counters.specs.Counters.{available}
+use Rattle.counters.specs.Counters.{available, lastSlot}
 use Rattle.setting.specs.Refusal.{Check, firstOf}
 use Rattle.setting.proofs.Refusals.{Past, answers, passed}
 use Rattle.packet.specs.Packets.{packetLength, someUnfitIn}
 use Rattle.setting_bytes.specs.Settings.{part}
 use Rattle.composer.specs.Slots.{placedBy, someUnfit}
 use Rattle.composer.specs.Composing.{streamChecks}
-use Rattle.composer.specs.States.{composerOf, marksOf}
+use Rattle.composer.specs.States.{composerOf, marksOf, filledAt, planAt}
 use Rattle.composer.proofs.There.{plan-there, availability-there}
 use Rattle.composer_put.proofs.Placed.{placed-is}
 use Rattle.composer_put.proofs.checks.stream_refusal.Statement.{statement}
@@ -48,8 +48,8 @@ unfit-asked : (c : tie.After-has-unfit) {t : Bool} → c .has-unfit .result ≡ 
 unfolding composerOf someUnfit
 unfit-asked c e =
     let a = start₂ c .args in
-    let plan = part 168 52 (a .state .now) in
-    let marks = marksOf (part 338 52 (a .state .now)) in
+    let plan = part planAt lastSlot (a .state .now) in
+    let marks = marksOf (part filledAt lastSlot (a .state .now)) in
     let call = c .before .before in
     let packets : placedBy (a .r .0) plan marks (a .stream .now) ≡ call .packets-for .result =
     placed-is (a .r .0) plan marks (a .stream .now) ∙ ap (λ (n : ℕ). min (length (a .stream .now) / packetLength) (ones n)) (sym (start₂ c .pre .1))
