@@ -1,7 +1,7 @@
 //! Prints what the archive, the reference and a plain copy need for the same
 //! work: the best of many rounds, in nanoseconds. `--markdown` for Markdown.
 //! `--count ROW SIDE TIMES` does one side's work of one row and prints the
-//! rows' names (compare/count.sh).
+//! rows' names (scripts/count.sh).
 
 use board::bench::{count, markdown, plain, rows};
 use std::env;
