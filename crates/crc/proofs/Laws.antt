@@ -8,10 +8,9 @@ use native.Mathlib.Nat.{add-mul, add-suc, suc-add, zero-add, lt-of-lt-of-le, pow
 use native.Mathlib.Numerals.{one-add}
 use lib.Dec.{lit<}
 use lib.Bits.{bitXor, xor-lt, xor-mod, xor-self, xor-shifted, xor-shr, xor-zero-r}
-use lib.ListN.{length}
 use lib.Pow.{pow-add, pow-pos, mod-mod-pow, mod-pow-add, shl-lt, shr-mod}
 use Rattle.bits.specs.Fields.{bitsOf, Fit, none, more}
-use Rattle.crc.specs.Crc.{poly, shift, bitIn, registerFrom, shifts, xorWith}
+use Rattle.crc.specs.Crc.{poly, shift, bitIn, registerFrom, shifts}
 use Rattle.crc.proofs.Xor.{bit-cases, xor-assoc, xor-injective, xor-shl, xor-swap, xor-times}
 
 -- ---- the shift
@@ -148,18 +147,3 @@ pub own-bits-only : (s v : ℕ) → s < 2 ^ 32 → v < 2 ^ 32 → registerFrom s
 own-bits-only s v hs hv e =
     xor-injective s (shifts-injective 32 (bitXor s v) (bitXor s s) (xor-lt 32 s v hs hv) (xor-lt 32 s s hs hs)
     (sym (word-in s v hv) ∙ e ∙ sym (own-bits s hs) ∙ word-in s s hs))
-
--- ---- linearity
-
--- at t = 0: errors b in bits a change the register by what b alone makes of zero
-pub linear : (s t : ℕ) (a b : List ℕ) → s < 2 ^ 32 → t < 2 ^ 32 → Fit 1 a → Fit 1 b → length a ≡ length b
-    → registerFrom (bitXor s t) (xorWith a b) ≡ bitXor (registerFrom s a) (registerFrom t b)
-unfolding registerFrom xorWith bitIn
-linear s t [] [] hs ht fa fb e = refl
-linear s t [] (y ∷ ys) hs ht fa fb e = absurd (omega arith)
-linear s t (x ∷ xs) [] hs ht fa fb e = absurd (omega arith)
-linear s t (x ∷ xs) (y ∷ ys) hs ht (more hx fx) (more hy fy) e =
-    ap (λ (n : ℕ). registerFrom n (xorWith xs ys))
-    (ap (λ (n : ℕ). shift (bitXor (bitXor s t) n)) (xor-shl x y 31) ∙ ap shift (xor-swap s t (x * 2 ^ 31) (y * 2 ^ 31))
-    ∙ shift-linear (bitXor s (x * 2 ^ 31)) (bitXor t (y * 2 ^ 31)))
-    ∙ linear (bitIn s x) (bitIn t y) xs ys (shift-lt (bitXor s (x * 2 ^ 31))) (shift-lt (bitXor t (y * 2 ^ 31))) fx fy (suc-inj e)

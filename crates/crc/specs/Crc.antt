@@ -35,9 +35,3 @@ unfoldable pub shifts : ℕ → ℕ → ℕ
 unfolding shift
 shifts zero s = s
 shifts (suc n) s = shifts n (shift s)
-
--- two lists of bits added bit by bit, as far as both reach
-unfoldable pub xorWith : List ℕ → List ℕ → List ℕ
-xorWith [] ys = []
-xorWith (x ∷ xs) [] = []
-xorWith (x ∷ xs) (y ∷ ys) = bitXor x y ∷ xorWith xs ys

@@ -17,7 +17,7 @@ use Rattle.setting.specs.declared.Kind.{Kind}
 use Rattle.setting.specs.declared.Setting.{Setting}
 use Rattle.counters.specs.Counters.{lastStream, within}
 use Rattle.setting.specs.Refusal.{NoneHolds}
-use Rattle.setting.specs.Rules.{widthChecks, bondingChecks, bondingOf, ruleChecks, Narrow}
+use Rattle.setting.specs.Rules.{widthChecks, bondingChecks, bondingOf, ruleChecks}
 use Rattle.setting.proofs.Refusals.{none-at, none-behind}
 
 pub some-fit : (w : ℕ) (xs : List ℕ) → Fit w xs → someAtLeast (2 ^ w) xs ≡ false
@@ -55,7 +55,17 @@ pub bonding-none : (kind : Kind) (s : Setting) → NoneHolds (ruleChecks kind s)
 unfolding ruleChecks
 bonding-none kind s h = none-behind (take 3 (ruleChecks kind s)) h
 
--- each field that both kinds have fits its bits
+-- each field that both kinds have fits its bits: what the checks of 17 leave
+pub record Narrow (s : Setting) : Type 0 where
+  pub counter : s .«continuity_counter» < 2 ^ 4
+  pub version : s .«version_number» < 2 ^ 3
+  pub slot-type : s .«slot_allocation_type» < 2 ^ 1
+  pub frame-type : s .«frame_type» < 2 ^ 4
+  pub streams : s .availability < 2 ^ lastStream
+  pub statuses : Fit 2 (s .«receive_status»)
+  pub emergency : s .«emergency_indicator» < 2 ^ 1
+  pub numbers : Fit 4 (s .«relative_ts_number»)
+
 pub narrow : (kind : Kind) {s : Setting} → NoneHolds (widthChecks kind s) → Narrow s
 unfolding widthChecks
 narrow kind {s} h =

@@ -1,10 +1,9 @@
 -- What a setting has to obey.
-use Prim.Native.Nat.{ℕ, _+_, _^_, _<_}
+use Prim.Native.Nat.{ℕ, _+_, _^_}
 use mathlib.Core.Bool.{Bool, not, _&&_}
 use mathlib.Core.List.{List, [], _∷_, _++_}
 use lib.Dec.{leb, eqb}
 use lib.ListN.{length, getD}
-use Rattle.bits.specs.Fields.{Fit}
 use Rattle.slices.specs.Slices.{anyBelow, someAtLeast}
 use Rattle.setting.specs.declared.Kind.{Kind}
 use Rattle.setting.specs.declared.Setting.{Setting}
@@ -54,17 +53,6 @@ widthChecks kind s =
     ∷ (17, leb (2 ^ 3) (s .«version_number»))
     ∷ (informationChecks (s .«slot_allocation_type») (s .«frame_type») (s .availability) (s .«receive_status») (s .«emergency_indicator»)
     ++ ((17, someAtLeast (2 ^ 4) (s .«relative_ts_number»)) ∷ absentOf kind s))
-
--- each field that both kinds have fits its bits: what the checks of 17 leave
-pub record Narrow (s : Setting) : Type 0 where
-  pub counter : s .«continuity_counter» < 2 ^ 4
-  pub version : s .«version_number» < 2 ^ 3
-  pub slot-type : s .«slot_allocation_type» < 2 ^ 1
-  pub frame-type : s .«frame_type» < 2 ^ 4
-  pub streams : s .availability < 2 ^ lastStream
-  pub statuses : Fit 2 (s .«receive_status»)
-  pub emergency : s .«emergency_indicator» < 2 ^ 1
-  pub numbers : Fit 4 (s .«relative_ts_number»)
 
 -- whether the slot's number is that of an unavailable stream
 abbrev pub unavailable : ℕ → ℕ → Bool
