@@ -1,13 +1,14 @@
 -- The slots that a put fills, slot by slot. Assumes nothing.
-use Prim.Native.Nat.{ℕ, zero, suc, _/_, _≤_, _<_}
+use Prim.Native.Nat.{ℕ, zero, suc, _*_, _/_, _≤_, _<_, min}
 use mathlib.Core.Path.{_≡_, refl, sym, ap, _∙_}
 use mathlib.Core.Bool.{Bool, true, false, not, _&&_, _||_}
 use mathlib.Core.List.{List, [], _∷_, zipWith}
+use native.Mathlib.Nat.{min-zero, zero-min, suc-min-suc, min-le-left}
 use native.Mathlib.Omega.{arith}
 use lib.Dec.{eqb}
 use lib.ListN.{length, getD, drop, length-drop}
 use Rattle.packet.specs.Packets.{packetLength}
-use Rattle.composer.specs.Slots.{emptyFor, firstSlots, filledBy, marksAfter}
+use Rattle.composer.specs.Slots.{emptyFor, firstSlots, slotsIn, filledBy, placedBy, marksAfter}
 
 -- two lists, element by element
 length-zip : {A B C : Type 0} (f : A → B → C) (xs : List A) (ys : List B) → length xs ≡ length ys → length (zipWith f xs ys) ≡ length xs
@@ -40,6 +41,21 @@ length-first n [] = refl
 length-first n (false ∷ bs) = ap suc (length-first n bs)
 length-first zero (true ∷ bs) = ap suc (length-first zero bs)
 length-first (suc n) (true ∷ bs) = ap suc (length-first n bs)
+
+-- as many as there are, and at most n
+pub first-many : (n : ℕ) (bs : List Bool) → slotsIn (firstSlots n bs) ≡ min n (slotsIn bs)
+unfolding slotsIn firstSlots
+first-many n [] = sym (min-zero n)
+first-many n (false ∷ bs) = first-many n bs
+first-many zero (true ∷ bs) = first-many zero bs ∙ zero-min (slotsIn bs) ∙ sym (zero-min (suc (slotsIn bs)))
+first-many (suc n) (true ∷ bs) = ap suc (first-many n bs) ∙ sym (suc-min-suc n (slotsIn bs))
+
+-- a put places no more than it was lent
+pub placed-within : (r : ℕ) (plan : List ℕ) (marks : List Bool) (stream : List ℕ) → packetLength * placedBy r plan marks stream ≤ length stream
+unfolding placedBy filledBy
+placed-within r plan marks stream =
+    let empty = emptyFor r plan marks in
+    omega (arith, first-many (length stream / packetLength) empty, min-le-left (length stream / packetLength) (slotsIn empty))
 
 -- as many marks as before
 pub length-after : (r : ℕ) (plan : List ℕ) (marks : List Bool) (stream : List ℕ) → length plan ≡ length marks

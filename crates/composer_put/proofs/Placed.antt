@@ -1,14 +1,14 @@
 -- How many packets are placed: one for each slot, until slots or packets run out. Assumes nothing.
-use Prim.Native.Nat.{ℕ, zero, suc, _-_, _*_, _/_, _≤_, min}
+use Prim.Native.Nat.{ℕ, _-_, _*_, _/_, _≤_, min}
 use mathlib.Core.Path.{_≡_, sym, ap, _∙_}
 use mathlib.Core.Bool.{Bool, true, false}
 use mathlib.Core.List.{List, [], _∷_}
-use native.Mathlib.Nat.{min-zero, zero-min, suc-min-suc, min-le-left}
 use native.Mathlib.Omega.{arith}
 use lib.Count.{ones}
 use lib.ListN.{length, length-drop}
 use Rattle.packet.specs.Packets.{packetLength, restOf}
-use Rattle.composer.specs.Slots.{emptyFor, firstSlots, slotsIn, filledBy, placedBy}
+use Rattle.composer.specs.Slots.{emptyFor, slotsIn, filledBy, placedBy}
+use Rattle.composer.proofs.Slots.{first-many, placed-within}
 use Rattle.slot_bits.specs.Bits.{asBits, slotsAsBits}
 use Rattle.slot_bits.proofs.Bits.{ones-first, ones-none}
 
@@ -23,22 +23,12 @@ ones-slots : (bs : List Bool) → ones (slotsAsBits bs) ≡ slotsIn bs
 unfolding slotsAsBits slotsIn
 ones-slots bs = ones-marks (false ∷ bs)
 
-first-many : (n : ℕ) (bs : List Bool) → slotsIn (firstSlots n bs) ≡ min n (slotsIn bs)
-unfolding slotsIn firstSlots
-first-many n [] = sym (min-zero n)
-first-many n (false ∷ bs) = first-many n bs
-first-many zero (true ∷ bs) = first-many zero bs ∙ zero-min (slotsIn bs) ∙ sym (zero-min (suc (slotsIn bs)))
-first-many (suc n) (true ∷ bs) = ap suc (first-many n bs) ∙ sym (suc-min-suc n (slotsIn bs))
-
 module _ (r : ℕ) (plan : List ℕ) (marks : List Bool) (stream : List ℕ) where
   pub placed-is : placedBy r plan marks stream ≡ min (length stream / packetLength) (ones (slotsAsBits (emptyFor r plan marks)))
   unfolding placedBy filledBy
   placed-is =
       first-many (length stream / packetLength) (emptyFor r plan marks)
       ∙ ap (min (length stream / packetLength)) (sym (ones-slots (emptyFor r plan marks)))
-
-  pub placed-within : packetLength * placedBy r plan marks stream ≤ length stream
-  placed-within = omega (arith, placed-is, min-le-left (length stream / packetLength) (ones (slotsAsBits (emptyFor r plan marks))))
 
   -- by how much shorter the rest is
   module _ {left : List ℕ} (e : left ≡ restOf stream (placedBy r plan marks stream)) where
@@ -50,4 +40,4 @@ module _ (r : ℕ) (plan : List ℕ) (marks : List Bool) (stream : List ℕ) whe
     left-within = omega (arith, long)
 
     pub counted : (length stream - length left) / packetLength ≡ placedBy r plan marks stream
-    counted = omega (arith, long, placed-within)
+    counted = omega (arith, long, placed-within r plan marks stream)

@@ -10,3 +10,4 @@ pub mod Bytes
 pub mod Coding
 pub mod Answers
 pub mod Uncoded
+pub mod OnBytes

@@ -1,4 +1,4 @@
--- What the coding of a receiver's state promises; the proofs stand in the modules Coding and Uncoded.
+-- What is said of the calls over bytes, as statements. The proofs stand apart.
 use Prim.Native.Nat.{ℕ}
 use mathlib.Core.Path.{_≡_}
 use mathlib.Core.Bool.{true, false}
@@ -7,10 +7,10 @@ use lib.ListN.{length}
 use Rattle.setting.specs.Rules.{pidAllowed}
 use Rattle.packet.specs.Packets.{packetLength}
 use Rattle.setting_bytes.specs.Words.{wordAt}
-use Rattle.receiver.specs.Receiving.{Receiver}
+use Rattle.receiver.specs.Receiving.{Receiver, receiveOf, receiveStore, handOutOf, handOutBuffer}
 use Rattle.receiver.specs.Store.{storeLength}
-use Rattle.receiver.specs.Bytes.{receiverLength, pidAt, receiverBytes, receiverOf, Codable, isCoded}
-use Rattle.receiver.specs.Calls.{receiveRefused, handOutRefused}
+use Rattle.receiver.specs.Bytes.{receiverLength, pidAt, receiverBytes, receiverOf, Codable, isCoded, eventNumber}
+use Rattle.receiver.specs.Calls.{receiveRefused, receiveEvent, receiveState, receiveMemory, handOutRefused, handOutPackets, handOutMemory}
 
 -- decoding what was encoded gives the value back
 abbrev pub StateBack : Type 0
@@ -27,3 +27,19 @@ UncodedRefused =
     → length store ≡ storeLength
     → ((p : List ℕ) → length p ≡ packetLength → receiveRefused state p store ≡ 17)
     × ((r : ℕ) (out : List ℕ) → handOutRefused state r store out ≡ 17)
+
+-- On the bytes of a state each call answers and leaves what the receiver's own does: so what is said of states holds of the bytes.
+pub record OnBytes (c : Receiver) : Type 0 where
+  pub receives : (p store : List ℕ)
+      → (receiveRefused (receiverBytes c) p store ≡ receiveOf c p (length store) .refusal)
+      × ((receiveEvent (receiverBytes c) p store ≡ eventNumber (receiveOf c p (length store) .event))
+      × ((receiveState (receiverBytes c) p store ≡ receiverBytes (receiveOf c p (length store) .state))
+      × (receiveMemory (receiverBytes c) p store ≡ receiveStore c p store)))
+  pub hands-out : (r : ℕ) (store out : List ℕ)
+      → (handOutRefused (receiverBytes c) r store out ≡ handOutOf c r (length store) (length out) .refusal)
+      × ((handOutPackets (receiverBytes c) r store out ≡ handOutOf c r (length store) (length out) .packets)
+      × (handOutMemory (receiverBytes c) r store out ≡ handOutBuffer c r store out))
+
+-- And a state that bytes can say stays one, so that the next call finds it again in the bytes.
+abbrev pub CallsOnBytes : Type 0
+CallsOnBytes = (c : Receiver) → Codable c → OnBytes c × ((p : List ℕ) (lent : ℕ) → Codable (receiveOf c p lent .state))

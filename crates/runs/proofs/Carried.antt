@@ -22,7 +22,7 @@ use Rattle.runs.proofs.Filled.{marksFilled, unfitFilled, EachWhole, who
 -- ---- by whether the first slot carries a packet
 
 -- a statement about a plan follows slot by slot, from a slot that carries a packet and from one that does not
-by-slot : (P : List ℕ → (ℕ → List ℕ) → Type 0) → ((lent : ℕ → List ℕ) → P [] lent)
+pub by-slot : (P : List ℕ → (ℕ → List ℕ) → Type 0) → ((lent : ℕ → List ℕ) → P [] lent)
     → ((n : ℕ) (ns : List ℕ) (lent : ℕ → List ℕ) → (n ≡ 0 → ⊥) → packetLength ≤ length (lent n) → P ns (taken n lent) → P (n ∷ ns) lent)
     → ((n : ℕ) (ns : List ℕ) (lent : ℕ → List ℕ) → carries n lent ≡ false → P ns lent → P (n ∷ ns) lent)
     → (plan : List ℕ) (lent : ℕ → List ℕ) → P plan lent
@@ -90,11 +90,11 @@ numbered-other : (r n : ℕ) (ns p bytes : List ℕ) → length p ≡ packetLeng
 unfolding numbered
 numbered-other r n ns p bytes l d = rw (ne-eqb n r d, drop-at p bytes packetLength l)
 
-for-own : (r : ℕ) (ns : List ℕ) → slotsFor r (r ∷ ns) ≡ 1 + slotsFor r ns
+pub for-own : (r : ℕ) (ns : List ℕ) → slotsFor r (r ∷ ns) ≡ 1 + slotsFor r ns
 unfolding slotsFor
 for-own r ns = rw (eq-eqb r r refl)
 
-for-other : (r n : ℕ) (ns : List ℕ) → (n ≡ r → ⊥) → slotsFor r (n ∷ ns) ≡ slotsFor r ns
+pub for-other : (r n : ℕ) (ns : List ℕ) → (n ≡ r → ⊥) → slotsFor r (n ∷ ns) ≡ slotsFor r ns
 unfolding slotsFor
 for-other r n ns d = rw (ne-eqb n r d) (omega arith)
 

@@ -1,240 +1,151 @@
--- Demands 2 and 3 over frames. Assumes nothing.
-use Prim.Native.Nat.{ℕ, suc, _+_, _*_, _%_, _^_, _≤_, _<_}
+-- Demands 2 and 3 over the calls. Assumes nothing.
+use Prim.Native.Nat.{ℕ, _*_, _≤_}
 use mathlib.Core.Path.{_≡_, refl, sym, ap, ap₂, subst, _∙_}
-use mathlib.Core.Bool.{Bool, true, false}
-use mathlib.Core.List.{List, [], _∷_, _++_, map, append-nil, append-assoc}
+use mathlib.Core.Bool.{Bool, true, false, not, false≢true}
+use mathlib.Core.List.{List, [], _∷_, _++_, map, append-nil}
 use native.Mathlib.Omega.{arith}
-use lib.Dec.{lit<}
-use lib.ListN.{length, take, drop, replicate, length-append}
-use lib.Seq.{drop-at}
-use Rattle.bits.specs.Fields.{Fit}
-use Rattle.slices.specs.Slices.{anyBelow, someAtLeast}
+use borrow.Author.Tests.{not-false}
+use lib.Dec.{eqb}
+use lib.ListN.{length, drop}
 use Rattle.setting.specs.declared.Kind.{Kind}
-use Rattle.setting.specs.declared.Setting.{Setting}
-use Rattle.counters.specs.Counters.{lastSlot}
-use Rattle.setting.specs.Rules.{pidAllowed, widthChecks}
-use Rattle.setting.proofs.Refusals.{none-at}
-use Rattle.setting.proofs.Fields.{fit-some}
-use Rattle.header_read.specs.declared.Reading.{Reading}
-use Rattle.header_layout.specs.Header.{header}
-use Rattle.header_layout.proofs.Whole.{length-header}
-use Rattle.setting.specs.declared.Announced.{Announced}
-use Rattle.packet.specs.Packets.{packetLength, unfit}
+use Rattle.setting.specs.Refusal.{firstOf, leaves}
+use Rattle.setting.specs.Rules.{pidAllowed}
 use Rattle.setting.specs.Announcing.{announced}
-use Rattle.composer.specs.Composing.{saying, versionBehind}
-use Rattle.receiver.specs.declared.Stage.{Stage}
-use Rattle.receiver.specs.Store.{storeLength, numbered, slotsFor}
-use Rattle.receiver.specs.Receiving.{waiting}
-use Rattle.runs.specs.Runs.{Call, Each, none, more, OfTypes, started, framesOf}
-use Rattle.runs.specs.Work.{Work, noWork, worksOf, slotsFilled, said, headedBehind, headed, frameOf}
-use Rattle.runs.specs.Composed.{headedBy}
-use Rattle.runs.specs.Losses.{isKept, Sent, MayHappen, InARowAtMost, arriving, Reception, freshWith, handedOut, numbersIn, wanted}
-use Rattle.runs.specs.Demands.{Asked, DemandThree, whole, headerAlone, PacketForPacket, placedIn, RunForRun}
-use Rattle.runs.proofs.Held.{Done}
-use Rattle.runs.proofs.Composed.{Good, said-good, version-behind, header-read, front-placed, frame-length, packet-fit, works-done, hold, each-good}
-use Rattle.runs.proofs.Table.{Set, waits}
-use Rattle.runs.proofs.Vouched.{GoodFrame, nothing}
-use Rattle.runs.proofs.Lost.{slot-behind, Counted, no-more, and-then, InRow, end, here, gone, comes-out, first-none}
+use Rattle.setting.specs.Setting.{blank}
+use Rattle.setting.proofs.Refusals.{none-first, none-at}
+use Rattle.setting_bytes.specs.Kinds.{isKind, kindOf}
+use Rattle.packet.specs.Packets.{packetLength}
+use Rattle.composer.specs.Composing.{fresh}
+use Rattle.composer.specs.States.{composerLength, composerBytes, OfItsTypes as StateOfItsTypes}
+use Rattle.composer.specs.Calls.{startRefused, startState}
+use Rattle.receiver.specs.Store.{storeLength, numbered}
+use Rattle.receiver.specs.Bytes.{receiverLength}
+use Rattle.receiver.specs.Calls.{startRefused as receiverRefused, startState as receiverStart}
+use Rattle.runs.specs.Runs.{Each, none, more, OfTypes, started, framesOf}
+use Rattle.runs.specs.Work.{noWork}
+use Rattle.runs.specs.Losses.{Sent, MayHappen, arriving, freshWith, handedOut, numbersIn, wanted}
+use Rattle.runs.specs.Firmware.{FirmwareCall, OfBytes, startedAs, Closed, tunedTo}
+use Rattle.runs.specs.Demands.{RunOfCalls, framesClosed, FreshAndAsked, handsOut, AlwaysRoom, DemandThree, whole, headerAlone, PacketForPacket, placedIn, RunForRun}
+use Rattle.runs.proofs.Typed.{blank-types}
+use Rattle.runs.proofs.Table.{Asked}
+use Rattle.runs.proofs.Lost.{InRow, end, here}
+use Rattle.runs.proofs.Composed.{sound-start}
+use Rattle.runs.proofs.Values.{in-row, waiting-set, stretch-comes-out, first-of, each-rest, map-append}
+use Rattle.runs.proofs.Tuned.{Tuned, given-out, room-always}
+use Rattle.runs.proofs.Made.{valued, valued-typed, Alike, TrueTo, frames-alike}
 
--- ---- the frames of a run
+-- ---- the starts
 
--- a closed frame, with its header's counter
-good-frame : (kind : Kind) (pid n : ℕ) (h : Setting × Work) → pidAllowed pid ≡ true → h .0 .«continuity_counter» ≡ n → n < 2 ^ 4 → Good kind pid h
-    → GoodFrame kind pid n (frameOf kind pid h)
-unfolding widthChecks
-good-frame kind pid n h e c l g =
+-- an accepted start had an allowed PID
+pub started-allowed : (state : List ℕ) (pid kind : ℕ) → startRefused state pid kind ≡ 0 → pidAllowed pid ≡ true
+unfolding startRefused
+started-allowed state pid kind e =
+    not-false _ (none-at (none-first ((1, not (eqb (length state) composerLength)) ∷ (2, not (pidAllowed pid)) ∷ (17, not (isKind kind)) ∷ []) refl e) 1)
+
+pub tuned-allowed : (state : List ℕ) (pid kind : ℕ) → receiverRefused state pid kind ≡ 0 → pidAllowed pid ≡ true
+unfolding receiverRefused
+tuned-allowed state pid kind e =
+    not-false _ (none-at (none-first ((1, not (eqb (length state) receiverLength)) ∷ (2, not (pidAllowed pid)) ∷ (17, not (isKind kind)) ∷ []) refl e) 1)
+
+fresh-types : (kind : Kind) (pid : ℕ) → StateOfItsTypes (fresh kind pid)
+unfolding fresh announced
+fresh-types kind pid = record { ts-id = blank-types .ts-id; network-id = blank-types .network-id; statuses = blank-types .statuses; setting = blank-types; marks = refl }
+
+pub started-alike : (state : List ℕ) (pid kind : ℕ) → startRefused state pid kind ≡ 0 → Alike (kindOf kind) pid (startedAs state pid kind) (started (kindOf kind) pid) noWork
+unfolding startedAs startState leaves started fresh
+started-alike state pid kind e =
     record {
-      setting = h .0;
-      read = header-read kind pid h g;
-      counter = c;
-      small = l;
-      numbers-fit = fit-some 4 (h .0 .«relative_ts_number») (none-at (g .meets .fields) 7);
-      numbers-long = g .typed .numbers .0;
-      long = frame-length kind pid h g;
-      fit = λ i q. ap (unfit pid) (slot-behind i (frameOf kind pid h)) ∙ packet-fit kind pid h g e (suc i) (omega arith) (omega arith);
+      state-is = rw e;
+      typed = fresh-types (kindOf kind) pid;
+      frame-is = refl;
+      sound = sound-start (kindOf kind) pid;
+      placed-are = λ o. absurd (false≢true o);
+      counts = λ r. refl;
     }
 
-said-counter : (counter version : ℕ) (k : Work) → said counter version k .«continuity_counter» ≡ counter
-unfolding said saying
-said-counter counter version k = refl
+pub tuned-fresh : (state : List ℕ) (pid kind : ℕ) (store : List ℕ) → receiverRefused state pid kind ≡ 0 → length store ≡ storeLength
+    → Tuned (kindOf kind) pid (tunedTo state pid kind store) (freshWith (kindOf kind) pid store)
+unfolding tunedTo receiverStart leaves
+tuned-fresh state pid kind store e l = record { state-is = rw e; store-is = refl; set = waiting-set (kindOf kind) pid store (tuned-allowed state pid kind e) l }
 
-module _ (kind : Kind) (pid : ℕ) (e : pidAllowed pid ≡ true) where
-  said-frame : (counter version : ℕ) (k : Work) → counter < 2 ^ 4 → version < 2 ^ 3 → Done kind pid k → GoodFrame kind pid counter (frameOf kind pid (said counter version k, k))
-  said-frame counter version k c v d =
-      good-frame kind pid counter (said counter version k, k) e (said-counter counter version k) c (said-good kind pid e counter version k c v d)
+pub always-room : AlwaysRoom
+always-room pid kind r state store buffers packets e l large =
+    room-always (kindOf kind) pid r (tunedTo state pid kind store) (freshWith (kindOf kind) pid store) (tuned-fresh state pid kind store e l) buffers large packets
 
-  counted-behind : (counter version : ℕ) (last : Announced) (ks : List Work) → version < 2 ^ 3 → Each (Done kind pid) ks
-      → Counted kind pid ((counter + 1) % 16) (map (frameOf kind pid) (headedBehind counter version last ks))
-  unfolding headedBehind
-  counted-behind counter version last [] v none = no-more
-  counted-behind counter version last (k ∷ ks) v (more d ds) =
-      let u = version-behind kind pid e version last (k .setting) v in
-      and-then (said-frame ((counter + 1) % 16) (versionBehind version last (k .setting)) k (omega arith) u d)
-      (counted-behind ((counter + 1) % 16) (versionBehind version last (k .setting)) (announced (k .setting)) ks u ds)
+each-valued : (cs : List FirmwareCall) → Each OfBytes cs → Each OfTypes (map valued cs)
+each-valued [] none = none
+each-valued (c ∷ cs) (more f fs) = more (valued-typed c f) (each-valued cs fs)
 
-  counted : (ks : List Work) → Each (Done kind pid) ks → Counted kind pid 0 (map (frameOf kind pid) (headed ks))
-  unfolding headed
-  counted [] none = no-more
-  counted (k ∷ ks) (more d ds) = and-then (said-frame 0 0 k (lit< tt) (lit< tt) d) (counted-behind 0 0 (announced (k .setting)) ks (lit< tt) ds)
+-- ---- a run
 
-pub counted-run : (kind : Kind) (pid : ℕ) (calls : List Call) → pidAllowed pid ≡ true → Each OfTypes calls → Counted kind pid 0 (framesOf (started kind pid) calls)
-counted-run kind pid calls e t =
-    subst (Counted kind pid 0) (sym (hold kind pid calls e t)) (counted kind pid e (worksOf (started kind pid) noWork calls) (works-done kind pid calls e t))
+module _ (pid kind : ℕ) (run : RunOfCalls pid kind) where
+  pub run-allowed : pidAllowed pid ≡ true
+  run-allowed = started-allowed (run .state) pid kind (run .accepted)
 
--- a stretch of them
-pub record From (kind : Kind) (pid : ℕ) (fs : List (List ℕ)) : Type 0 where
-  pub n : ℕ
-  pub counts : Counted kind pid n fs
+  pub run-alike : (map (λ f. f .frame) (framesClosed run) ≡ framesOf (started (kindOf kind) pid) (map valued (run .calls))) × Each (TrueTo (kindOf kind) pid) (framesClosed run)
+  run-alike =
+      frames-alike (kindOf kind) pid run-allowed (startedAs (run .state) pid kind) (started (kindOf kind) pid) noWork (run .calls)
+      (started-alike (run .state) pid kind (run .accepted)) (run .lent)
 
-counted-front : {kind : Kind} {pid n : ℕ} (xs ys : List (List ℕ)) → Counted kind pid n (xs ++ ys) → Counted kind pid n xs
-counted-front [] ys c = no-more
-counted-front (x ∷ xs) ys (and-then g c) = and-then g (counted-front xs ys c)
+  pub frames-true : Each (TrueTo (kindOf kind) pid) (framesClosed run)
+  frames-true = run-alike .1
 
-counted-rest : {kind : Kind} {pid n : ℕ} (xs : List (List ℕ)) {ys : List (List ℕ)} → Counted kind pid n (xs ++ ys) → From kind pid ys
-counted-rest {n = n} [] c = record { n = n; counts = c }
-counted-rest (x ∷ xs) (and-then g c) = counted-rest xs c
-
-pub stretch : (kind : Kind) (pid : ℕ) (calls : List Call) → pidAllowed pid ≡ true → Each OfTypes calls → (before fs after : List (List ℕ))
-    → framesOf (started kind pid) calls ≡ before ++ (fs ++ after) → From kind pid fs
-stretch kind pid calls e t before fs after q =
-    let c = counted-rest before (subst (Counted kind pid 0) q (counted-run kind pid calls e t)) in
-    record { n = c .n; counts = counted-front fs after (c .counts) }
-
--- ---- the limit of fifteen
-
-abbrev Missing : Sent → Type 0
-Missing s = isKept (s .fate) ≡ false
-
-each-snoc : {xs : List Sent} (x : Sent) → Each Missing xs → Missing x → Each Missing (xs ++ (x ∷ []))
-each-snoc x none m = more m none
-each-snoc x (more p ps) m = more p (each-snoc x ps m)
-
--- of any frames, behind some whose headers are missing in a row
-in-row : (sent : List Sent) → InARowAtMost 15 sent → (before row rest : List Sent) → sent ≡ before ++ (row ++ rest) → Each Missing row → InRow (length row) rest
-in-row sent most before row [] e m = end
-in-row sent most before row (s ∷ ss) e m =
-    by-fate (isKept (s .fate)) refl
-    (λ d q. in-row sent most d [] ss q none)
-    (λ q n. in-row sent most before (row ++ (s ∷ [])) ss q n)
-  where
-    longer : sent ≡ before ++ ((row ++ (s ∷ [])) ++ ss)
-    longer = e ∙ ap (λ (l : List Sent). before ++ l) (sym (append-assoc row (s ∷ []) ss))
-
-    count : length (row ++ (s ∷ [])) ≡ length row + 1
-    count = length-append row (s ∷ [])
-
-    by-fate : (b : Bool) → isKept (s .fate) ≡ b → ((d : List Sent) → sent ≡ d ++ ss → InRow 0 ss)
-        → (sent ≡ before ++ ((row ++ (s ∷ [])) ++ ss) → Each Missing (row ++ (s ∷ [])) → InRow (length (row ++ (s ∷ []))) ss) → InRow (length row) (s ∷ ss)
-    by-fate true k next more-gone = here k (next (before ++ (row ++ (s ∷ []))) (longer ∙ sym (append-assoc before (row ++ (s ∷ [])) ss)))
-    by-fate false k next more-gone =
-        let all = each-snoc s m k in
-        let few : length (row ++ (s ∷ [])) ≤ 15 = most before (row ++ (s ∷ [])) ss longer all in
-        let one-more : length row + 1 ≤ 15 = omega (arith, few, count) in
-        gone k one-more (subst (λ (j : ℕ). InRow j ss) count (more-gone longer all))
-
--- ---- a fresh receiver
-
-zeros-fit : Fit 4 (replicate lastSlot 0)
-unfolding someAtLeast anyBelow
-zeros-fit = fit-some 4 (replicate lastSlot 0) refl
-
-pub waiting-set : (kind : Kind) (pid : ℕ) (store : List ℕ) → pidAllowed pid ≡ true → length store ≡ storeLength → Set kind pid (record { state = waiting kind pid; store = store })
-unfolding waiting
-waiting-set kind pid store e l =
-    record {
-      kind-is = refl;
-      pid-is = refl;
-      allowed = e;
-      stage-is = waits;
-      numbers-fit = zeros-fit;
-      numbers-long = refl;
-      before-fit = zeros-fit;
-      before-long = refl;
-      store-long = l;
-    }
-
-pub waiting-stage : (kind : Kind) (pid : ℕ) → waiting kind pid .stage ≡ Stage.Waiting
-unfolding waiting
-waiting-stage kind pid = refl
-
-module _ (kind : Kind) (pid r : ℕ) (store out : List ℕ) (e : pidAllowed pid ≡ true) (a : Asked r store out) where
-  abbrev fresh : Reception
-  fresh = record { state = waiting kind pid; store = store }
-
-  -- whatever happens on the way
-  out-of-fresh : (n : ℕ) (sent : List Sent) → Counted kind pid n (map (λ s. s .frame) sent) → Each (MayHappen kind pid) sent → InRow 0 sent
-      → handedOut r out (freshWith kind pid store) (arriving sent) ≡ wanted kind pid r sent
-  out-of-fresh n sent c h q =
-      comes-out kind pid r store out a sent n 0 [] fresh (waiting-set kind pid store e (a .store-long)) (nothing (waiting-stage kind pid) refl) (omega arith) c h q
-      ∙ ap (λ (x : List ℕ). x ++ wanted kind pid r sent) (first-none kind pid r store out a sent)
+  -- whatever happens to some of its frames on the way
+  pub stretch-given : (r : ℕ) (before after : List (List ℕ)) (sent : List Sent)
+      → map (λ f. f .frame) (framesClosed run) ≡ before ++ (map (λ s. s .frame) sent ++ after)
+      → Each (MayHappen (kindOf kind) pid) sent → InRow 0 sent
+      → (a : FreshAndAsked pid kind r (arriving sent)) → handsOut a ≡ wanted (kindOf kind) pid r sent
+  stretch-given r before after sent q h row a =
+      let asked : Asked r (a .store) (a .store) = record { from = a .from; to = a .to; store-long = a .store-long; room = omega (arith, a .store-long) } in
+      given-out (kindOf kind) pid r (a .store) (a .store) asked (tunedTo (a .state) pid kind (a .store)) (freshWith (kindOf kind) pid (a .store))
+      (tuned-fresh (a .state) pid kind (a .store) (a .accepted) (a .store-long)) (a .buffers) (arriving sent) (a .room)
+      ∙ stretch-comes-out (kindOf kind) pid (map valued (run .calls)) run-allowed (each-valued (run .calls) (run .lent)) before after sent (sym (run-alike .0) ∙ q) h row
+      r (a .store) (a .store) asked
 
 -- ---- demand 3
 
 pub nothing-mixed : DemandThree
-nothing-mixed kind pid calls e t before after sent q h most r store out a =
-    let c = stretch kind pid calls e t before (map (λ s. s .frame) sent) after q in
-    out-of-fresh kind pid r store out e a (c .n) sent (c .counts) h (in-row sent most [] [] sent refl none)
+nothing-mixed pid kind r sent one lost a =
+    stretch-given pid kind (one .run) r (one .earlier) (one .later) sent (one .consecutive) (lost .may-happen) (in-row sent (lost .in-a-row) [] [] sent refl none) a
 
 -- ---- demand 2
 
-behind-header : (kind : Kind) (pid : ℕ) (h : Setting × Work) → drop packetLength (frameOf kind pid h) ≡ slotsFilled (h .1 .setting .«relative_ts_number») (h .1 .lent)
-unfolding frameOf
-behind-header kind pid h = drop-at (header kind pid (h .0)) (slotsFilled (h .1 .setting .«relative_ts_number») (h .1 .lent)) packetLength (length-header kind pid (h .0))
+pub packet-for-packet : PacketForPacket
+unfolding wanted
+packet-for-packet pid kind r run earlier later f next q a =
+    let frame : Closed → List ℕ = λ x. x .frame in
+    let sent = whole (f .frame) ∷ headerAlone (next .frame) ∷ [] in
+    let frames = ap (map frame) q ∙ map-append frame earlier (f ∷ next ∷ later) in
+    let true-to = first-of (each-rest earlier (f ∷ next ∷ later) (subst (Each (TrueTo (kindOf kind) pid)) q (frames-true pid kind run))) in
+    let given : handsOut a ≡ f .placed r =
+    stretch-given pid kind run r (map frame earlier) (map frame later) sent frames (more (refl, tt) (more (refl, tt) none)) (here refl (here refl end)) a
+    ∙ append-nil (numbered r (numbersIn (kindOf kind) pid (f .frame)) (drop packetLength (f .frame))) ∙ true-to .own r (a .from) in
+    (given, ap length given ∙ true-to .counts r)
 
-pub first-of : {A : Type 0} {P : A → Type 0} {x : A} {xs : List A} → Each P (x ∷ xs) → P x
-first-of (more p ps) = p
+abbrev sentWhole : List Closed → List Sent
+sentWhole fs = map (λ f. whole (f .frame)) fs
 
--- the packets numbered r of a frame that was composed
-placed-in-frame : (kind : Kind) (pid r : ℕ) (h : Setting × Work) → Good kind pid h → 1 ≤ r
-    → numbered r (numbersIn kind pid (frameOf kind pid h)) (drop packetLength (frameOf kind pid h))
-    ≡ take (packetLength * slotsFor r (h .1 .setting .«relative_ts_number»)) (h .1 .lent r)
-placed-in-frame kind pid r h g l =
-    ap₂ (numbered r) (ap (λ (x : Reading). x .setting .«relative_ts_number») (header-read kind pid h g)) (behind-header kind pid h)
-    ∙ front-placed kind pid h g r l
-
-each-kept : (fs : List (List ℕ)) → InRow 0 (map whole fs)
+each-kept : (fs : List Closed) → InRow 0 (sentWhole fs)
 each-kept [] = end
 each-kept (f ∷ fs) = here refl (each-kept fs)
 
-each-happens : (kind : Kind) (pid : ℕ) (fs : List (List ℕ)) → Each (MayHappen kind pid) (map whole fs)
+each-happens : (kind : Kind) (pid : ℕ) (fs : List Closed) → Each (MayHappen kind pid) (sentWhole fs)
 each-happens kind pid [] = none
 each-happens kind pid (f ∷ fs) = more (refl, tt) (each-happens kind pid fs)
 
-frames-whole : (fs : List (List ℕ)) → map (λ s. s .frame) (map whole fs) ≡ fs
+frames-whole : (fs : List Closed) → map (λ f. f .frame) fs ≡ map (λ s. s .frame) (sentWhole fs)
 frames-whole [] = refl
-frames-whole (f ∷ fs) = ap (λ (l : List (List ℕ)). f ∷ l) (frames-whole fs)
+frames-whole (f ∷ fs) = ap (λ (l : List (List ℕ)). f .frame ∷ l) (frames-whole fs)
 
 -- without loss all frames but the last are wanted
-wanted-whole : (kind : Kind) (pid r : ℕ) (hs : List (Setting × Work)) → Each (Good kind pid) hs → 1 ≤ r
-    → wanted kind pid r (map whole (map (frameOf kind pid) hs)) ≡ placedIn r hs
+wanted-whole : (kind : Kind) (pid r : ℕ) (fs : List Closed) → Each (TrueTo kind pid) fs → 1 ≤ r → wanted kind pid r (sentWhole fs) ≡ placedIn r fs
 unfolding wanted placedIn
 wanted-whole kind pid r [] none l = refl
-wanted-whole kind pid r (h ∷ []) g l = refl
-wanted-whole kind pid r (h ∷ next ∷ hs) (more g gs) l = ap₂ (λ (x y : List ℕ). x ++ y) (placed-in-frame kind pid r h g l) (wanted-whole kind pid r (next ∷ hs) gs l)
+wanted-whole kind pid r (f ∷ []) t l = refl
+wanted-whole kind pid r (f ∷ next ∷ fs) (more t ts) l = ap₂ (λ (x y : List ℕ). x ++ y) (t .own r l) (wanted-whole kind pid r (next ∷ fs) ts l)
 
 pub run-for-run : RunForRun
-run-for-run kind pid calls e t r store out a =
-    let fs = framesOf (started kind pid) calls in
-    out-of-fresh kind pid r store out e a 0 (map whole fs) (subst (Counted kind pid 0) (sym (frames-whole fs)) (counted-run kind pid calls e t)) (each-happens kind pid fs) (each-kept fs)
-    ∙ ap (λ (l : List (List ℕ)). wanted kind pid r (map whole l)) (hold kind pid calls e t)
-    ∙ wanted-whole kind pid r (headedBy kind pid calls) (each-good kind pid calls e t) (a .from)
-
-each-rest : {A : Type 0} {P : A → Type 0} (xs ys : List A) → Each P (xs ++ ys) → Each P ys
-each-rest [] ys p = p
-each-rest (x ∷ xs) ys (more q p) = each-rest xs ys p
-
-pub map-append : {A B : Type 0} (g : A → B) (xs ys : List A) → map g (xs ++ ys) ≡ map g xs ++ map g ys
-map-append g [] ys = refl
-map-append g (x ∷ xs) ys = ap (λ (l : List _). g x ∷ l) (map-append g xs ys)
-
-pub packet-for-packet : PacketForPacket
-unfolding wanted
-packet-for-packet kind pid calls e t before after h next q r store out a =
-    let f = frameOf kind pid in
-    let pair = f h ∷ f next ∷ [] in
-    let sent = whole (f h) ∷ headerAlone (f next) ∷ [] in
-    let frames : framesOf (started kind pid) calls ≡ map f before ++ (pair ++ map f after) = hold kind pid calls e t ∙ ap (map f) q ∙ map-append f before (h ∷ next ∷ after) in
-    let c = stretch kind pid calls e t (map f before) pair (map f after) frames in
-    let g = first-of (each-rest before (h ∷ next ∷ after) (subst (Each (Good kind pid)) q (each-good kind pid calls e t))) in
-    out-of-fresh kind pid r store out e a (c .n) sent (c .counts) (more (refl, tt) (more (refl, tt) none)) (here refl (here refl end))
-    ∙ append-nil (numbered r (numbersIn kind pid (f h)) (drop packetLength (f h))) ∙ placed-in-frame kind pid r h g (a .from)
+run-for-run pid kind r run a =
+    let fs = framesClosed run in
+    stretch-given pid kind run r [] [] (sentWhole fs) (frames-whole fs ∙ sym (append-nil (map (λ s. s .frame) (sentWhole fs)))) (each-happens (kindOf kind) pid fs) (each-kept fs) a
+    ∙ wanted-whole (kindOf kind) pid r fs (frames-true pid kind run) (a .from)

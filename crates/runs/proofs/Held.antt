@@ -30,13 +30,13 @@ use Rattle.runs.proofs.Carried.{numbers-filled, slots-none, marks-none,
 
 -- ---- a refused call changes nothing
 
-refused-same : (w : Run) (c : Call) → (refusalOf w c ≡ 0 → ⊥) → after w c ≡ w
+pub refused-same : (w : Run) (c : Call) → (refusalOf w c ≡ 0 → ⊥) → after w c ≡ w
 unfolding after refusalOf beginOf putOf closeOf answer begunFrame putFrame closedFrame leaves
 refused-same w (begin buffer s) d = rw (ne-eqb _ 0 d)
 refused-same w (put stream r) d = rw (ne-eqb _ 0 d)
 refused-same w close d = rw (ne-eqb _ 0 d)
 
-refused-work : (w : Run) (k : Work) (c : Call) → (refusalOf w c ≡ 0 → ⊥) → workAfter w k c ≡ k
+pub refused-work : (w : Run) (k : Work) (c : Call) → (refusalOf w c ≡ 0 → ⊥) → workAfter w k c ≡ k
 unfolding workAfter
 refused-work w k (begin buffer s) d = rw (ne-eqb _ 0 d)
 refused-work w k (put stream r) d = rw (ne-eqb _ 0 d)
@@ -86,11 +86,11 @@ pub closed-work : (w : Run) (k : Work) → workAfter w k close ≡ k
 unfolding workAfter
 closed-work w k = refl
 
-put-facts : (w : Run) (stream : List ℕ) (r : ℕ) → refusalOf w (put stream r) ≡ 0 → PutPassed (w .state) r stream (length (w .frame))
+pub put-facts : (w : Run) (stream : List ℕ) (r : ℕ) → refusalOf w (put stream r) ≡ 0 → PutPassed (w .state) r stream (length (w .frame))
 unfolding refusalOf
 put-facts w stream r e = put-passed (w .state) r stream (length (w .frame)) e
 
-close-facts : (w : Run) → refusalOf w close ≡ 0 → ClosePassed (w .state) (length (w .frame))
+pub close-facts : (w : Run) → refusalOf w close ≡ 0 → ClosePassed (w .state) (length (w .frame))
 unfolding refusalOf
 close-facts w e = close-passed (w .state) (length (w .frame)) e
 
@@ -191,11 +191,11 @@ pub record Done (kind : Kind) (pid : ℕ) (k : Work) : Type 0 where
   pub fit : unfitFilled pid (k .setting .«relative_ts_number») (k .lent) ≡ false
 
 module _ (kind : Kind) (pid : ℕ) (w : Run) (k : Work) (o : Sound kind pid w k) (e : refusalOf w close ≡ 0) where
-  open-as : Opened pid w k
+  pub open-as : Opened pid w k
   open-as = o .opened-as (close-facts w e .open-state .is-open)
 
   -- it obeys the rules
-  done : Done kind pid k
+  pub done : Done kind pid k
   done =
       let p = close-facts w e .open-state in
       record {
@@ -212,7 +212,7 @@ module _ (kind : Kind) (pid : ℕ) (w : Run) (k : Work) (o : Sound kind pid w k)
   closing-said = rw (open-as .setting-is, open-as .marks-are, numbers-filled (k .setting .«relative_ts_number») (k .lent))
 
   -- and the frame is the one that carries it
-  closed-as : header (w .state .kind) (w .state .pid) (closing (w .state)) ++ drop packetLength (w .frame)
+  pub closed-as : header (w .state .kind) (w .state .pid) (closing (w .state)) ++ drop packetLength (w .frame)
       ≡ frameOf kind pid (said ((w .state .counter + 1) % 16) (versionBehind (w .state .version) (w .state .last) (k .setting)) k, k)
   unfolding frameOf
   closed-as =
@@ -249,7 +249,7 @@ module _ (kind : Kind) (pid : ℕ) (w : Run) (k : Work) (c : Call) (cs : List Ca
       ∙ ap₂ (λ (x y : ℕ). map (frameOf kind pid) (headedBehind x y (after w c .state .last) (worksOf (after w c) (workAfter w k c) cs))) p q
       ∙ ap₂ (λ (x : Announced) (l : List Work). map (frameOf kind pid) (headedBehind (w .state .counter) (w .state .version) x (l ++ worksOf (after w c) (workAfter w k c) cs))) r (sym b)
 
-refused-none : (w : Run) (k : Work) (c : Call) → (refusalOf w c ≡ 0 → ⊥) → (closedBy w c ≡ []) × (doneBy w k c ≡ [])
+pub refused-none : (w : Run) (k : Work) (c : Call) → (refusalOf w c ≡ 0 → ⊥) → (closedBy w c ≡ []) × (doneBy w k c ≡ [])
 unfolding closedBy doneBy
 refused-none w k (begin buffer s) d = (refl, refl)
 refused-none w k (put stream r) d = (refl, refl)

@@ -1,7 +1,7 @@
 mod Accepts
 mod Carried
 pub mod Composed
-pub mod Demands
+pub mod Values
 mod Filled
 mod Held
 pub mod Said
@@ -9,3 +9,8 @@ pub mod Lost
 pub mod Sixteen
 pub mod Table
 pub mod Vouched
+mod Typed
+mod Tuned
+mod Placed
+mod Made
+pub mod Demands

@@ -17,8 +17,7 @@ use Rattle.receiver.specs.Store.{storeLength, numbered}
 use Rattle.receiver.proofs.Sorts.{not-good}
 use Rattle.runs.specs.Runs.{Each, none, more}
 use Rattle.runs.specs.Losses.{Fate, kept, lost, spoiled, isKept, Sent, MayHappen, Refused, headerArrives, packetsArrive, arriving, Reception, afterPacket, handedOut, numbersIn, entire, wanted}
-use Rattle.runs.specs.Demands.{Asked}
-use Rattle.runs.proofs.Table.{Opens, open-at, ready-at, Set, Follows, dropped, goes-on, Plain, joined, afterAll, StoredAll, stored-all, Bad, bad-all, same-opens}
+use Rattle.runs.proofs.Table.{Asked, Opens, open-at, ready-at, Set, Follows, dropped, goes-on, Plain, joined, afterAll, StoredAll, stored-all, Bad, bad-all, same-opens}
 use Rattle.runs.proofs.Vouched.{GoodFrame, good-set, good-opens, good-numbers, Owes, nothing, something, vouches}
 
 pub each-append : {A : Type 0} {P : A → Type 0} {xs ys : List A} → Each P xs → Each P ys → Each P (xs ++ ys)
@@ -133,29 +132,29 @@ module _ (kind : Kind) (pid r : ℕ) (store out : List ℕ) (a : Asked r store o
 
     all-stored : StoredAll kind pid r out n 0 opened packets [] (opened .store)
     all-stored =
-        stored-all kind pid r out n 0 opened packets [] (opened .store) (good-set kind pid n f w s g) (good-opens kind pid n f w s g)
+        stored-all kind pid r out n 0 opened packets [] (opened .store) (good-set kind pid n (slot 0 f) w s (g .header)) (good-opens kind pid n (slot 0 f) w s (g .header))
         (omega (arith, arrive-length marks bytes, l))
         (arrive-plain pid marks bytes bytes-long (λ i h. g .fit i (omega (arith, l)))) refl refl
 
     -- the next header brings it out where it arrived entire
-    owed-then : Owes r ((n + 1) % 16) 0 (cond (entire marks) (numbered r (g .setting .«relative_ts_number») bytes) []) (afterAll opened packets)
+    owed-then : Owes r ((n + 1) % 16) 0 (cond (entire marks) (numbered r (g .header .setting .«relative_ts_number») bytes) []) (afterAll opened packets)
     owed-then =
-        something n (0 + length packets) (all-stored .stage-then) (g .small) (omega (arith, arrive-length marks bytes, l)) (omega arith) (by-marks (entire marks) refl)
+        something n (0 + length packets) (all-stored .stage-then) (g .header .small) (omega (arith, arrive-length marks bytes, l)) (omega arith) (by-marks (entire marks) refl)
       where
         then : Reception
         then = afterAll opened packets
 
         by-marks : (b : Bool) → entire marks ≡ b
-            → cond b (numbered r (g .setting .«relative_ts_number») bytes) []
+            → cond b (numbered r (g .header .setting .«relative_ts_number») bytes) []
             ≡ cond (eqb (0 + length packets) lastSlot && eqb 0 0) (numbered r (afterAll opened packets .state .numbers) (afterAll opened packets .store)) []
         by-marks true e =
             let whole = arrive-entire marks bytes e bytes-long in
             let count : 0 + length packets ≡ lastSlot = omega (arith, whole .0, l) in
-            let long : length (opened .store) ≡ storeLength = good-set kind pid n f w s g .store-long in
+            let long : length (opened .store) ≡ storeLength = good-set kind pid n (slot 0 f) w s (g .header) .store-long in
             let stored : afterAll opened packets .store ≡ bytes =
             all-stored .store-then
             ∙ ap₂ (λ (x y : List ℕ). x ++ y) (whole .1) (drop-of-length-le (opened .store) {i = packetLength * (0 + length packets)} (omega arith)) ∙ append-nil bytes in
-            ap₂ (numbered r) (sym (all-stored .numbers-then ∙ good-numbers kind pid n f w s g)) (sym stored)
+            ap₂ (numbered r) (sym (all-stored .numbers-then ∙ good-numbers kind pid n (slot 0 f) w s (g .header))) (sym stored)
             ∙ ap (λ (b : Bool). cond (b && true) (numbered r (afterAll opened packets .state .numbers) (afterAll opened packets .store)) []) (sym (eq-eqb (0 + length packets) lastSlot count))
         by-marks false e =
             let few = arrive-missing marks bytes e in
@@ -240,12 +239,12 @@ module _ (kind : Kind) (pid r : ℕ) (store out : List ℕ) (a : Asked r store o
   comes-out (t ∷ ss) n m x w s o l (and-then g c) (more h hs) (here k q) =
       let ps = packetsArrive (t .arrived) (drop packetLength (t .frame)) in
       let st = all-stored n (t .frame) (t .arrived) w s g (h .0) in
-      let y = cond (entire (t .arrived)) (numbered r (g .setting .«relative_ts_number») (drop packetLength (t .frame))) [] in
+      let y = cond (entire (t .arrived)) (numbered r (g .header .setting .«relative_ts_number») (drop packetLength (t .frame))) [] in
       let ih = comes-out ss ((n + 1) % 16) 0 y (afterAll (afterPacket w (slot 0 (t .frame))) ps) (st .set-then)
       (owed-then n (t .frame) (t .arrived) w s g (h .0)) (omega arith) c hs q in
-      let numbers : g .setting .«relative_ts_number» ≡ numbersIn kind pid (t .frame) = sym (ap (λ (z : Reading). z .setting .«relative_ts_number») (g .read)) in
+      let numbers : g .header .setting .«relative_ts_number» ≡ numbersIn kind pid (t .frame) = sym (ap (λ (z : Reading). z .setting .«relative_ts_number») (g .header .read)) in
       ap (λ (hd : List (List ℕ)). handedOut r out w (hd ++ (ps ++ arriving ss))) (header-kept (t .fate) (slot 0 (t .frame)) k)
-      ∙ vouches kind pid r n m x store out (t .frame) w s g a l o (ps ++ arriving ss)
+      ∙ vouches kind pid r n m x store out (slot 0 (t .frame)) w s (g .header) a l o (ps ++ arriving ss)
       ∙ ap (λ (z : List ℕ). x ++ z)
       (st .quiet-then (arriving ss) ∙ ih
       ∙ wanted-kept t ss y k (ap (λ (ns : List ℕ). cond (entire (t .arrived)) (numbered r ns (drop packetLength (t .frame))) []) numbers))

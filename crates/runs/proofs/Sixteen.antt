@@ -17,20 +17,36 @@ use Rattle.setting.specs.declared.Announced.{Announced}
 use Rattle.packet.specs.Packets.{packetLength, slot, unfit}
 use Rattle.setting.specs.Announcing.{announced}
 use Rattle.composer.specs.Composing.{saying}
+use Rattle.composer.specs.States.{composerLength}
+use Rattle.composer.specs.Calls.{startRefused}
+use Rattle.setting_bytes.specs.Words.{wordBytes}
+use Rattle.setting_bytes.specs.Kinds.{kindOf}
+use Rattle.setting_bytes.specs.Settings.{settingLength, announcedBytes, settingBytes}
+use Rattle.setting_bytes.proofs.Back.{long, length-setting, setting-back}
+use Rattle.setting.specs.Refusal.{firstOf}
+use Rattle.setting.proofs.Fields.{fit-some}
+use Rattle.slices.specs.Slices.{anyBelow, someAtLeast}
+use Rattle.bits.specs.Fields.{Fit}
 use Rattle.receiver.specs.Store.{storeLength, numbered, slotsFor}
 use Rattle.receiver.specs.Receiving.{Receiver, waiting}
+use Rattle.receiver.specs.Bytes.{receiverLength}
+use Rattle.receiver.specs.Calls.{startRefused as receiverRefused}
 use Rattle.receiver.proofs.Store.{length-numbered}
-use Rattle.runs.specs.Runs.{Call, Each, none, more, started, framesOf}
+use Rattle.runs.specs.Runs.{Call, begin, put, close, Each, none, more, started, framesOf}
 use Rattle.runs.specs.Work.{Work, numbersFilled, said, headedBehind, headed, frameOf, added, taken}
 use Rattle.runs.specs.Composed.{headedBy}
 use Rattle.runs.specs.Losses.{kept, lost, isKept, Sent, MayHappen, InARowAtMost, headerArrives, packetsArrive, arriving, Reception, afterPacket, freshWith, handedOut, entire, wanted}
-use Rattle.runs.specs.Demands.{Asked, SixteenFail, headerAlone}
+use Rattle.runs.specs.Firmware.{FirmwareCall, begins, puts, closes, OfBytes, tunedTo}
+use Rattle.runs.specs.Demands.{RunOfCalls, framesClosed, OneRun, LostOrSpoiled, FreshAndAsked, handsOut, SixteenFail, headerAlone}
 use Rattle.runs.proofs.Composed.{Good, header-read, hold, each-good}
-use Rattle.runs.proofs.Table.{Set, Plain, afterAll, StoredAll, stored-all}
+use Rattle.runs.proofs.Table.{Asked, Set, Plain, afterAll, StoredAll, stored-all}
 use Rattle.runs.proofs.Vouched.{GoodFrame, good-set, good-opens, good-numbers, Owes, nothing, something, vouches}
 use Rattle.runs.proofs.Lost.{slot-behind, arrive-plain, arrive-entire, Counted, and-then, each-append, wanted-missing}
-use Rattle.runs.proofs.Demands.{counted-run, first-of, waiting-set, waiting-stage, map-append}
-use Rattle.runs.proofs.Accepts.{plan, thePid, oneSlot, thePacket, theWork, cycles, cycles-typed, zero-numbers, works-are}
+use Rattle.runs.proofs.Values.{counted-run, first-of, waiting-set, waiting-stage, map-append}
+use Rattle.runs.proofs.Tuned.{given-out}
+use Rattle.runs.proofs.Made.{valued}
+use Rattle.runs.proofs.Demands.{run-alike, tuned-fresh, always-room}
+use Rattle.runs.proofs.Accepts.{plan, thePid, oneSlot, one-types, thePacket, theBuffer, theWork, cycles, cycles-typed, zero-numbers, works-are}
 
 -- ---- lists
 
@@ -292,8 +308,8 @@ stray-plain =
 
 stored : StoredAll Kind.Plain thePid 1 zeros 0 0 opened packets [] (opened .store)
 stored =
-    stored-all Kind.Plain thePid 1 zeros 0 0 opened packets [] (opened .store) (good-set Kind.Plain thePid 0 f₀ start start-set g₀)
-    (good-opens Kind.Plain thePid 0 f₀ start start-set g₀) (omega (arith, packets-count)) (each-append some-plain (more stray-plain none)) refl refl
+    stored-all Kind.Plain thePid 1 zeros 0 0 opened packets [] (opened .store) (good-set Kind.Plain thePid 0 (slot 0 f₀) start start-set (g₀ .header))
+    (good-opens Kind.Plain thePid 0 (slot 0 f₀) start start-set (g₀ .header)) (omega (arith, packets-count)) (each-append some-plain (more stray-plain none)) refl refl
 
 abbrev full : Reception
 full = afterAll opened packets
@@ -311,16 +327,16 @@ comes : handedOut 1 zeros (freshWith Kind.Plain thePid zeros) (arriving sent) �
 unfolding handedOut
 comes =
     ap (handedOut 1 zeros (freshWith Kind.Plain thePid zeros)) arrives
-    ∙ vouches Kind.Plain thePid 1 0 0 [] zeros zeros f₀ start start-set g₀ asked (omega arith) (nothing (waiting-stage Kind.Plain thePid) refl) (packets ++ (slot 0 f₁₇ ∷ []))
+    ∙ vouches Kind.Plain thePid 1 0 0 [] zeros zeros (slot 0 f₀) start start-set (g₀ .header) asked (omega arith) (nothing (waiting-stage Kind.Plain thePid) refl) (packets ++ (slot 0 f₁₇ ∷ []))
     ∙ stored .quiet-then (slot 0 f₁₇ ∷ [])
-    ∙ vouches Kind.Plain thePid 1 1 0 mixed zeros zeros f₁₇ full (stored .set-then) g₁₇ asked (omega arith) owes []
+    ∙ vouches Kind.Plain thePid 1 1 0 mixed zeros zeros (slot 0 f₁₇) full (stored .set-then) (g₁₇ .header) asked (omega arith) owes []
 
 -- a packet of it has number 1
-first-numbers : g₀ .setting .«relative_ts_number» ≡ numbersFilled plan (theWork .lent)
+first-numbers : g₀ .header .setting .«relative_ts_number» ≡ numbersFilled plan (theWork .lent)
 unfolding said saying theWork oneSlot
 first-numbers =
     ap (λ (x : Reading). x .setting .«relative_ts_number»)
-    (sym (g₀ .read) ∙ header-read Kind.Plain thePid h₀ (first-of (subst (Each (Good Kind.Plain thePid)) headed-is (each-good Kind.Plain thePid eighteen refl (cycles-typed 18)))))
+    (sym (g₀ .header .read) ∙ header-read Kind.Plain thePid h₀ (first-of (subst (Each (Good Kind.Plain thePid)) headed-is (each-good Kind.Plain thePid eighteen refl (cycles-typed 18)))))
 
 none-for : (n : ℕ) → slotsFor 1 (replicate n 0) ≡ 0
 unfolding slotsFor
@@ -338,7 +354,7 @@ one-slot = omega (arith, none-for 51)
 mixed-long : length mixed ≡ packetLength
 mixed-long =
     length-numbered 1 (full .state .numbers) (full .store) (omega (arith, stored .set-then .store-long, stored .set-then .numbers-long))
-    ∙ ap (λ (ns : List ℕ). packetLength * slotsFor 1 ns) (stored .numbers-then ∙ good-numbers Kind.Plain thePid 0 f₀ start start-set g₀ ∙ first-numbers ∙ one-filled)
+    ∙ ap (λ (ns : List ℕ). packetLength * slotsFor 1 ns) (stored .numbers-then ∙ good-numbers Kind.Plain thePid 0 (slot 0 f₀) start start-set (g₀ .header) ∙ first-numbers ∙ one-filled)
     ∙ omega (arith, one-slot)
 
 -- ---- nothing is wanted
@@ -366,8 +382,76 @@ nothing-wanted =
     ∙ wanted-gone (record { frame = f₁₆; fate = lost; arrived = true ∷ replicate 51 false }) (headerAlone f₁₇ ∷ []) refl
     ∙ wanted-alone (headerAlone f₁₇)
 
+-- ---- the same eighteen frames by firmware's calls
+
+unfoldable firmwareCycles : ℕ → List FirmwareCall
+firmwareCycles zero = []
+firmwareCycles (suc n) = begins (settingBytes oneSlot) theBuffer ∷ puts thePacket 1 ∷ closes ∷ firmwareCycles n
+
+setting-fits : Fit 8 (settingBytes oneSlot)
+unfolding settingBytes announcedBytes announced wordBytes oneSlot someAtLeast anyBelow
+setting-fits = fit-some 8 (settingBytes oneSlot) refl
+
+cycles-lent : (n : ℕ) → Each OfBytes (firmwareCycles n)
+unfolding firmwareCycles
+cycles-lent zero = none
+cycles-lent (suc n) = more setting-fits (more tt (more tt (cycles-lent n)))
+
+begin-valued : valued (begins (settingBytes oneSlot) theBuffer) ≡ begin theBuffer oneSlot
+begin-valued = rw (eq-eqb _ settingLength (length-setting oneSlot (long oneSlot one-types)), setting-back oneSlot one-types)
+
+cycles-valued : (n : ℕ) → map valued (firmwareCycles n) ≡ cycles n
+unfolding firmwareCycles cycles
+cycles-valued zero = refl
+cycles-valued (suc n) = ap₂ (λ (c : Call) (cs : List Call). c ∷ put thePacket 1 ∷ close ∷ cs) begin-valued (cycles-valued n)
+
+start-accepted : startRefused (replicate composerLength 0) thePid 0 ≡ 0
+unfolding startRefused firstOf
+start-accepted = refl
+
+tuned-accepted : receiverRefused (replicate receiverLength 0) thePid 0 ≡ 0
+unfolding receiverRefused firstOf
+tuned-accepted = refl
+
+abbrev theRun : RunOfCalls thePid 0
+theRun = record { state = replicate composerLength 0; accepted = start-accepted; calls = firmwareCycles 18; lent = cycles-lent 18 }
+
+plain : kindOf 0 ≡ Kind.Plain
+unfolding kindOf
+plain = refl
+
+run-frames : map (λ f. f .frame) (framesClosed theRun) ≡ [] ++ (map (λ s. s .frame) sent ++ [])
+run-frames =
+    run-alike thePid 0 theRun .0 ∙ ap₂ (λ (k : Kind) (cs : List Call). framesOf (started k thePid) cs) plain (cycles-valued 18)
+    ∙ frames-are ∙ sym (append-nil (map (λ s. s .frame) sent) ∙ sent-frames)
+
+abbrev receiverZeros : List ℕ
+receiverZeros = replicate receiverLength 0
+
+abbrev theAsk : FreshAndAsked thePid 0 1 (arriving sent)
+theAsk =
+    record {
+      state = receiverZeros;
+      accepted = tuned-accepted;
+      store = zeros;
+      store-long = asked .store-long;
+      from = asked .from;
+      to = asked .to;
+      buffers = λ n. zeros;
+      room = always-room thePid 0 1 receiverZeros zeros (λ n. zeros) (arriving sent) tuned-accepted (asked .store-long) (λ n. asked .room);
+    }
+
+-- what comes out of it is mixed
+given-mixed : handsOut theAsk ≡ mixed ++ []
+given-mixed =
+    given-out (kindOf 0) thePid 1 zeros zeros asked (tunedTo receiverZeros thePid 0 zeros) (freshWith (kindOf 0) thePid zeros)
+    (tuned-fresh receiverZeros thePid 0 zeros tuned-accepted (asked .store-long)) (λ n. zeros) (arriving sent) (theAsk .room)
+    ∙ ap (λ (k : Kind). handedOut 1 zeros (freshWith k thePid zeros) (arriving sent)) plain ∙ comes
+
 pub sixteen-fail : SixteenFail
 sixteen-fail promise =
-    let e = promise Kind.Plain thePid eighteen refl (cycles-typed 18) [] [] sent (frames-are ∙ sym (append-nil (map (λ s. s .frame) sent) ∙ sent-frames)) may-happen in-a-row 1 zeros zeros asked in
-    let l : length mixed ≡ 0 = ap length (sym (append-nil mixed) ∙ sym comes ∙ e ∙ nothing-wanted) in
+    let one : OneRun thePid 0 (map (λ s. s .frame) sent) = record { run = theRun; earlier = []; later = []; consecutive = run-frames } in
+    let lost : LostOrSpoiled 16 thePid 0 sent = record { may-happen = subst (λ (k : Kind). Each (MayHappen k thePid) sent) (sym plain) may-happen; in-a-row = in-a-row } in
+    let e = promise thePid 0 1 sent one lost theAsk ∙ ap (λ (k : Kind). wanted k thePid 1 sent) plain ∙ nothing-wanted in
+    let l : length mixed ≡ 0 = ap length (sym (append-nil mixed) ∙ sym given-mixed ∙ e) in
     omega (arith, l, mixed-long)

@@ -11,7 +11,7 @@ use lib.ListN.{length, take, drop, length-append, length-drop}
 use lib.Seq.{length-take-le, take-at, drop-append-add, drop-drop}
 use Rattle.bits.specs.Fields.{Fit}
 use Rattle.setting.specs.declared.Kind.{Kind}
-use Rattle.counters.specs.Counters.{lastSlot}
+use Rattle.counters.specs.Counters.{firstStream, lastStream, lastSlot}
 use Rattle.setting.specs.Refusal.{NoneHolds, none, more, leaves}
 use Rattle.setting.specs.Rules.{pidAllowed}
 use Rattle.setting.proofs.Refusals.{first-none, none-append}
@@ -32,6 +32,13 @@ use Rattle.runs.specs.Runs.{Each, none, more}
 use Rattle.runs.specs.Losses.{Reception, afterPacket, handed, handedOut}
 
 -- ---- a state that is in range
+
+-- a stream number, a store, and a buffer with room for every packet of a frame
+pub record Asked (r : ℕ) (store out : List ℕ) : Type 0 where
+  pub from : firstStream ≤ r
+  pub to : r ≤ lastStream
+  pub store-long : length store ≡ storeLength
+  pub room : storeLength ≤ length out
 
 -- a frame is open behind a header with this counter, k packets stored
 pub data Opens : Stage → ℕ → ℕ → Type 0 where

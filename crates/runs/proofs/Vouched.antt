@@ -30,12 +30,11 @@ use Rattle.receiver.specs.Arriving.{sortOf, storeAfter}
 use Rattle.receiver.specs.Receiving.{renumbered, receiverAfter, rowFor, receiveOf, handOutRefusal, handOutOf, handOutBuffer}
 use Rattle.receiver.proofs.Store.{length-numbered}
 use Rattle.runs.specs.Losses.{Reception, afterPacket, handed, handedOut}
-use Rattle.runs.specs.Demands.{Asked}
-use Rattle.runs.proofs.Table.{Opens, open-at, ready-at, InRange, waits, opens, Set, state-none, event-is, after-is, row-opens}
+use Rattle.runs.proofs.Table.{Asked, Opens, open-at, ready-at, InRange, waits, opens, Set, state-none, event-is, after-is, row-opens}
 
 -- ---- hand out
 
-for-at-most : (r : ℕ) (ns : List ℕ) → slotsFor r ns ≤ length ns
+pub for-at-most : (r : ℕ) (ns : List ℕ) → slotsFor r ns ≤ length ns
 unfolding slotsFor
 for-at-most r [] = omega arith
 for-at-most r (n ∷ ns) = by-test (eqb n r) (for-at-most r ns)
@@ -44,38 +43,54 @@ for-at-most r (n ∷ ns) = by-test (eqb n r) (for-at-most r ns)
     by-test true h = omega arith
     by-test false h = omega arith
 
+-- a number and a buffer that the ready frame's packets with this number go into
+pub record Fits (r : ℕ) (out : List ℕ) (w : Reception) : Type 0 where
+  pub from : firstStream ≤ r
+  pub to : r ≤ lastStream
+  pub room : packetLength * slotsFor r (w .state .before) ≤ length out
+
+-- a buffer with room for every packet of a frame has room for those
+pub fits-all : (kind : Kind) (pid r : ℕ) (store out : List ℕ) (w : Reception) → Set kind pid w → Asked r store out → Fits r out w
+fits-all kind pid r store out w s a =
+    let most : slotsFor r (w .state .before) ≤ length (w .state .before) = for-at-most r (w .state .before) in
+    record { from = a .from; to = a .to; room = omega (arith, a .room, most, s .before-long) }
+
 -- it is not refused where a frame is ready
-not-refused : (kind : Kind) (pid r n : ℕ) (store out : List ℕ) (w : Reception) → Set kind pid w → Asked r store out → w .state .stage ≡ Stage.Ready n
+pub not-refused : (kind : Kind) (pid r : ℕ) (out : List ℕ) (w : Reception) → Set kind pid w → Fits r out w → isReady (w .state .stage) ≡ true
     → handOutRefusal (w .state) r (length (w .store)) (length out) ≡ 0
 unfolding handOutRefusal
-not-refused kind pid r n store out w s a e =
-    let most : slotsFor r (w .state .before) ≤ length (w .state .before) = for-at-most r (w .state .before) in
+not-refused kind pid r out w s a e =
     first-none
     (more (ap not (eq-eqb (length (w .store)) storeLength (s .store-long)))
     (none-append (state-none kind pid w s)
     (more (rw (le-leb firstStream r (a .from), le-leb r lastStream (a .to)))
-    (more (ap (λ (x : Stage). not (isReady x)) e)
-    (more (le-ltb (length out) (packetLength * slotsFor r (w .state .before)) (omega (arith, a .room, most, s .before-long))) none)))))
+    (more (ap not e)
+    (more (le-ltb (length out) (packetLength * slotsFor r (w .state .before)) (a .room)) none)))))
 
 -- a ready frame's packets with number r
-pub handed-is : (kind : Kind) (pid r n : ℕ) (store out : List ℕ) (w : Reception) → Set kind pid w → Asked r store out → w .state .stage ≡ Stage.Ready n
+pub handed-is : (kind : Kind) (pid r : ℕ) (out : List ℕ) (w : Reception) → Set kind pid w → Fits r out w → isReady (w .state .stage) ≡ true
     → handed r out w ≡ numbered r (w .state .before) (w .store)
 unfolding handed handOutOf handOutBuffer leaves over
-handed-is kind pid r n store out w s a e =
+handed-is kind pid r out w s a e =
     let whole : length (numbered r (w .state .before) (w .store)) ≡ packetLength * slotsFor r (w .state .before) =
     length-numbered r (w .state .before) (w .store) (omega (arith, s .store-long, s .before-long)) in
-    rw (not-refused kind pid r n store out w s a e) (take-at (numbered r (w .state .before) (w .store)) (drop (0 + length (numbered r (w .state .before) (w .store))) out) (packetLength * slotsFor r (w .state .before)) whole)
+    rw (not-refused kind pid r out w s a e) (take-at (numbered r (w .state .before) (w .store)) (drop (0 + length (numbered r (w .state .before) (w .store))) out) (packetLength * slotsFor r (w .state .before)) whole)
 
 -- ---- the header of a frame that a run closed
 
--- such a frame: its header is accepted and has this counter, and none of its packets is broken or a header
-pub record GoodFrame (kind : Kind) (pid n : ℕ) (f : List ℕ) : Type 0 where
+-- an accepted header: this counter, and numbers in range
+pub record GoodHeader (kind : Kind) (pid n : ℕ) (p : List ℕ) : Type 0 where
   pub setting : Setting
-  pub read : readOf kind pid (slot 0 f) ≡ record { refusal = 0; setting = setting }
+  pub read : readOf kind pid p ≡ record { refusal = 0; setting = setting }
   pub counter : setting .«continuity_counter» ≡ n
   pub small : n < 2 ^ 4
   pub numbers-fit : Fit 4 (setting .«relative_ts_number»)
   pub numbers-long : length (setting .«relative_ts_number») ≡ lastSlot
+  pub long : length p ≡ packetLength
+
+-- a frame with such a header, of whose packets none is broken or a header
+pub record GoodFrame (kind : Kind) (pid n : ℕ) (f : List ℕ) : Type 0 where
+  pub header : GoodHeader kind pid n (slot 0 f)
   pub long : length f ≡ frameLength
   pub fit : (i : ℕ) → i < lastSlot → unfit pid (slot i (drop packetLength f)) ≡ false
 
@@ -87,60 +102,53 @@ accepted-reading kind pid p s e =
     let t : cond (eqb (readRefusal kind pid p) 0) (reading kind p) _ ≡ s = ap (λ (x : Reading). x .setting) e in
     (z, sym (rw z) ∙ t)
 
-length-first : (f : List ℕ) → length f ≡ frameLength → length (slot 0 f) ≡ packetLength
-unfolding slot
-length-first f h = length-take-le packetLength f (omega arith)
+module _ (kind : Kind) (pid n : ℕ) (p : List ℕ) (w : Reception) (s : Set kind pid w) (g : GoodHeader kind pid n p) where
+  facts : (readRefusal kind pid p ≡ 0) × (reading kind p ≡ g .setting)
+  facts = accepted-reading kind pid p (g .setting) (g .read)
 
-module _ (kind : Kind) (pid n : ℕ) (f : List ℕ) (w : Reception) (s : Set kind pid w) (g : GoodFrame kind pid n f) where
-  first : length (slot 0 f) ≡ packetLength
-  first = length-first f (g .long)
-
-  facts : (readRefusal kind pid (slot 0 f) ≡ 0) × (reading kind (slot 0 f) ≡ g .setting)
-  facts = accepted-reading kind pid (slot 0 f) (g .setting) (g .read)
-
-  good-sort : sortOf (w .state .kind) (w .state .pid) (slot 0 f) ≡ good
+  good-sort : sortOf (w .state .kind) (w .state .pid) p ≡ good
   unfolding sortOf
   good-sort =
-      ap₂ (λ (a : Kind) (b : ℕ). cond (eqb (readRefusal a b (slot 0 f)) 0) good (cond (unfit b (slot 0 f)) broken other)) (s .kind-is) (s .pid-is)
-      ∙ ap (λ (x : ℕ). cond (eqb x 0) good (cond (unfit pid (slot 0 f)) broken other)) (facts .0)
+      ap₂ (λ (a : Kind) (b : ℕ). cond (eqb (readRefusal a b p) 0) good (cond (unfit b p) broken other)) (s .kind-is) (s .pid-is)
+      ∙ ap (λ (x : ℕ). cond (eqb x 0) good (cond (unfit pid p) broken other)) (facts .0)
 
-  said-is : reading (w .state .kind) (slot 0 f) ≡ g .setting
-  said-is = ap (λ (a : Kind). reading a (slot 0 f)) (s .kind-is) ∙ facts .1
+  said-is : reading (w .state .kind) p ≡ g .setting
+  said-is = ap (λ (a : Kind). reading a p) (s .kind-is) ∙ facts .1
 
-  good-row : rowFor (w .state) (slot 0 f) ≡ rowOf (w .state .stage) good n
+  good-row : rowFor (w .state) p ≡ rowOf (w .state .stage) good n
   unfolding rowFor
   good-row = ap₂ (λ (a : Sort) (b : ℕ). rowOf (w .state .stage) a b) good-sort (ap (λ (x : Setting). x .«continuity_counter») said-is ∙ g .counter)
 
-  pub good-after : afterPacket w (slot 0 f)
+  pub good-after : afterPacket w p
       ≡ record { state = renumbered (w .state) (rowOf (w .state .stage) good n .stage) (g .setting .«relative_ts_number»); store = w .store }
   unfolding receiverAfter storeAfter
   good-after =
-      after-is kind pid w s (slot 0 f) first
+      after-is kind pid w s p (g .long)
       ∙ ap₂ (λ (a : Sort) (r : Row). record {
-        state = receiverAfter (w .state) a (r .stage) (reading (w .state .kind) (slot 0 f) .«relative_ts_number»);
-        store = storeAfter (w .state .stage) a (slot 0 f) (w .store);
+        state = receiverAfter (w .state) a (r .stage) (reading (w .state .kind) p .«relative_ts_number»);
+        store = storeAfter (w .state .stage) a p (w .store);
       }) good-sort good-row
       ∙ ap (λ (x : Setting). record {
         state = renumbered (w .state) (rowOf (w .state .stage) good n .stage) (x .«relative_ts_number»);
         store = w .store;
       }) said-is
 
-  pub good-event : receiveOf (w .state) (slot 0 f) (length (w .store)) .event ≡ rowOf (w .state .stage) good n .event
-  good-event = event-is kind pid w s (slot 0 f) first ∙ ap (λ (r : Row). r .event) good-row
+  pub good-event : receiveOf (w .state) p (length (w .store)) .event ≡ rowOf (w .state .stage) good n .event
+  good-event = event-is kind pid w s p (g .long) ∙ ap (λ (r : Row). r .event) good-row
 
   -- its frame is open, by its own numbers
-  pub good-numbers : afterPacket w (slot 0 f) .state .numbers ≡ g .setting .«relative_ts_number»
+  pub good-numbers : afterPacket w p .state .numbers ≡ g .setting .«relative_ts_number»
   unfolding renumbered
   good-numbers = ap (λ (v : Reception). v .state .numbers) good-after
 
-  pub good-store : afterPacket w (slot 0 f) .store ≡ w .store
+  pub good-store : afterPacket w p .store ≡ w .store
   good-store = ap (λ (v : Reception). v .store) good-after
 
-  good-stage : afterPacket w (slot 0 f) .state .stage ≡ rowOf (w .state .stage) good n .stage
+  good-stage : afterPacket w p .state .stage ≡ rowOf (w .state .stage) good n .stage
   unfolding renumbered
   good-stage = ap (λ (v : Reception). v .state .stage) good-after
 
-  good-before : afterPacket w (slot 0 f) .state .before ≡ w .state .numbers
+  good-before : afterPacket w p .state .before ≡ w .state .numbers
   unfolding renumbered
   good-before = ap (λ (v : Reception). v .state .before) good-after
 
@@ -153,10 +161,10 @@ module _ (kind : Kind) (pid n : ℕ) (f : List ℕ) (w : Reception) (s : Set kin
       either true = ready-at n
       either false = open-at n 0
 
-  pub good-opens : Opens (afterPacket w (slot 0 f) .state .stage) n 0
+  pub good-opens : Opens (afterPacket w p .state .stage) n 0
   good-opens = subst (λ (x : Stage). Opens x n 0) (sym good-stage) (opens-row (s .stage-is))
 
-  pub good-set : Set kind pid (afterPacket w (slot 0 f))
+  pub good-set : Set kind pid (afterPacket w p)
   unfolding renumbered
   good-set =
       subst (Set kind pid) (sym good-after)
@@ -209,10 +217,10 @@ waiting-event : (n : ℕ) → makesReady (rowOf Stage.Waiting good n .event) ≡
 unfolding rowOf
 waiting-event n = refl
 
-module _ (kind : Kind) (pid r n m : ℕ) (x store out f : List ℕ) (w : Reception) (s : Set kind pid w) (g : GoodFrame kind pid n f) (a : Asked r store out)
+module _ (kind : Kind) (pid r n m : ℕ) (x store out p : List ℕ) (w : Reception) (s : Set kind pid w) (g : GoodHeader kind pid n p) (a : Asked r store out)
     (l : m ≤ 15) where
   abbrev next : Reception
-  next = afterPacket w (slot 0 f)
+  next = afterPacket w p
 
   -- what comes out is what was owed
   given : Owes r n m x w → cond (makesReady (rowOf (w .state .stage) good n .event)) (handed r out next) [] ≡ x
@@ -229,16 +237,17 @@ module _ (kind : Kind) (pid r n m : ℕ) (x store out f : List ℕ) (w : Recepti
       by-test true t =
           let v : rowOf (w .state .stage) good n ≡ row Event.Ready (Stage.Ready n) = the-row ∙ vouched-row from k n (same ∙ t) in
           ap (λ (y : Row). cond (makesReady (y .event)) (handed r out next) []) v
-          ∙ handed-is kind pid r n store out next (good-set kind pid n f w s g) a (good-stage kind pid n f w s g ∙ ap (λ (y : Row). y .stage) v)
-          ∙ ap₂ (numbered r) (good-before kind pid n f w s g) (good-store kind pid n f w s g)
+          ∙ handed-is kind pid r out next (good-set kind pid n p w s g) (fits-all kind pid r store out next (good-set kind pid n p w s g) a)
+          (ap isReady (good-stage kind pid n p w s g ∙ ap (λ (y : Row). y .stage) v))
+          ∙ ap₂ (numbered r) (good-before kind pid n p w s g) (good-store kind pid n p w s g)
           ∙ sym (z ∙ ap (λ (b : Bool). cond b (numbered r (w .state .numbers) (w .store)) []) t)
       by-test false t =
           ap (λ (y : Row). cond (makesReady (y .event)) (handed r out next) []) the-row
           ∙ ap (λ (b : Bool). cond b (handed r out next) []) (unvouched-event from k n (same ∙ t))
           ∙ sym (z ∙ ap (λ (b : Bool). cond b (numbered r (w .state .numbers) (w .store)) []) t)
 
-  pub vouches : Owes r n m x w → (ps : List (List ℕ)) → handedOut r out w (slot 0 f ∷ ps) ≡ x ++ handedOut r out next ps
+  pub vouches : Owes r n m x w → (ps : List (List ℕ)) → handedOut r out w (p ∷ ps) ≡ x ++ handedOut r out next ps
   unfolding handedOut
   vouches o ps =
-      ap (λ (y : Event). cond (makesReady y) (handed r out next) [] ++ handedOut r out next ps) (good-event kind pid n f w s g)
+      ap (λ (y : Event). cond (makesReady y) (handed r out next) [] ++ handedOut r out next ps) (good-event kind pid n p w s g)
       ∙ ap (λ (y : List ℕ). y ++ handedOut r out next ps) (given o)

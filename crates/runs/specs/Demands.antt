@@ -1,39 +1,77 @@
--- Demands 2 and 3 over frames, as statements over what the calls answer and leave. The proofs stand apart.
+-- Demands 2 and 3 over frames, as statements over what the calls of the C header answer and leave, from the start on. The proofs stand
+-- apart.
 use Prim.Native.Nat.{ℕ, _*_, _≤_}
 use mathlib.Core.Path.{_≡_}
 use mathlib.Core.Bool.{true, false}
 use mathlib.Core.List.{List, [], _∷_, _++_, map}
-use lib.ListN.{length, take, replicate}
-use Rattle.setting.specs.declared.Kind.{Kind}
-use Rattle.setting.specs.declared.Setting.{Setting}
+use lib.ListN.{length, replicate}
+use Rattle.setting_bytes.specs.Kinds.{kindOf}
 use Rattle.counters.specs.Counters.{firstStream, lastStream, lastSlot}
-use Rattle.setting.specs.Rules.{pidAllowed}
 use Rattle.packet.specs.Packets.{packetLength}
-use Rattle.receiver.specs.Store.{storeLength, slotsFor}
-use Rattle.runs.specs.Runs.{Call, Each, OfTypes, started, framesOf}
-use Rattle.runs.specs.Work.{Work, frameOf}
-use Rattle.runs.specs.Composed.{headedBy}
-use Rattle.runs.specs.Losses.{kept, Sent, MayHappen, InARowAtMost, arriving, freshWith, handedOut, wanted}
+use Rattle.composer.specs.Calls.{startRefused}
+use Rattle.receiver.specs.Store.{storeLength}
+use Rattle.receiver.specs.Calls.{startRefused as receiverRefused}
+use Rattle.runs.specs.Runs.{Each}
+use Rattle.runs.specs.Firmware.{FirmwareCall, OfBytes, startedAs, Closed, closedFrames, Demultiplexer, tunedTo, givenOut, WithRoom}
+use Rattle.runs.specs.Losses.{kept, Sent, MayHappen, InARowAtMost, arriving, wanted}
 
--- a stream number, a store, and a buffer with room for every packet of a frame
-pub record Asked (r : ℕ) (store out : List ℕ) : Type 0 where
+-- A run: the composer was started with this PID and this kind, and any calls followed
+pub record RunOfCalls (pid kind : ℕ) : Type 0 where
+  pub state : List ℕ
+  pub accepted : startRefused state pid kind ≡ 0
+  pub calls : List FirmwareCall
+  pub lent : Each OfBytes calls
+
+-- the frames that it closed
+abbrev pub framesClosed : {pid kind : ℕ} → RunOfCalls pid kind → List Closed
+framesClosed {pid} {kind} run = closedFrames (startedAs (run .state) pid kind) (run .calls)
+
+-- ---- demand 3, clause by clause
+
+-- 'Take one run of consecutive frames from our multiplexer, with one header PID and one kind of header.'
+pub record OneRun (pid kind : ℕ) (frames : List (List ℕ)) : Type 0 where
+  pub run : RunOfCalls pid kind
+  pub earlier : List (List ℕ)
+  pub later : List (List ℕ)
+  pub consecutive : map (λ f. f .frame) (framesClosed run) ≡ earlier ++ (frames ++ later)
+
+-- 'Lose whole packets anywhere and spoil any headers so that the reader refuses them, but never more than fifteen headers in a row lost
+-- or spoiled.' The fifteen is a parameter
+pub record LostOrSpoiled (limit pid kind : ℕ) (sent : List Sent) : Type 0 where
+  pub may-happen : Each (MayHappen (kindOf kind) pid) sent
+  pub in-a-row : InARowAtMost limit sent
+
+-- 'A fresh receiver set to both, and asked once, with room, for each stream number at every ready frame,'
+pub record FreshAndAsked (pid kind r : ℕ) (packets : List (List ℕ)) : Type 0 where
+  pub state : List ℕ
+  pub accepted : receiverRefused state pid kind ≡ 0
+  pub store : List ℕ
+  pub store-long : length store ≡ storeLength
   pub from : firstStream ≤ r
   pub to : r ≤ lastStream
-  pub store-long : length store ≡ storeLength
-  pub room : storeLength ≤ length out
+  pub buffers : ℕ → List ℕ
+  pub room : WithRoom r buffers (tunedTo state pid kind store) packets
 
--- Demand 3. 'Take one run of consecutive frames from our multiplexer, with one header PID and one kind of header' (any stretch of the
--- frames that any calls close). 'Lose whole packets anywhere and spoil any headers so that the reader refuses them, but never more than
--- fifteen headers in a row lost or spoiled. A fresh receiver set to both, and asked once, with room, for each stream number at every
--- ready frame, then hands out, under each number, exactly the packets of those frames that arrived entire and unspoiled with the next
--- frame's good header directly behind them, in order, and nothing besides.'
+-- what it then hands out
+abbrev pub handsOut : {pid kind r : ℕ} {packets : List (List ℕ)} → FreshAndAsked pid kind r packets → List ℕ
+handsOut {pid} {kind} {r} {packets} a = givenOut r (a .buffers) (tunedTo (a .state) pid kind (a .store)) packets
+
+-- buffers for all packets of a frame always have room
+abbrev pub AlwaysRoom : Type 0
+AlwaysRoom =
+    (pid kind r : ℕ) (state store : List ℕ) (buffers : ℕ → List ℕ) (packets : List (List ℕ))
+    → receiverRefused state pid kind ≡ 0 → length store ≡ storeLength → ((n : ℕ) → storeLength ≤ length (buffers n))
+    → WithRoom r buffers (tunedTo state pid kind store) packets
+
+-- 'then hands out, under each number, exactly the packets of those frames that arrived entire and unspoiled with the next frame's good
+-- header directly behind them, in order, and nothing besides.'
 abbrev pub NothingMixed : ℕ → Type 0
 NothingMixed limit =
-    (kind : Kind) (pid : ℕ) (calls : List Call) → pidAllowed pid ≡ true → Each OfTypes calls
-    → (before after : List (List ℕ)) (sent : List Sent) → framesOf (started kind pid) calls ≡ before ++ (map (λ s. s .frame) sent ++ after)
-    → Each (MayHappen kind pid) sent → InARowAtMost limit sent
-    → (r : ℕ) (store out : List ℕ) → Asked r store out
-    → handedOut r out (freshWith kind pid store) (arriving sent) ≡ wanted kind pid r sent
+    (pid kind r : ℕ) (sent : List Sent)
+    → OneRun pid kind (map (λ s. s .frame) sent)
+    → LostOrSpoiled limit pid kind sent
+    → (a : FreshAndAsked pid kind r (arriving sent))
+    → handsOut a ≡ wanted (kindOf kind) pid r sent
 
 abbrev pub DemandThree : Type 0
 DemandThree = NothingMixed 15
@@ -42,6 +80,8 @@ DemandThree = NothingMixed 15
 abbrev pub SixteenFail : Type 0
 SixteenFail = NothingMixed 16 → ⊥
 
+-- ---- demand 2: 'Placed packets, received without loss and with their run's next header behind the frame, come out packet for packet'
+
 -- a frame of which everything arrives, and one of which the header alone is awaited
 abbrev pub whole : List ℕ → Sent
 whole frame = record { frame = frame; fate = kept; arrived = replicate lastSlot true }
@@ -49,27 +89,24 @@ whole frame = record { frame = frame; fate = kept; arrived = replicate lastSlot 
 abbrev pub headerAlone : List ℕ → Sent
 headerAlone frame = record { frame = frame; fate = kept; arrived = replicate lastSlot false }
 
--- Demand 2. 'Placed packets, received without loss and with their run's next header behind the frame, come out packet for packet': of any
--- frame of any run, under each number, the front of what was lent for it, as many packets as it has slots, or all
+-- of any frame of any run, under each number, what its puts placed; and it is as many packets as they answered, summed
 abbrev pub PacketForPacket : Type 0
 PacketForPacket =
-    (kind : Kind) (pid : ℕ) (calls : List Call) → pidAllowed pid ≡ true → Each OfTypes calls
-    → (before after : List (Setting × Work)) (h next : Setting × Work) → headedBy kind pid calls ≡ before ++ (h ∷ next ∷ after)
-    → (r : ℕ) (store out : List ℕ) → Asked r store out
-    → handedOut r out (freshWith kind pid store) (arriving (whole (frameOf kind pid h) ∷ headerAlone (frameOf kind pid next) ∷ []))
-    ≡ take (packetLength * slotsFor r (h .1 .setting .«relative_ts_number»)) (h .1 .lent r)
+    (pid kind r : ℕ) (run : RunOfCalls pid kind) (earlier later : List Closed) (f next : Closed)
+    → framesClosed run ≡ earlier ++ (f ∷ next ∷ later)
+    → (a : FreshAndAsked pid kind r (arriving (whole (f .frame) ∷ headerAlone (next .frame) ∷ [])))
+    → (handsOut a ≡ f .placed r) × (length (handsOut a) ≡ packetLength * f .count r)
 
 -- what was placed under number r in all frames but the last, one behind the other
-unfoldable pub placedIn : ℕ → List (Setting × Work) → List ℕ
+unfoldable pub placedIn : ℕ → List Closed → List ℕ
 placedIn r [] = []
-placedIn r (h ∷ []) = []
-placedIn r (h ∷ next ∷ hs) =
-    take (packetLength * slotsFor r (h .1 .setting .«relative_ts_number»)) (h .1 .lent r) ++ placedIn r (next ∷ hs)
+placedIn r (f ∷ []) = []
+placedIn r (f ∷ next ∷ fs) = f .placed r ++ placedIn r (next ∷ fs)
 
 -- and so it is frame after frame: a whole run, received without loss, gives under each number what was placed in all its frames but the
 -- last, which no header vouches for
 abbrev pub RunForRun : Type 0
 RunForRun =
-    (kind : Kind) (pid : ℕ) (calls : List Call) → pidAllowed pid ≡ true → Each OfTypes calls
-    → (r : ℕ) (store out : List ℕ) → Asked r store out
-    → handedOut r out (freshWith kind pid store) (arriving (map whole (framesOf (started kind pid) calls))) ≡ placedIn r (headedBy kind pid calls)
+    (pid kind r : ℕ) (run : RunOfCalls pid kind)
+    → (a : FreshAndAsked pid kind r (arriving (map (λ f. whole (f .frame)) (framesClosed run))))
+    → handsOut a ≡ placedIn r (framesClosed run)

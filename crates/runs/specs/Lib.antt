@@ -3,4 +3,6 @@ pub mod Runs
 pub mod Work
 pub mod Composed
 pub mod Losses
+pub mod Firmware
 pub mod Demands
+pub mod Accepted
