@@ -1,11 +1,11 @@
 -- The header's layout: 01's table, row under row.
-use Prim.Native.Nat.{ℕ, suc, _*_}
+use Prim.Native.Nat.{ℕ, suc, _*_, _/_}
 use mathlib.Core.Bool.{cond, decide}
 use mathlib.Core.List.{List, [], _∷_, _++_, map}
 use Rattle.setting.specs.declared.Kind.{Kind}
 use Rattle.counters.specs.Counters.{lastSlot, lastStream}
 use Rattle.setting.specs.Setting.{privateBytes, auxiliaryBytes}
-use Rattle.header_layout.specs.Rows.{Row}
+use Rattle.header_layout.specs.Rows.{Row, place}
 
 -- sync_byte
 abbrev pub syncByte : ℕ
@@ -75,3 +75,7 @@ layout kind = rowsOf (table kind)
 unfoldable pub rowWith : Field → List Line → ℕ
 rowWith f [] = 0
 rowWith f (l ∷ ls) = cond (decide (Field-discrete f (l .0))) 0 (suc (rowWith f ls))
+
+-- the byte at which the slots' numbers start: the bits of the rows before them, which both kinds have, divided by 8
+unfoldable pub numbersStart : ℕ
+numbersStart = place (layout Kind.Plain) (rowWith Field.numbers (table Kind.Plain)) / 8
