@@ -15,7 +15,7 @@ syncByte = 0x47
 abbrev pub tsmfSync : ℕ
 tsmfSync = 0x1A86
 
--- so many of an extended header's private bytes are reserved: the last ones
+-- how many of an extended header's private bytes are reserved, at their end
 abbrev pub reservedBytes : ℕ
 reservedBytes = 53
 
@@ -28,7 +28,7 @@ pub data Field : Type 0 where
   privates auxiliary group carriers sequence frames position : Field
   deriving Discrete as Field-discrete
 
--- a line of the table: what the row holds, and the row: bits of a value, and how many values
+-- a line of the table: what its row holds, and the row itself: the bits of a value, and how many values
 abbrev pub Line : Type 0
 Line = Field × Row
 
