@@ -12,7 +12,7 @@ use Rattle.bond.specs.declared.Moved.{Moved}
 use Rattle.bond_group.specs.Group.{order}
 use Rattle.bond_group.specs.Standing.{planChecks, someCarries}
 
--- what a spread asks: 1 of the stream, all that is asked of the group, then 13, 15 and 12
+-- the checks of a spread: 1 for the stream's length, all checks of the group, then 13, 15 and 12
 unfoldable pub spreadChecks : Bond → List ℕ → List ℕ → List Check
 spreadChecks b group stream =
     (1, not (eqb (length stream % packetLength) 0))
@@ -22,7 +22,7 @@ spreadChecks b group stream =
     ∷ (12, someUnfitIn (b .pid) stream)
     ∷ []))
 
--- what a gather into so many bytes asks: all that is asked of the group, then 13 and 15
+-- the checks of a gather into a buffer of so many bytes: all checks of the group, then 13 and 15
 unfoldable pub gatherChecks : Bond → List ℕ → ℕ → List Check
 gatherChecks b group out =
     planChecks b group ++ ((13, not (someCarries b group)) ∷ (15, ltb out (packetLength * length (order b group))) ∷ [])
@@ -62,7 +62,7 @@ gatherRefusal b group out = firstOf (gatherChecks b group out)
 unfoldable pub gatherOf : Bond → List ℕ → ℕ → Moved
 gatherOf b group out = answered (gatherRefusal b group out) (length (order b group))
 
--- what a gather leaves in the lent buffer
+-- what a gather leaves in the output buffer
 unfoldable pub gatherBuffer : Bond → List ℕ → List ℕ → List ℕ
 gatherBuffer b group out =
     cond (eqb (gatherRefusal b group (length out)) 0) (copied out (gathered (order b group) group)) out

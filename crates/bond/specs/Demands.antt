@@ -24,8 +24,8 @@ pub record Fitting (b : Bond) (group stream : List ℕ) : Type 0 where
   pub exact : length stream ≡ packetLength * length (order b group)
   pub good : (k : ℕ) → k < length (order b group) → unfit (b .pid) (slot k stream) ≡ false
 
--- 'a bonded stream comes back from its carriers in its first order': spread and then gathered, with room, it stands at the front of the
--- buffer, whose rest stays, and both answer how many packets it has
+-- 'a bonded stream comes back from its carriers in its first order': spread and then gathered, into a buffer that is large
+-- enough, it stands at the front of the buffer, the rest of which stays as it was; both calls answer how many packets it has
 abbrev pub ComesBack : Type 0
 ComesBack =
     (b : Bond) (group stream out : List ℕ) → WellFormed b group → Fitting b group stream → length stream ≤ length out
@@ -39,7 +39,7 @@ InThisOrder =
     (b : Bond) (group stream : List ℕ) → WellFormed b group → Fitting b group stream
     → (k : ℕ) → k < length (order b group) → slot (getD (order b group) k 0) (spreadGroup b group stream) ≡ slot k stream
 
--- 'and nothing else': headers and all other slots stay, whatever is lent
+-- 'and nothing else': headers and all other slots stay as they were, whatever the buffers hold
 abbrev pub NothingElse : Type 0
 NothingElse =
     (b : Bond) (group stream : List ℕ)
@@ -47,7 +47,7 @@ NothingElse =
     × ((m : ℕ) → bonded b group m ≡ false → slot m (spreadGroup b group stream) ≡ slot m group)
     × ((j : ℕ) → slot (framePackets * j) (spreadGroup b group stream) ≡ slot (framePackets * j) group)
 
--- the order that they follow: each of the packets comes before all behind it, and they are the bonded ones, all of them
+-- the order holds: each packet comes before all those behind it in the list, and the list has exactly the bonded packets
 abbrev pub OrderHolds : Type 0
 OrderHolds =
     (b : Bond) (group : List ℕ) → WellFormed b group

@@ -1,4 +1,4 @@
-// What each call asks of what it is lent, in the table's order, but for the headers.
+// What each call checks of its buffers, in the order of the table of refusals. The headers are checked elsewhere.
 use packet::PACKET_BYTES;
 ghost use mathlib.Core.Path.{_≡_};
 ghost use mathlib.Core.Bool.{not};
@@ -9,7 +9,7 @@ ghost use lib.ListN.{length};
 ghost use Rattle.setting.specs.Refusal.{firstOf};
 ghost use Rattle.packet.specs.Packets.{packetLength, someUnfitIn};
 
-// 13, 15, 12: the stream by the plan.
+// Refusals 13, 15 and 12: the stream, compared with the plan.
 pub(crate) fn spread_refusal(is_carried: bool, packets: usize, stream: &[u8], pid: u16) -> u8
     requires { ⌜ length (now stream) % packetLength ≡ 0 ⌝ }
     ensures { λ r. ⌜ r ≡ firstOf ((13, not («is_carried»)) ∷ (15, not (eqb (length (now (stream .entry))) (packetLength * packets))) ∷ (12, someUnfitIn pid (now (stream .entry))) ∷ []) ⌝ }
@@ -26,7 +26,7 @@ pub(crate) fn spread_refusal(is_carried: bool, packets: usize, stream: &[u8], pi
     0
 }
 
-// 13, 15: the lent buffer by the plan.
+// Refusals 13 and 15: the output buffer, compared with the plan.
 pub(crate) fn gather_refusal(is_carried: bool, packets: usize, out: usize) -> u8
     ensures { λ r. ⌜ r ≡ firstOf ((13, not («is_carried»)) ∷ (15, ltb out (packetLength * packets)) ∷ []) ⌝ }
 {

@@ -1,4 +1,4 @@
-// One stream over bonded carriers: spread over the slots of their super frames, and gathered again in its first order.
+// One stream over bonded carriers: spread over the slots of their super frames, and gathered again in its original order.
 mod checks;
 mod moving;
 mod rounds;
@@ -9,7 +9,7 @@ ghost use mathlib.Core.Path.{_≡_};
 ghost use lib.ListN.{length};
 ghost use Rattle.bond.specs.Bonding.{spreadOf, spreadGroup, gatherOf, gatherBuffer};
 
-// What a spread or a gather answers: refusal 0 and how many packets, or the refusal's number and 0.
+// What a spread or a gather answers: refusal 0 and the number of packets, or the refusal's number and 0.
 pub struct Moved {
     pub refusal: u8,
     pub packets: usize,
@@ -50,7 +50,7 @@ pub fn spread(group: &mut [u8], stream: &[u8], b: Bond) -> Moved
     }
 }
 
-// Copies the bonded slots of the group, in order, to the front of the lent buffer.
+// Copies the bonded slots of the group, in order, to the front of the output buffer.
 pub fn gather(group: &[u8], out: &mut [u8], b: Bond) -> Moved
     ensures { λ r. ⌜ r ≡ gatherOf b (now (group .entry)) (length (now (out .entry))) ⌝ }
     ensures { λ _. ⌜ now (out .exit) ≡ gatherBuffer b (now (group .entry)) (now (out .entry)) ⌝ }

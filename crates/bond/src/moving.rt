@@ -1,4 +1,4 @@
-// A stream's packets to and from the marked places of a group.
+// Moves a stream's packets to and from the marked places of a group.
 use crate::rounds;
 use crate::rounds::LISTED;
 use packet::PACKET_BYTES;
@@ -10,7 +10,7 @@ ghost use Rattle.packet.specs.Packets.{packetLength};
 ghost use Rattle.bond.specs.Bonding.{spreadOver, gathered};
 ghost use Rattle.bond.specs.Listing.{Within, placesFrom, Listable};
 
-// Copies a packet of `from` that starts at one place over that of `to` which starts at another.
+// Copies the packet that starts at `place` in `from` over the one that starts at `at` in `to`.
 fn move_packet(to: &mut [u8], at: usize, from: &[u8], place: usize)
     requires { ⌜ (at + packetLength ≤ length (now to)) × (place + packetLength ≤ length (now from)) ⌝ }
     ensures { λ _. ⌜ now (to .exit) ≡ over at (take packetLength (drop place (now (from .entry)))) (now (to .entry)) ⌝ }

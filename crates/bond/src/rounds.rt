@@ -1,5 +1,6 @@
-// The marked places of a group as a list, in order. A round is twelve twelfths of the super frame. A carrier with F frames has F places in
-// it, in each round the same ones and F further on: so those of one round are noted, and gone through once for each round.
+// The marked places of a group as a list, in order. A super frame is 53 rounds, and a round is twelve parts, called twelfths. A carrier with
+// F frames has F places in a round, at the same twelfths in every round; from one round to the next each place moves on by F packets. So the
+// places of the first round are noted, and then used for every round.
 use bond_group::headers::CARRIERS;
 use bond_group::headers::FRAMES;
 use counters::SLOTS;
@@ -12,19 +13,19 @@ ghost use Rattle.counters.specs.Counters.{lastCarrier};
 ghost use Rattle.bond_places.specs.Walk.{mostFrames, isMarked, Walkable};
 ghost use Rattle.bond.specs.Listing.{roundTwelfths, roundSteps, Noted, packetIn, markedIn, placesFrom, Listable};
 
-// The packets of a frame, and so the rounds of a super frame.
+// The packets of a frame. A super frame has as many rounds.
 const FRAME_PACKETS: usize = SLOTS + 1;
 
-// The twelfths of a round, and room for two numbers for each place that it can have.
+// The twelfths of a round, and room for its notes: two numbers for each place that it can have.
 const ROUND_TWELFTHS: usize = 12;
 
 const NOTES: usize = 2 * CARRIERS * ROUND_TWELFTHS;
 
-// Room for each packet of a group, and for one that is written before it is looked at.
+// Room for each packet of a group, and for one more: a packet is listed first and tested afterwards.
 pub(crate) const LISTED: usize = FRAME_PACKETS * FRAMES + 1;
 
-// Notes the places at a twelfth of the first round behind those noted before it, each with how far on it is in each round; answers how
-// many are noted.
+// Notes the places at one twelfth of the first round, behind those noted before. A note is the place's packet, and how many packets it moves
+// on in each round. Answers how many places are noted now.
 fn note_twelfth(
     notes: &mut [u16],
     noted: usize,
@@ -77,8 +78,8 @@ fn is_marked(slots: &[u64], m: usize) -> bool
     (slots[m / FRAME_PACKETS] >> ((m % FRAME_PACKETS) as u32)) % 2 == 1
 }
 
-// Lists the marked packets of a round behind those listed before it; answers how many are listed. Each is written and then counted
-// if it is marked, so that nothing hangs on a guess.
+// Lists the marked packets of a round behind those listed before. Answers how many are listed now. Every packet is written to the list, and
+// counted only if it is marked: this spares the processor a branch that it cannot predict.
 fn list_round(
     list: &mut [u16],
     listed: usize,
@@ -106,7 +107,7 @@ fn list_round(
     n
 }
 
-// Lists the marked packets of the group in the order of their places; answers how many they are.
+// Lists the marked packets of the group in the order of their places. Answers how many there are.
 pub(crate) fn list_places(list: &mut [u16], carriers: usize, frames: &[u8], slots: &[u64]) -> usize
     requires { ⌜ Listable carriers (now frames) (now slots) ⌝ }
     requires { ⌜ framePackets * mostFrames < length (now list) ⌝ }

@@ -1,4 +1,4 @@
--- A bond by its four numbers.
+-- A bond, made from its four numbers.
 use Prim.Native.Nat.{ℕ}
 use Rattle.bond_group.specs.declared.Bond.{Bond}
 

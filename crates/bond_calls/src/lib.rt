@@ -1,4 +1,4 @@
-// The calls that read the headers of a group, spread a stream over it and gather it again. A bond crosses as its four numbers.
+// The calls that read the headers of a group, spread a stream over it and gather it again. A bond is passed as its four numbers.
 use bond_group::Bond;
 ghost use mathlib.Core.Path.{_≡_};
 ghost use mathlib.Core.Bool.{cond};
@@ -7,7 +7,7 @@ ghost use Rattle.bond.specs.Bonding.{spreadOf, spreadGroup, gatherOf, gatherBuf
 ghost use Rattle.bond_calls.specs.Bonds.{bondOf};
 ghost use lib.ListN.{length};
 
-// Reads the headers of a group: whether one carries the stream, and how many bonded slots it has.
+// Reads the headers of a group: whether any of them carries the stream, and how many bonded slots the group has.
 #[no_mangle]
 pub extern "C" fn niranbok_read_headers(
     group: &[u8],

@@ -19,19 +19,19 @@ framesIn group = length group / frameLength
 abbrev pub packetsIn : List ℕ → ℕ
 packetsIn group = framePackets * framesIn group
 
--- what the header of frame j says, j from 0
+-- what the header of frame j says; j counts from 0
 unfoldable pub said : List ℕ → ℕ → Setting
 said group j = reading Kind.Extended (slot (framePackets * j) group)
 
 -- ---- the stream in one frame
 
--- whether r is the stream's relative number: that of an available stream with its TS_id and original_network_id
+-- whether r is the stream's relative number: stream r is available and has its TS_id and original_network_id
 unfoldable pub names : Bond → Setting → ℕ → Bool
 names b s r =
     available (s .availability) r
     && (eqb (getD (s .«ts_id») (r - 1) 0) (b .«ts_id») && eqb (getD (s .«original_network_id») (r - 1) 0) (b .«original_network_id»))
 
--- its relative number among 1 to n, or 0 where none is; of the fifteen at most one is, by rule 10
+-- its relative number, if it is one of 1 to n, or else 0. By rule 10 at most one of the fifteen is
 unfoldable pub numberUpTo : Bond → Setting → ℕ → ℕ
 numberUpTo b s zero = 0
 numberUpTo b s (suc n) = cond (names b s (suc n)) (suc n) (numberUpTo b s n)
@@ -43,7 +43,7 @@ numberOf b s = numberUpTo b s lastStream
 unfoldable pub carries : Bond → Setting → Bool
 carries b s = not (eqb (numberOf b s) 0)
 
--- whether slot i has number r, slot 0 having none and 0 being no number
+-- whether slot i has number r. Slot 0 has no number, and 0 is no number
 abbrev pub hasNumber : List ℕ → ℕ → ℕ → Bool
 hasNumber numbers r i = not (eqb i 0) && (not (eqb r 0) && eqb (getD numbers (i - 1) 0) r)
 

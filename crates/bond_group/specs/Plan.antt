@@ -1,4 +1,4 @@
--- The plan of a group: what its headers said of the carriers and of the stream.
+-- The plan of a group: what its headers say of the carriers and of the stream.
 use Prim.Native.Nat.{ℕ, zero, suc, _+_, _-_}
 use mathlib.Core.Bool.{Bool, false, cond, _||_}
 use mathlib.Core.List.{List, [], _∷_}
@@ -16,7 +16,7 @@ use Rattle.bond_places.specs.Walk.{mostFrames}
 use Rattle.bond_group.specs.Group.{framesIn, said, carries, bondedSlot}
 use Rattle.bond_group.specs.Standing.{groupChecks, planChecks}
 
--- whether slots i, i + 1 and so on pass the test, n of them
+-- for n slots from i on: whether each passes the test
 unfoldable pub passing : (ℕ → Bool) → ℕ → ℕ → List Bool
 passing test i zero = []
 passing test i (suc n) = test i ∷ passing test (i + 1) n
@@ -25,12 +25,12 @@ passing test i (suc n) = test i ∷ passing test (i + 1) n
 unfoldable pub marks : Bond → Setting → ℕ
 marks b s = slotsAsBits (passing (bondedSlot b s) firstSlot lastSlot)
 
--- before the first header
+-- the plan before the first header is read
 unfoldable pub nothingSeen : Plan
 nothingSeen =
     record { frames = replicate lastCarrier 0; slots = replicate mostFrames 0; «is_carried» = false; packets = 0 }
 
--- the header of frame j taken in
+-- the plan with the header of frame j added
 unfoldable pub seen : Bond → Plan → ℕ → Setting → Plan
 seen b plan j s =
     record {
@@ -44,12 +44,12 @@ unfoldable pub planAfter : Bond → List ℕ → ℕ → Plan
 planAfter b group zero = nothingSeen
 planAfter b group (suc j) = seen b (planAfter b group j) j (said group j)
 
--- beside refusal 0 the plan of the whole group, beside another number nothing
+-- with refusal 0 the plan of the whole group, with any other number an empty plan
 abbrev pub planBeside : ℕ → Bond → List ℕ → Planned
 planBeside refusal b group =
     record { refusal = refusal; plan = cond (eqb refusal 0) (planAfter b group (framesIn group)) nothingSeen }
 
--- what the headers of a group answer, and what a call answers that reads them
+-- what the headers of a group lead to, and what a call answers that reads them
 unfoldable pub plannedBy : Bond → List ℕ → Planned
 plannedBy b group = planBeside (firstOf (groupChecks b group)) b group
 

@@ -1,4 +1,4 @@
--- Where the headers of a group stand, and what refuses a group.
+-- Where the headers of a group stand, and the checks of a group.
 use Prim.Native.Nat.{ℕ, zero, suc, _+_, _*_, _%_}
 use mathlib.Core.Bool.{Bool, cond, not, _&&_, _||_}
 use mathlib.Core.List.{List, [], _∷_, _++_}
@@ -20,7 +20,7 @@ use Rattle.bond_group.specs.Group.{framesIn, said, carries}
 
 -- ---- where a header stands
 
--- what a header shows of that
+-- the fields of a header that tell where it stands
 unfoldable pub shownBy : Setting → Shown
 shownBy s =
     record {
@@ -31,12 +31,12 @@ shownBy s =
       «frame_position» = s .«frame_position»;
     }
 
--- what stands before frame j: the header of the frame before, and nothing before the first
+-- what stands before frame j: the header of the frame before; before the first frame a blank one
 unfoldable pub before : List ℕ → ℕ → Shown
 before group zero = shownBy blank
 before group (suc j) = shownBy (said group j)
 
--- whether a frame is the last of its super frame; so nothing, which stands before the first
+-- whether a frame is the last of its super frame. The blank header before the first frame counts as last
 unfoldable pub isLast : Shown → Bool
 isLast h = eqb (h .«frame_position» .0) (h .«number_of_frames»)
 
@@ -44,15 +44,15 @@ isLast h = eqb (h .«frame_position» .0) (h .«number_of_frames»)
 unfoldable pub isEnd : ℕ → Shown → Bool
 isEnd carriers h = isLast h && eqb (h .«carrier_sequence») carriers
 
--- the carrier and the position that come next
+-- the carrier and the position that the next header has to show
 unfoldable pub nextCarrier : Shown → ℕ
 nextCarrier h = cond (isLast h) (h .«carrier_sequence» + 1) (h .«carrier_sequence»)
 
 unfoldable pub nextPosition : Shown → ℕ
 nextPosition h = cond (isLast h) firstPosition (h .«frame_position» .0 + 1)
 
--- 14: what a header h shows, behind another and by the first header's group id. Its frame is left over; it is not of the carrier that is
--- due; group id, carrier count or number_of_frames is another; it is out of position
+-- 14: header h does not fit behind the one before it, or has another group id than the first. In this order: the group was complete before
+-- it; it is of another carrier than the one due; its group id, number of carriers or number_of_frames differs; it is out of position
 unfoldable pub standingChecks : ℕ → ℕ → Shown → Shown → List Check
 standingChecks carriers group-id behind h =
     (14, isEnd carriers behind)
@@ -65,7 +65,7 @@ standingChecks carriers group-id behind h =
 
 -- ---- the checks
 
--- 1, 2, 17: what is asked of the group's length and of the numbers
+-- 1, 2, 17: the group's length, the PID and the number of carriers
 unfoldable pub callChecks : Bond → ℕ → List Check
 callChecks b group =
     (1, eqb group 0 || not (eqb (group % frameLength) 0))
@@ -73,24 +73,24 @@ callChecks b group =
     ∷ (17, not (within 1 lastCarrier (b .carriers)))
     ∷ []
 
--- 3 to 11, then 14: what the header of frame j shows
+-- 3 to 11, then 14: the checks of the header of frame j
 unfoldable pub headerChecks : Bond → List ℕ → ℕ → List Check
 headerChecks b group j =
     packetChecks (b .pid) (slot (framePackets * j) group)
     ++ (ruleChecks Kind.Extended (said group j)
     ++ standingChecks (b .carriers) (said group 0 .«group_id») (before group j) (shownBy (said group j)))
 
--- of n headers from that of frame j on, one after another
+-- those of n headers from frame j on, one after another
 unfoldable pub headersChecks : Bond → List ℕ → ℕ → ℕ → List Check
 headersChecks b group j zero = []
 headersChecks b group j (suc n) = headerChecks b group j ++ headersChecks b group (j + 1) n
 
--- all headers, then 14 for frames missing
+-- all headers, then 14 for missing frames
 unfoldable pub groupChecks : Bond → List ℕ → List Check
 groupChecks b group =
     headersChecks b group 0 (framesIn group) ++ ((14, not (isEnd (b .carriers) (before group (framesIn group)))) ∷ [])
 
--- what is asked of a group: the call's own checks, then the headers
+-- all checks of a group: those of the call itself, then those of the headers
 unfoldable pub planChecks : Bond → List ℕ → List Check
 planChecks b group = callChecks b (length group) ++ groupChecks b group
 

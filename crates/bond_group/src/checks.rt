@@ -1,4 +1,4 @@
-// What is asked of a group before its headers are looked at, in the table's order.
+// The checks of a group before its headers are read, in the order of the table of refusals.
 use crate::Bond;
 use crate::headers::CARRIERS;
 use packet::FRAME_BYTES;
@@ -6,7 +6,7 @@ ghost use mathlib.Core.Path.{_≡_};
 ghost use Rattle.setting.specs.Refusal.{firstOf};
 ghost use Rattle.bond_group.specs.Standing.{callChecks};
 
-// 1, 2, 17: the group's length and the numbers.
+// Refusals 1, 2 and 17: the group's length, the PID and the number of carriers.
 pub(crate) fn call_refusal(b: Bond, group: usize) -> u8
     ensures { λ r. ⌜ r ≡ firstOf (callChecks b group) ⌝ }
 {

@@ -1,4 +1,4 @@
-// The headers of a group, gone through once: whether they stand where they should, and what they say of the stream.
+// The headers of a group, each read once: whether they stand where they should, and what they say of the stream.
 use crate::Bond;
 use counters::FramePosition;
 use counters::RelativeNumber;
@@ -32,7 +32,7 @@ pub const CARRIERS: usize = limits::LAST_CARRIER as usize;
 
 pub const FRAMES: usize = CARRIERS * FramePosition::LAST as usize;
 
-// What a header shows of where its frame stands.
+// The fields of a header that tell where its frame stands in the group.
 pub struct Shown {
     pub group_id: u8,
     pub number_of_carriers: u8,
@@ -41,7 +41,7 @@ pub struct Shown {
     pub frame_position: FramePosition,
 }
 
-// What the headers said of the group and the stream.
+// What the headers say of the group and the stream.
 pub struct Plan {
     // Each carrier's number of frames.
     pub frames: [u8; CARRIERS],
@@ -57,7 +57,7 @@ pub struct Planned {
     pub plan: Plan,
 }
 
-// The number by which a header knows the stream among the available ones, or 0. It is that of each setting of which these are the parts.
+// The stream's relative number in a header, or 0 if the header does not carry it. The contract says so for every setting with these parts.
 fn number_of(heard: Checked, b: Bond) -> u8
     ensures { λ r. ⌜ ((s : Setting) → heard ≡ partsOf 0 s → r ≡ numberOf b s) ⌝ }
 {
@@ -79,8 +79,8 @@ fn number_of(heard: Checked, b: Bond) -> u8
     number
 }
 
-// The slots with number r as bits, slot i in bit i; none where r is 0. Each slot is asked alike and none stops the loop, so that the
-// compiler compares many at a time.
+// The slots with number r as bits, slot i in bit i; no slot if r is 0. The loop never stops early, so that the compiler can compare many
+// slots at a time.
 fn marks_of(numbers: &[u8], r: u8) -> u64
     requires { ⌜ length (now numbers) ≡ lastSlot ⌝ }
     ensures { λ t. ⌜ t ≡ slotsAsBits (passing (hasNumber (now (numbers .entry)) r) firstSlot lastSlot) ⌝ }
@@ -94,7 +94,7 @@ fn marks_of(numbers: &[u8], r: u8) -> u64
     slot_bits::slots_as_bits(&marks)
 }
 
-// What a header says of the stream: whether it knows it, and its slots, slot i in bit i.
+// What a header says of the stream: whether it carries it, and in which slots, slot i in bit i.
 struct Bonded {
     is_carried: bool,
     marks: u64,
@@ -113,7 +113,7 @@ fn bonded_by(heard: Checked, b: Bond) -> Bonded
     }
 }
 
-// What stands before the first header.
+// What is taken for the header before the first one.
 fn nothing_shown() -> Shown
     ensures { λ r. ⌜ r ≡ shownBy blank ⌝ }
 {
@@ -157,7 +157,7 @@ fn is_end(h: Shown, carriers: u8) -> bool
     h.carrier_sequence == carriers
 }
 
-// The carrier that comes next.
+// The carrier that the next header has to show.
 fn next_carrier(h: Shown) -> u8
     requires { ⌜ h .«carrier_sequence» ≤ lastCarrier ⌝ }
     ensures { λ r. ⌜ r ≡ nextCarrier h ⌝ }
@@ -168,7 +168,7 @@ fn next_carrier(h: Shown) -> u8
     h.carrier_sequence
 }
 
-// The position that comes next.
+// The position that the next header has to show.
 fn next_position(h: Shown) -> FramePosition
     requires { ⌜ h .«frame_position» .0 ≤ lastPosition ⌝ }
     ensures { λ r. ⌜ r ≡ record { 0 = nextPosition h } ⌝ }
@@ -180,7 +180,7 @@ fn next_position(h: Shown) -> FramePosition
     FramePosition(position.0 + 1)
 }
 
-// 14: what a header shows, behind another and by the first header's group id.
+// Refusal 14: whether a header follows the one before it, `behind`, and has the first header's group id.
 fn standing_refusal(h: Shown, behind: Shown, carriers: u8, group_id: u8) -> u8
     requires { ⌜ (behind .«carrier_sequence» ≤ lastCarrier) × (behind .«frame_position» .0 ≤ lastPosition) ⌝ }
     ensures { λ r. ⌜ r ≡ firstOf (standingChecks carriers «group_id» behind h) ⌝ }
@@ -210,7 +210,7 @@ fn standing_refusal(h: Shown, behind: Shown, carriers: u8, group_id: u8) -> u8
     0
 }
 
-// Before the first header.
+// The plan before the first header is read.
 fn nothing_seen() -> Plan
     ensures { λ r. ⌜ r ≡ nothingSeen ⌝ }
 {
@@ -229,8 +229,8 @@ pub(crate) fn refused(refusal: u8) -> Planned
     Planned { refusal, plan }
 }
 
-// Goes through the headers of the group, one after another, each with 3 to 11 and then 14 for what it shows; then 14 for frames
-// missing.
+// Checks the headers of the group, one after another: each for 3 to 11 and then for 14, where its frame stands. At the end 14 again, for
+// missing frames.
 pub(crate) fn plan_of(group: &[u8], b: Bond) -> Planned
     requires { ⌜ (length (now group) % frameLength ≡ 0) × (pidAllowed (b .pid) ≡ true) ⌝ }
     requires { ⌜ (1 ≤ b .carriers) × (b .carriers ≤ lastCarrier) ⌝ }

@@ -6,7 +6,7 @@ use headers::Planned;
 ghost use mathlib.Core.Path.{_≡_};
 ghost use Rattle.bond_group.specs.Plan.{plannedOf};
 
-// A bond: over how many carriers, with which header PID, and the stream's name among the available ones.
+// A bond: the number of carriers, the header PID, and the stream's identifiers.
 pub struct Bond {
     pub carriers: u8,
     pub pid: u16,

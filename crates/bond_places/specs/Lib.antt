@@ -1,3 +1,3 @@
--- The places of bonded carriers: their order, and a walk that meets them in it.
+-- The places of bonded carriers: their order, and a walk that visits them in that order.
 pub mod Order
 pub mod Walk

@@ -16,7 +16,7 @@ framePackets = lastSlot + 1
 abbrev pub placeOf : ℕ → ℕ → ℕ
 placeOf f i = framePackets * (f - firstPosition) + i
 
--- a place: its carrier's sequence number, how many frames that has, and where it stands
+-- a place: its carrier's sequence number, how many frames that carrier has, and where the place stands in it
 pub record Place : Type 0 where
   pub carrier : ℕ
   pub frames : ℕ
@@ -35,7 +35,7 @@ Before a b = comesBefore a b ≡ true
 abbrev pub Framed : Place → Type 0
 Framed a = (a .frames ≡ 3) ⊎ (a .frames ≡ 4)
 
--- a carrier has one number of frames
+-- places of the same carrier have the same number of frames
 abbrev pub OfOneGroup : Place → Place → Type 0
 OfOneGroup a b = a .carrier ≡ b .carrier → a .frames ≡ b .frames
 
@@ -54,17 +54,17 @@ ByPositionThenSlot =
 
 -- ---- sorted by it
 
--- of the n numbers from s on, those that pass the test, rising
+-- those of the n numbers from s on that pass the test, in rising order
 unfoldable pub picked : (ℕ → Bool) → ℕ → ℕ → List ℕ
 picked test s zero = []
 picked test s (suc n) = cond (test s) (s ∷ []) [] ++ picked test (s + 1) n
 
--- m in front of the first that it comes before
+-- m put in front of the first number that it comes before
 unfoldable pub insert : (ℕ → ℕ → Bool) → ℕ → List ℕ → List ℕ
 insert before m [] = m ∷ []
 insert before m (n ∷ ns) = cond (before m n) (m ∷ n ∷ ns) (n ∷ insert before m ns)
 
--- the numbers, sorted by what comes before what
+-- the numbers, sorted by the order `before`
 unfoldable pub sorted : (ℕ → ℕ → Bool) → List ℕ → List ℕ
 sorted before [] = []
 sorted before (m ∷ ms) = insert before m (sorted before ms)

@@ -1,1 +1,1 @@
-// The order of the places of bonded carriers, and a walk that meets them in it. Definitions and laws, no code.
+// The order of the places of bonded carriers, and a walk that visits them in that order. Definitions and laws, no code.

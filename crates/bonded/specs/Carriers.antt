@@ -15,7 +15,7 @@ use Rattle.runs.specs.Demands.{whole, headerAlone}
 
 -- ---- at the multiplexer
 
--- a carrier: the calls of its run, and of the frames that they close its super frame, the frame behind that, and those before and after
+-- a carrier: the calls of its run, and the frames that these close: those before its super frame, the super frame, the next one, the rest
 pub record Carrier : Type 0 where
   pub calls : List Call
   pub earlier : List (List ℕ)
@@ -23,13 +23,13 @@ pub record Carrier : Type 0 where
   pub next : List ℕ
   pub later : List (List ℕ)
 
--- its frames are those of a run with extended headers. What the slots of the bonded stream carry in them, null packets or others, does
--- not matter: they were filled so that the headers give them its number, and the spread writes over them
+-- its frames are those of a run with extended headers. The slots of the bonded stream were filled with null packets or any others, so that
+-- the headers give them the stream's number; which packets does not matter, since the spread writes over them
 pub record Composed (pid : ℕ) (c : Carrier) : Type 0 where
   pub typed : Each OfTypes (c .calls)
   pub closed : framesOf (started Kind.Extended pid) (c .calls) ≡ c .earlier ++ (c .super ++ (c .next ∷ c .later))
 
--- the group that the caller lends to the spread: the carriers' super frames, one behind another
+-- the group that the caller passes to the spread: the carriers' super frames, one behind another
 unfoldable pub groupOf : List Carrier → List ℕ
 groupOf [] = []
 groupOf (c ∷ cs) = flatten (c .super) ++ groupOf cs
@@ -48,7 +48,7 @@ sentBy (c ∷ cs) bytes =
 
 -- ---- at the receivers
 
--- whether a packet opened a frame: it is then that frame's header
+-- whether a packet opened a frame, and so is that frame's header
 abbrev pub opensFrame : Event → Bool
 opensFrame Event.Nothing = false
 opensFrame Event.Opened = true
@@ -59,14 +59,14 @@ opensFrame Event.Jump = true
 opensFrame Event.Long = false
 opensFrame Event.Broken = false
 
--- the frames of a caller who holds the packet that opened a frame and, when one becomes ready, takes the packet held and the store
--- behind it
+-- the frames that a caller gets who keeps the packet that opened a frame and, when the frame becomes ready, puts the store behind that
+-- packet
 unfoldable pub framesKept : List ℕ → Reception → List (List ℕ) → List (List ℕ)
 framesKept held w [] = []
 framesKept held w (p ∷ ps) =
     cond (makesReady (receiveOf (w .state) p (length (w .store)) .event)) ((held ++ afterPacket w p .store) ∷ []) []
     ++ framesKept (cond (opensFrame (receiveOf (w .state) p (length (w .store)) .event)) p held) (afterPacket w p) ps
 
--- what a fresh receiver with this store brings of what one carrier sent
+-- what a fresh receiver with this store makes of what one carrier sent
 unfoldable pub receivedFrom : ℕ → List ℕ → List Sent → List ℕ
 receivedFrom pid store sent = flatten (framesKept [] (freshWith Kind.Extended pid store) (arriving sent))

@@ -1,4 +1,4 @@
--- Demand 2 over bonded carriers from the composers to the gathered stream. The proof stands apart.
+-- Demand 2 for bonded carriers, from the composers to the gathered stream. The proof stands apart.
 use Prim.Native.Nat.{ℕ, _≤_}
 use mathlib.Core.Path.{_≡_}
 use mathlib.Core.List.{List, _++_, map, flatten}
@@ -11,13 +11,13 @@ use Rattle.bond.specs.Bonding.{spreadGroup, gatherOf, gatherBuffer}
 use Rattle.bond.specs.Demands.{WellFormed, Fitting}
 use Rattle.bonded.specs.Carriers.{Carrier, Composed, groupOf, sentBy, receivedFrom}
 
--- the group that the receivers bring together again, one receiver for each carrier
+-- the group as the receivers rebuild it, one receiver for each carrier
 abbrev pub groupAgain : Bond → List Carrier → List ℕ → List ℕ → List ℕ
 groupAgain b carriers stream store =
     flatten (map (receivedFrom (b .pid) store) (sentBy carriers (spreadGroup b (groupOf carriers) stream)))
 
--- 'a bonded stream comes back from its carriers in its first order': spread over frames that runs composed, sent and received carrier by
--- carrier without loss and with each run's next header behind, it is gathered again
+-- 'a bonded stream comes back from its carriers in its first order': spread over composed frames, sent and received carrier by carrier
+-- without loss, with each run's next header behind its super frame, it is gathered again
 abbrev pub BackFromItsCarriers : Type 0
 BackFromItsCarriers =
     (b : Bond) (carriers : List Carrier) (stream store out : List ℕ) → Each (Composed (b .pid)) carriers → WellFormed b (groupOf carriers)

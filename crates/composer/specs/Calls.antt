@@ -1,4 +1,4 @@
--- What each call answers and leaves, over the bytes that it is lent.
+-- What each call answers, and what it leaves in the caller's bytes.
 use Prim.Native.Nat.{ℕ}
 use mathlib.Core.Bool.{Bool, cond, not, _&&_}
 use mathlib.Core.List.{List, [], _∷_}

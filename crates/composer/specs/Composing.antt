@@ -40,8 +40,8 @@ pub record Placed : Type 0 where
   pub placed : ℕ
   pub state : Composer
 
--- a run's state before its first begin: no header was closed yet, and the one before the first would have had counter 15 and
--- version 7 and announced another frame type
+-- a run's state before its first begin. No header was closed yet. It is as if the last one had counter 15 and version 7 and announced a
+-- frame type that no header has, so that the first header gets counter 0 and version 0
 unfoldable pub fresh : Kind → ℕ → Composer
 fresh kind pid =
     record {
@@ -55,7 +55,7 @@ fresh kind pid =
       filled = replicate lastSlot false;
     }
 
--- the state once a frame was begun
+-- the state after a frame was begun
 unfoldable pub opened : Composer → Setting → Composer
 opened c s =
     record {
@@ -83,23 +83,23 @@ marked c marks =
       filled = marks;
     }
 
--- the counter of a header behind one with this counter
+-- the counter of the header that follows one with this counter
 abbrev pub counterBehind : ℕ → ℕ
 counterBehind counter = (counter + 1) % 16
 
--- the version of a header behind one of this version that announced this: raised exactly when slot information, identifiers or
+-- the version of the header that follows one of this version that announced this: raised exactly when slot information, identifiers or
 -- control information differ
 abbrev pub versionBehind : ℕ → Announced → Setting → ℕ
 versionBehind version last s = cond (differ (announced s) last) ((version + 1) % 8) version
 
--- those of the header that a close writes
+-- counter and version of the header that a close writes
 unfoldable pub nextCounter : Composer → ℕ
 nextCounter c = counterBehind (c .counter)
 
 unfoldable pub nextVersion : Composer → ℕ
 nextVersion c = versionBehind (c .version) (c .last) (c .setting)
 
--- a setting as a header says it, with the run's counter and version and the slots' own numbers
+-- a setting as the header says it: with the run's counter and version, and with these numbers for the slots
 unfoldable pub saying : ℕ → ℕ → List ℕ → Setting → Setting
 saying counter version numbers s =
     record {
@@ -126,7 +126,7 @@ saying counter version numbers s =
 unfoldable pub closing : Composer → Setting
 closing c = saying (nextCounter c) (nextVersion c) (numbersOf (c .setting .«relative_ts_number») (c .filled)) (c .setting)
 
--- the state once a header with this counter and version was written
+-- the state after a header with this counter and version was written
 unfoldable pub closedWith : Composer → ℕ → ℕ → Composer
 closedWith c counter version =
     record {
@@ -145,18 +145,18 @@ closed c = closedWith c (nextCounter c) (nextVersion c)
 
 -- ---- the checks, in the table's order
 
--- checks that are asked only where a condition holds
+-- checks that count only if a condition holds
 unfoldable pub asked : Bool → List Check → List Check
 asked b [] = []
 asked b (c ∷ cs) = (c .0, b && c .1) ∷ asked b cs
 
--- two lists of checks with the same numbers: under each number the first's before the second's
+-- two lists of checks with the same numbers, merged: for each number the check of the first list, then that of the second
 unfoldable pub inTurn : List Check → List Check → List Check
 inTurn [] ds = ds
 inTurn (c ∷ cs) [] = c ∷ cs
 inTurn (c ∷ cs) (d ∷ ds) = c ∷ d ∷ inTurn cs ds
 
--- 2 and 17: a state's PID and numbers, and its setting's fields while a frame is open
+-- 2 and 17: a state's PID and numbers, and, while a frame is open, the fields of its setting
 unfoldable pub stateChecks : Composer → List Check
 stateChecks c =
     (2, not (pidAllowed (c .pid)))
@@ -164,11 +164,11 @@ stateChecks c =
     ∷ (17, leb (2 ^ 3) (c .version))
     ∷ (announcedChecks (c .last) ++ asked (c .is-open) (widthChecks (c .kind) (c .setting)))
 
--- 8 to 11: its setting's rules while a frame is open
+-- 8 to 11: while a frame is open, the rules of its setting
 unfoldable pub openRuleChecks : Composer → List Check
 openRuleChecks c = asked (c .is-open) (ruleChecks (c .kind) (c .setting))
 
--- 17, behind those: a filled mark on a slot planned 0
+-- 17, after those: a filled mark on a slot that is planned for no stream
 unfoldable pub markChecks : Composer → List Check
 markChecks c = (17, c .is-open && someUnplanned (c .setting .«relative_ts_number») (c .filled)) ∷ []
 
@@ -180,7 +180,7 @@ beginRefusal c s lent =
     firstOf (lengthCheck lent
     ∷ (stateChecks c ++ (widthChecks (c .kind) s ++ (inTurn (openRuleChecks c) (ruleChecks (c .kind) s) ++ markChecks c))))
 
--- 16, and what is asked of an open frame
+-- 16, and the checks of an open frame
 unfoldable pub openChecks : Composer → List Check
 openChecks c = (16, not (c .is-open)) ∷ (openRuleChecks c ++ markChecks c)
 
@@ -202,7 +202,7 @@ closeRefusal c lent = firstOf (lengthCheck lent ∷ (stateChecks c ++ openChecks
 
 -- ---- the calls
 
--- what one answers that makes a new state: refusal 0 and it, or the refusal's number and the old one
+-- what a call answers that makes a new state: refusal 0 and the new state, or the refusal's number and the old one
 unfoldable pub answer : ℕ → Composer → Composer → Answer
 answer refusal new old = record { refusal = refusal; state = cond (eqb refusal 0) new old }
 
@@ -232,7 +232,7 @@ putFrame c r stream frame =
 unfoldable pub closeOf : Composer → ℕ → Answer
 closeOf c lent = answer (closeRefusal c lent) (closed c) c
 
--- the header alone is written
+-- only the header is written
 unfoldable pub closedFrame : Composer → List ℕ → List ℕ
 closedFrame c frame =
     leaves (closeRefusal c (length frame)) (header (c .kind) (c .pid) (closing c) ++ drop packetLength frame) frame

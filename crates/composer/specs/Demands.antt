@@ -1,4 +1,4 @@
--- What is said of the calls over bytes, as statements. The proofs stand apart.
+-- What is promised of the calls on bytes, as statements. The proofs stand apart.
 use Prim.Native.Nat.{ℕ, _%_}
 use mathlib.Core.Path.{_≡_}
 use mathlib.Core.Bool.{true, false}
@@ -18,13 +18,13 @@ use Rattle.composer.specs.Calls.{beginRefused, beginState, beginMemory, 
 abbrev pub StateBack : Type 0
 StateBack = (c : Composer) → OfItsTypes c → composerOf (composerBytes c) ≡ c
 
--- bytes that are as long as a state and have an allowed PID, and yet are no state's
+-- bytes that are as long as a state and have an allowed PID, but code no state
 pub record Uncoded (state : List ℕ) : Type 0 where
   pub long : length state ≡ composerLength
   pub pid-allowed : pidAllowed (wordAt 0 state) ≡ true
   pub no-state : isCoded state ≡ false
 
--- Bytes that are no state's are refused with 17 by each call to which the rest is lent as it should be.
+-- Bytes that code no state are refused with 17 by each call, if its other buffers have the right lengths.
 abbrev pub UncodedRefused : Type 0
 UncodedRefused =
     (state frame : List ℕ) → Uncoded state → length frame ≡ frameLength
@@ -32,8 +32,8 @@ UncodedRefused =
     × ((r : ℕ) (stream : List ℕ) → length stream % packetLength ≡ 0 → putRefused state r stream frame ≡ 17)
     × (closeRefused state frame ≡ 17)
 
--- On the bytes of a state, and of a setting, each call answers and leaves what the composer's own does: so what is promised of runs of
--- calls, which speaks of states, holds of the bytes.
+-- On the bytes of a state and of a setting, each call answers and leaves what the composer's own call does. So what is promised of runs of
+-- calls in terms of states also holds of bytes.
 pub record OnBytes (c : Composer) : Type 0 where
   pub begins : (s : Setting) → SettingOfItsTypes s → (frame : List ℕ)
       → (beginRefused (composerBytes c) (settingBytes s) frame ≡ beginOf c s (length frame) .refusal)
@@ -49,7 +49,7 @@ pub record OnBytes (c : Composer) : Type 0 where
       × ((closeState (composerBytes c) frame ≡ composerBytes (closeOf c (length frame) .state))
       × (closeMemory (composerBytes c) frame ≡ closedFrame c frame))
 
--- And a state that was of its types stays so, so that the next call finds it again in the bytes.
+-- And a state that has its types keeps them, so that the next call finds it again in the bytes.
 pub record TypesKept (c : Composer) : Type 0 where
   pub begun : (s : Setting) → SettingOfItsTypes s → (lent : ℕ) → OfItsTypes (beginOf c s lent .state)
   pub filled : (r : ℕ) (stream : List ℕ) (lent : ℕ) → OfItsTypes (putOf c r stream lent .state)

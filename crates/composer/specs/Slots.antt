@@ -17,7 +17,7 @@ nulls (suc n) = nullPacket ++ nulls n
 unfoldable pub cleared : List ℕ → List ℕ
 cleared frame = take packetLength frame ++ nulls lastSlot
 
--- ---- put for stream r. A set of slots is a list with an entry for each slot, slot 1 first: true where the slot is in the set
+-- ---- put for stream r. A set of slots is a list with an entry for each slot, slot 1 first: true if the slot is in the set
 
 -- the still empty slots planned for r
 unfoldable pub emptyFor : ℕ → List ℕ → List Bool → List Bool
@@ -36,15 +36,15 @@ slotsIn [] = 0
 slotsIn (false ∷ bs) = slotsIn bs
 slotsIn (true ∷ bs) = suc (slotsIn bs)
 
--- of the empty slots those that a stream fills: one for each of its packets, in rising order, until slots or packets run out
+-- the empty slots that a stream fills: one for each of its packets, in rising order, until slots or packets run out
 unfoldable pub filledBy : List ℕ → List Bool → List Bool
 filledBy stream empty = firstSlots (length stream / packetLength) empty
 
--- the number placed
+-- how many packets are placed
 unfoldable pub placedBy : ℕ → List ℕ → List Bool → List ℕ → ℕ
 placedBy r plan marks stream = slotsIn (filledBy stream (emptyFor r plan marks))
 
--- whether one of the packets placed is unfit
+-- whether any of the packets to place is unfit
 unfoldable pub someUnfit : ℕ → ℕ → List ℕ → List Bool → List ℕ → Bool
 someUnfit pid r plan marks stream = someUnfitIn pid (take (packetLength * placedBy r plan marks stream) stream)
 
@@ -52,14 +52,14 @@ someUnfit pid r plan marks stream = someUnfitIn pid (take (packetLength * placed
 unfoldable pub marksAfter : ℕ → List ℕ → List Bool → List ℕ → List Bool
 marksAfter r plan marks stream = zipWith _||_ marks (filledBy stream (emptyFor r plan marks))
 
--- the slots of a set filled with the packets of a stream, from its front and one after another; the others stay as they are
+-- the slots of a set, filled one after another with the packets of a stream from its front; all other slots stay as they are
 unfoldable pub slotsWith : List Bool → List ℕ → List ℕ → List ℕ
 slotsWith [] stream slots = slots
 slotsWith (false ∷ bs) stream slots = take packetLength slots ++ slotsWith bs stream (drop packetLength slots)
 slotsWith (true ∷ bs) stream slots =
     take packetLength stream ++ slotsWith bs (drop packetLength stream) (drop packetLength slots)
 
--- the frame afterwards. The false is for slot 0, the header, which a put does not fill
+-- the frame afterwards. `false` stands for slot 0, the header, which a put does not fill
 unfoldable pub frameAfter : ℕ → List ℕ → List Bool → List ℕ → List ℕ → List ℕ
 frameAfter r plan marks stream frame = slotsWith (false ∷ filledBy stream (emptyFor r plan marks)) stream frame
 

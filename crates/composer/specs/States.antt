@@ -1,4 +1,4 @@
--- A composer's state as its 390 bytes, and what bytes say as a state.
+-- A composer's state as 390 bytes, and the state that bytes code.
 use Prim.Native.Nat.{ℕ, _+_, _-_}
 use mathlib.Core.Path.{_≡_}
 use mathlib.Core.Bool.{Bool, cond, not, _&&_}
@@ -46,11 +46,11 @@ filledAt = settingAt + settingLength
 abbrev pub composerLength : ℕ
 composerLength = filledAt + lastSlot
 
--- how many of them speak of the open frame
+-- how many of them are about the open frame
 abbrev pub openLength : ℕ
 openLength = composerLength - openAt
 
--- where the open frame's setting has what it announces, its availability, and its plan
+-- where, in the open frame's setting, stand what it announces, its availability and its plan
 abbrev pub saidAt : ℕ
 saidAt = settingAt + announcedAt
 
@@ -62,7 +62,7 @@ planAt = settingAt + numbersAt
 
 -- ---- the state
 
--- what the code's types say of a state, as far as its lists and its setting go
+-- what the code's types guarantee of a state's lists and its setting
 pub record OfItsTypes (c : Composer) : Type 0 where
   pub ts-id : Array lastStream 16 (c .last .«ts_id»)
   pub network-id : Array lastStream 16 (c .last .«original_network_id»)
@@ -83,15 +83,15 @@ composerBytes c =
     ++ (settingBytes (c .setting)
     ++ map markByte (c .filled))))
 
--- the marks that bytes are
+-- the marks that bytes stand for
 abbrev pub marksOf : List ℕ → List Bool
 marksOf bytes = map (λ (n : ℕ). eqb n 1) bytes
 
--- whether bytes are a state's, whatever its numbers: the kind is one, and every mark is 0 or 1
+-- whether bytes code a state, whatever its numbers: the kind's byte is a kind, and every mark is 0 or 1
 unfoldable pub isCoded : List ℕ → Bool
 isCoded b = isKind (getD b kindAt 0) && (ltb (getD b openAt 0) 2 && not (someAtLeast 2 (part filledAt lastSlot b)))
 
--- bytes that are no state's get a counter that no header has, so that every call refuses them with 17
+-- bytes that code no state are read with a counter that no header has, so that every call refuses them with 17
 abbrev pub noCounter : ℕ
 noCounter = 255
 
@@ -108,6 +108,6 @@ composerOf b =
       filled = marksOf (part filledAt lastSlot b);
     }
 
--- bytes of a state's length are taken as they are, any others for zeros
+-- bytes of any other length than a state's count as zeros
 unfoldable pub whole : List ℕ → List ℕ
 whole b = cond (eqb (length b) composerLength) b (replicate composerLength 0)

@@ -1,4 +1,4 @@
-// A run of frames: where its state has its parts. The state is 390 bytes that the caller lends, from Rattle as from C. What each call
+// A run of frames: where the parts of its state stand. The state is 390 bytes that the caller keeps, in Rattle as in C. What each call
 // answers and leaves is said in specs/.
 use counters::SLOTS;
 use setting_bytes::ANNOUNCED;
@@ -6,7 +6,7 @@ use setting_bytes::ANNOUNCED_BYTES;
 use setting_bytes::NUMBERS;
 use setting_bytes::SETTING_BYTES;
 
-// Behind the PID the kind; counter and version of the last closed header, and what it announced.
+// The kind stands behind the PID. Then come counter and version of the last closed header, and what it announced.
 pub const KIND: usize = 2;
 
 pub const COUNTER: usize = KIND + 1;
@@ -25,7 +25,7 @@ pub const FILLED: usize = SETTING + SETTING_BYTES;
 // How many bytes a state takes.
 pub const COMPOSER_BYTES: usize = FILLED + SLOTS;
 
-// Where the open frame's setting has what it announces, its availability, and its plan.
+// Where, in the open frame's setting, stand what it announces, its availability and its plan.
 pub const SAID: usize = SETTING + ANNOUNCED;
 
 pub const AVAILABILITY: usize = SAID + 2;

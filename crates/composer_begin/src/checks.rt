@@ -1,4 +1,4 @@
-// What begin asks of its state and of what it is lent, in the table's order.
+// What begin checks of its state and its other buffers, in the order of the table of refusals.
 use packet::FRAME_BYTES;
 ghost use mathlib.Core.Path.{_≡_};
 ghost use lib.ListN.{length};
@@ -8,8 +8,8 @@ ghost use Rattle.setting_bytes.specs.Settings.{settingOf};
 ghost use Rattle.composer.specs.Composing.{openRuleChecks, inTurn, beginRefusal};
 ghost use Rattle.composer.specs.States.{composerLength, composerOf};
 
-// 8 to 11 of the state's setting while a frame is open and of a new one: under one number the state's comes first, so the
-// smaller number answers.
+// 8 to 11, of the open frame's setting, if a frame is open, and of the new one. The checks go number by number, so of two
+// refusals the smaller is the answer.
 fn both_rules_refusal(state: &[u8], setting: &[u8]) -> u8
     requires { ⌜ length (now state) ≡ composerLength ⌝ }
     ensures { λ r. ⌜ r ≡ firstOf (inTurn (openRuleChecks (composerOf (now (state .entry)))) (ruleChecks (composerOf (now (state .entry)) .kind) (settingOf (now (setting .entry))))) ⌝ }

@@ -1,4 +1,4 @@
-// The call that begins a frame: null packets in its slots, and its setting into the state.
+// The call that begins a frame: it puts null packets into the slots, and the setting into the state.
 mod checks;
 mod slots;
 
@@ -15,7 +15,7 @@ ghost use Rattle.setting_bytes.specs.Settings.{settingLength};
 ghost use Rattle.composer.specs.States.{openAt, composerLength};
 ghost use Rattle.composer.specs.Calls.{beginRefused, beginState, beginMemory};
 
-// The state with a frame open: the setting's bytes, and no slot filled.
+// Opens a frame in the state, with the setting's bytes and no slot filled.
 fn open(state: &mut [u8], setting: &[u8])
     requires { ⌜ (length (now state) ≡ composerLength) × (length (now setting) ≡ settingLength) ⌝ }
     ensures { λ _. ⌜ now (state .exit) ≡ take openAt (now (state .entry)) ++ (1 ∷ (now (setting .entry) ++ replicate lastSlot 0)) ⌝ }
@@ -25,7 +25,7 @@ fn open(state: &mut [u8], setting: &[u8])
     slices::fill(&mut state[FILLED..COMPOSER_BYTES], 0);
 }
 
-// Opens a frame: null packets in slots 1 to 52 of the lent frame, slot 0 as it was. A frame still open is abandoned.
+// Opens a frame: puts null packets into slots 1 to 52 and leaves slot 0 as it was. A frame that is still open is abandoned.
 #[no_mangle]
 pub extern "C" fn niranbok_composer_begin(state: &mut [u8], frame: &mut [u8], setting: &[u8]) -> u8
     ensures { λ r. ⌜ r ≡ beginRefused (now (state .entry)) (now (setting .entry)) (now (frame .entry)) ⌝ }

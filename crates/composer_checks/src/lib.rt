@@ -1,4 +1,4 @@
-// What every call asks of a composer's state, where it stands in its 390 bytes. Bytes of any other length are asked as zeros are.
+// What every call checks of a composer's state, read straight from its 390 bytes. Bytes of any other length count as zeros.
 use composer::COMPOSER_BYTES;
 use composer::FILLED;
 use composer::LAST;
@@ -16,7 +16,7 @@ ghost use Rattle.composer.specs.Slots.{someUnplanned};
 ghost use Rattle.composer.specs.Composing.{asked, stateChecks, openRuleChecks, markChecks, openChecks};
 ghost use Rattle.composer.specs.States.{composerLength, marksOf, isCoded, composerOf, whole};
 
-// Whether bytes are a state's, whatever its numbers.
+// Whether bytes code a state, whatever its numbers.
 fn is_coded(bytes: &[u8]) -> bool
     requires { ⌜ length (now bytes) ≡ composerLength ⌝ }
     ensures { λ r. ⌜ r ≡ isCoded (now (bytes .entry)) ⌝ }
@@ -30,7 +30,7 @@ fn is_coded(bytes: &[u8]) -> bool
     !slices::some_at_least(&bytes[FILLED..COMPOSER_BYTES], 2)
 }
 
-// 17: the setting's fields while a frame is open.
+// 17: while a frame is open, the fields of its setting.
 fn open_width_refusal(bytes: &[u8]) -> u8
     requires { ⌜ length (now bytes) ≡ composerLength ⌝ }
     ensures { λ r. ⌜ r ≡ firstOf (asked (composerOf (now (bytes .entry)) .is-open) (widthChecks (composerOf (now (bytes .entry)) .kind) (composerOf (now (bytes .entry)) .setting))) ⌝ }
@@ -64,7 +64,7 @@ fn long_state_refusal(bytes: &[u8]) -> u8
     open_width_refusal(bytes)
 }
 
-// 2 and 17: the state's PID and numbers, and its setting's fields while a frame is open.
+// 2 and 17: the state's PID and numbers, and, while a frame is open, the fields of its setting.
 pub fn state_refusal(bytes: &[u8]) -> u8
     ensures { λ r. ⌜ r ≡ firstOf (stateChecks (composerOf (whole (now (bytes .entry))))) ⌝ }
 {
@@ -74,7 +74,7 @@ pub fn state_refusal(bytes: &[u8]) -> u8
     long_state_refusal(bytes)
 }
 
-// 8 to 11: the setting's rules while a frame is open.
+// 8 to 11: while a frame is open, the rules of its setting.
 pub fn open_rule_refusal(bytes: &[u8]) -> u8
     ensures { λ r. ⌜ r ≡ firstOf (openRuleChecks (composerOf (whole (now (bytes .entry))))) ⌝ }
 {
@@ -87,8 +87,8 @@ pub fn open_rule_refusal(bytes: &[u8]) -> u8
     setting_checks::rule_refusal(setting_bytes::kind_of(bytes[2]), &bytes[SETTING..FILLED])
 }
 
-// Whether a slot that is planned for no stream is marked filled. The loop goes through all slots and does not stop early, since the compiler
-// then compares many at a time.
+// Whether a slot that is planned for no stream is marked filled. The loop never stops early, so that the compiler can compare many
+// slots at a time.
 fn has_unplanned(plan: &[u8], filled: &[u8]) -> bool
     requires { ⌜ (length (now plan) ≡ lastSlot) × (length (now filled) ≡ lastSlot) ⌝ }
     ensures { λ t. ⌜ t ≡ someUnplanned (now (plan .entry)) (marksOf (now (filled .entry))) ⌝ }
@@ -102,7 +102,7 @@ fn has_unplanned(plan: &[u8], filled: &[u8]) -> bool
     found
 }
 
-// 17: a filled mark on a slot planned 0.
+// 17: a filled mark on a slot that is planned for no stream.
 pub fn mark_refusal(bytes: &[u8]) -> u8
     ensures { λ r. ⌜ r ≡ firstOf (markChecks (composerOf (whole (now (bytes .entry))))) ⌝ }
 {
@@ -118,7 +118,7 @@ pub fn mark_refusal(bytes: &[u8]) -> u8
     0
 }
 
-// 16, and what is asked of an open frame.
+// 16, and the checks of an open frame.
 pub fn open_refusal(bytes: &[u8]) -> u8
     ensures { λ r. ⌜ r ≡ firstOf (openChecks (composerOf (whole (now (bytes .entry))))) ⌝ }
 {

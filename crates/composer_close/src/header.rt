@@ -20,7 +20,7 @@ ghost use Rattle.composer.specs.Slots.{numbersOf};
 ghost use Rattle.composer.specs.Composing.{nextVersion, closing};
 ghost use Rattle.composer.specs.States.{composerLength, composerOf, marksOf};
 
-// The numbers that the header gives the slots: a filled slot's is the planned one, an empty slot's 0. A byte of 1 marks a filled one.
+// The numbers that the header gives the slots: a filled slot keeps its planned number, an empty slot gets 0. A byte of 1 marks a filled one.
 fn number(numbers: &mut [u8], filled: &[u8])
     requires { ⌜ (length (now numbers) ≡ lastSlot) × (length (now filled) ≡ lastSlot) ⌝ }
     ensures { λ _. ⌜ now (numbers .exit) ≡ numbersOf (now (numbers .entry)) (marksOf (now (filled .entry))) ⌝ }
@@ -34,8 +34,8 @@ fn number(numbers: &mut [u8], filled: &[u8])
     }
 }
 
-// The version of the open frame's header: raised where it announces something else than the last one. Both stand in the state as bytes,
-// and differ where the bytes do.
+// The version of the open frame's header: raised if it announces something else than the last header. What each announces stands in the
+// state as bytes, so the bytes are compared.
 fn next_version(state: &[u8]) -> u8
     requires { ⌜ (length (now state) ≡ composerLength) × (someAtLeast (2 ^ 8) (now state) ≡ false) ⌝ }
     requires { ⌜ composerOf (now state) .version < 8 ⌝ }

@@ -1,4 +1,4 @@
-// The call that closes a frame: its header says the slots that were filled.
+// The call that closes a frame: it writes the header, which says which slots were filled.
 mod header;
 
 use composer::COMPOSER_BYTES;
@@ -34,7 +34,7 @@ fn close_refusal(state: &[u8], lent: usize) -> u8
     composer_checks::open_refusal(state)
 }
 
-// Leaves no frame open: what its setting announced is now what the last header announced, and zeros stand behind it.
+// Ends the open frame in the state: what its setting announced is now what the last header announced, and zeros follow it.
 fn end_frame(state: &mut [u8], counter: u8, version: u8)
     requires { ⌜ length (now state) ≡ composerLength ⌝ }
     ensures { λ _. ⌜ now (state .exit) ≡ take counterAt (now (state .entry)) ++ (counter ∷ version ∷ (part saidAt announcedLength (now (state .entry)) ++ replicate openLength 0)) ⌝ }
@@ -65,7 +65,7 @@ pub extern "C" fn niranbok_composer_close(state: &mut [u8], frame: &mut [u8]) ->
     let said = header::header_setting(state);
     let pid = bits::word(state[0], state[1]);
     let kind = setting_bytes::kind_of(state[KIND]);
-    // The checks have asked the rules of what is said.
+    // The checks have made sure that this setting obeys the rules.
     header_write::write_header(&mut frame[0..PACKET_BYTES], pid, kind, said);
     end_frame(state, said.continuity_counter, said.version_number);
     0

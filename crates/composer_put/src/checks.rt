@@ -1,4 +1,4 @@
-// What put asks of its state and of what it is lent, in the table's order.
+// What put checks of its state and its other buffers, in the order of the table of refusals.
 use crate::slots;
 use composer::AVAILABILITY;
 use counters::RelativeNumber;
@@ -14,7 +14,7 @@ ghost use Rattle.counters.specs.Counters.{lastSlot};
 ghost use Rattle.composer.specs.States.{planAt, filledAt, composerLength, composerOf, marksOf};
 ghost use Rattle.slot_bits.specs.Bits.{slotsAsBits};
 
-// 13 and 12: what is asked of the packets that would be placed.
+// 13 and 12: the checks of the stream, and of the packets that would be placed.
 fn stream_refusal(state: &[u8], stream: &[u8], r: RelativeNumber, empty: u64) -> u8
     requires { ⌜ length (now state) ≡ composerLength ⌝ }
     requires { ⌜ empty ≡ slotsAsBits (emptyFor (r .0) (part planAt lastSlot (now state)) (marksOf (part filledAt lastSlot (now state)))) ⌝ }
@@ -31,7 +31,7 @@ fn stream_refusal(state: &[u8], stream: &[u8], r: RelativeNumber, empty: u64) ->
     0
 }
 
-// `empty` has the still empty slots planned for r.
+// `empty` has the still empty slots planned for r, as bits.
 pub(crate) fn put_refusal(
     state: &[u8],
     stream: &[u8],

@@ -1,4 +1,4 @@
-// The call that puts a stream's packets into the slots of an open frame. Of the state the filled marks change.
+// The call that puts a stream's packets into the slots of an open frame. In the state only the filled marks change.
 mod checks;
 mod slots;
 
@@ -11,8 +11,8 @@ use packet::PACKET_BYTES;
 ghost use mathlib.Core.Path.{_≡_};
 ghost use Rattle.composer.specs.Calls.{putRefused, putPlaced, putState, putMemory};
 
-// Fills the still empty slots planned for stream r, in rising order, from the front of the lent stream, until slots or
-// packets run out. `rest` answers what is left of the stream.
+// Fills the still empty slots planned for stream r, in rising order, from the front of the stream, until slots or packets
+// run out. `rest` answers what is left of the stream.
 #[no_mangle]
 pub extern "C" fn niranbok_composer_put(
     state: &mut [u8],

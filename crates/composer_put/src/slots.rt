@@ -1,4 +1,4 @@
-// The slots of a frame: slot i is the 188 bytes at 188 × i, and bit i of a number that has slots. A byte of 1 marks a filled one.
+// The slots of a frame: slot i is the 188 bytes at 188 × i. A set of slots is a number, slot i in bit i. A byte of 1 marks a filled slot.
 use counters::SLOTS;
 use packet::PACKET_BYTES;
 ghost use Prim.Native.Nat.{_/_, min};
@@ -14,8 +14,8 @@ ghost use Rattle.composer.specs.Slots.{emptyFor, slotsIn, filledBy, slotsWith};
 ghost use Rattle.composer.specs.States.{markByte, marksOf};
 ghost use Rattle.slot_bits.specs.Bits.{slotsAsBits};
 
-// The still empty slots planned for stream r, as bits. Each slot is asked alike and none stops the loop, so that the compiler compares
-// many at a time.
+// The still empty slots planned for stream r, as bits. The loop never stops early, so that the compiler can compare many slots at a
+// time.
 pub(crate) fn empty_slots(plan: &[u8], filled: &[u8], r: u8) -> u64
     requires { ⌜ (length (now plan) ≡ lastSlot) × (length (now filled) ≡ lastSlot) ⌝ }
     ensures { λ t. ⌜ t ≡ slotsAsBits (emptyFor r (now (plan .entry)) (marksOf (now (filled .entry)))) ⌝ }
@@ -29,7 +29,7 @@ pub(crate) fn empty_slots(plan: &[u8], filled: &[u8], r: u8) -> u64
     slot_bits::slots_as_bits(&marks)
 }
 
-// How many packets of a stream of so many bytes the slots take.
+// How many packets the slots take from a stream of so many bytes.
 pub(crate) fn packets_for(slots: u64, bytes: usize) -> usize
     ensures { λ t. ⌜ t ≡ min (bytes / packetLength) (ones slots) ⌝ }
 {
@@ -41,9 +41,9 @@ pub(crate) fn packets_for(slots: u64, bytes: usize) -> usize
     empty
 }
 
-// Copies the stream's packets into the slots, in rising order, until slots or packets run out, marks them filled, and hands back
-// the rest of the stream. The lowest bit that is set is the next slot's, and is taken out once the slot is filled. The contract is
-// about the set of slots that these bits are.
+// Copies the stream's packets into the slots, in rising order, until slots or packets run out; marks these slots filled, and hands
+// back the rest of the stream. The lowest bit that is set is the next slot's, and is cleared once the slot is filled. The contract
+// speaks of the set of slots that the bits stand for.
 pub(crate) fn place<'a>(
     frame: &mut [u8],
     stream: &'a [u8],

@@ -1,4 +1,4 @@
-// The calls that start a run of frames: its state as a value of bytes, or written into lent ones.
+// The calls that start a run of frames. One answers the state as a value, the other writes it into the caller's bytes.
 use composer::COMPOSER_BYTES;
 use composer::COUNTER;
 use composer::KIND;
@@ -18,7 +18,7 @@ pub struct Started {
     pub state: [u8; COMPOSER_BYTES],
 }
 
-// The counter and the version are those before the first header's.
+// The counter and the version are the ones before those of the first header.
 fn write_fresh(state: &mut [u8], pid: u16, kind: u8)
     requires { ⌜ (length (now state) ≡ composerLength) × (kind < 2) ⌝ }
     ensures { λ _. ⌜ now (state .exit) ≡ composerBytes (fresh (kindOf kind) pid) ⌝ }
@@ -31,7 +31,7 @@ fn write_fresh(state: &mut [u8], pid: u16, kind: u8)
     state[VERSION] = 7;
 }
 
-// A run with this header PID and kind, as a value of bytes.
+// Starts a run with this header PID and kind. Answers the state as a value.
 pub fn start(pid: u16, kind: Kind) -> Started
     ensures { λ r. ⌜ r .refusal ≡ startOf kind pid .refusal ⌝ }
     ensures { λ r. ⌜ r .state ≡ composerBytes (startOf kind pid .state) ⌝ }
@@ -45,7 +45,7 @@ pub fn start(pid: u16, kind: Kind) -> Started
     Started { refusal: 0, state }
 }
 
-// The same into lent bytes, which a refusal leaves as they were.
+// The same, written into the caller's bytes. A refusal leaves them as they were.
 #[no_mangle]
 pub extern "C" fn niranbok_composer_start(state: &mut [u8], pid: u16, kind: u8) -> u8
     ensures { λ r. ⌜ r ≡ startRefused (now (state .entry)) pid kind ⌝ }

@@ -1,4 +1,4 @@
--- What each call answers and leaves, over the bytes that it is lent.
+-- What each call answers, and what it leaves in the caller's bytes.
 use Prim.Native.Nat.{ℕ}
 use mathlib.Core.Bool.{cond, not}
 use mathlib.Core.List.{List, [], _∷_}
@@ -12,7 +12,7 @@ use Rattle.header_read.specs.Reader.{readOf}
 use Rattle.setting_bytes.specs.Kinds.{isKind, kindOf}
 use Rattle.setting_bytes.specs.Settings.{settingLength, settingBytes, settingOf}
 
--- what both calls ask of what they are lent, by its lengths: 1, 2, and 17 for a number that is no kind
+-- the checks of both calls: 1 for the lengths of the buffers, 2 for the PID, and 17 for a number that is no kind
 unfoldable pub callRefused : ℕ → ℕ → ℕ → ℕ → ℕ
 callRefused packet setting pid kind =
     firstOf ((1, not (eqb packet headerLength))
@@ -21,7 +21,7 @@ callRefused packet setting pid kind =
     ∷ (17, not (isKind kind))
     ∷ [])
 
--- then what the header's call answers
+-- the call's own refusal, or else what the writer or the reader answers
 unfoldable pub thenRefused : ℕ → ℕ → ℕ
 thenRefused call inner = cond (eqb call 0) inner call
 

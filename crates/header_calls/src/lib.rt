@@ -1,10 +1,10 @@
-// The calls on a header over the bytes of a setting: what they answer and leave, what both ask, and the one that reads.
+// The calls that write and read a header, with the setting as bytes: what they answer and leave, the checks of both, and the one that reads.
 use packet::PACKET_BYTES;
 use setting_bytes::SETTING_BYTES;
 ghost use mathlib.Core.Path.{_≡_};
 ghost use Rattle.header_calls.specs.Calls.{callRefused, readRefused, readMemory};
 
-// 1, 2, 17: the lengths of what is lent, the PID, the kind.
+// 1, 2, 17: the lengths of the buffers, the PID, the kind.
 pub fn call_refusal(packet: usize, setting: usize, pid: u16, kind: u8) -> u8
     ensures { λ r. ⌜ r ≡ callRefused packet setting pid kind ⌝ }
 {

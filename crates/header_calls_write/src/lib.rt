@@ -1,5 +1,5 @@
-// The call that writes a header. It stands apart from the one that reads: in one crate the compiler would share the CRC between them, as a
-// call, and writing would take a tenth longer.
+// The call that writes a header. It has a crate of its own: in one crate with the call that reads, the compiler would make the CRC a shared
+// function instead of inlining it, and writing would take a tenth longer.
 ghost use mathlib.Core.Path.{_≡_};
 ghost use Rattle.header_calls.specs.Calls.{writeRefused, writeMemory};
 

@@ -17,7 +17,7 @@ unfoldable pub readRefusal : Kind → ℕ → List ℕ → ℕ
 readRefusal kind pid p =
     firstOf (callChecks pid (length p) ++ (packetChecks pid p ++ ruleChecks kind (reading kind p)))
 
--- the parts of a setting that receiving and gathering use, beside a refusal's number
+-- a refusal's number, and the parts of a setting that receiving and gathering use
 unfoldable pub partsOf : ℕ → Setting → Checked
 partsOf n s =
     record {
@@ -34,7 +34,7 @@ partsOf n s =
       «frame_position» = s .«frame_position»;
     }
 
--- beside refusal 0 those of what the packet says, beside another number zeros
+-- with refusal 0 those that the packet says, with any other number zeros
 unfoldable pub partsBeside : ℕ → Kind → List ℕ → Checked
 partsBeside n kind p = partsOf n (cond (eqb n 0) (reading kind p) blank)
 

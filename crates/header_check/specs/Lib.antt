@@ -1,2 +1,2 @@
--- A packet checked as a header: its refusal, and what receiving and gathering use of what it says.
+-- A packet checked as a header: its refusal, and the fields that receiving and gathering use.
 pub mod Checking

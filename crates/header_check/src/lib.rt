@@ -1,5 +1,5 @@
-// A packet checked as a header: its refusal, and of what it says the part that receiving and gathering use. The reader of whole headers
-// is made of it.
+// A packet checked as a header: its refusal, and the fields that receiving and gathering use. The reader of whole headers is built on
+// this check.
 use counters::FramePosition;
 use counters::SLOTS;
 use counters::STREAMS;
@@ -9,7 +9,7 @@ ghost use Rattle.header_check.specs.Checking.{checkedOf};
 
 mod parts;
 
-// Refusal 0 and what receiving and gathering use of a header, or the refusal's number and zeros.
+// Refusal 0 and the fields that receiving and gathering use, or the refusal's number and zeros.
 pub struct Checked {
     pub refusal: u8,
     pub continuity_counter: u8,
@@ -24,7 +24,7 @@ pub struct Checked {
     pub frame_position: FramePosition,
 }
 
-// Checks the lent packet as a header, by 1 to 11.
+// Checks the packet as a header, for refusals 1 to 11.
 pub fn check(packet: &[u8], pid: u16, kind: Kind) -> Checked
     ensures { λ r. ⌜ r ≡ checkedOf kind pid (now (packet .entry)) ⌝ }
 {

@@ -1,4 +1,4 @@
-// The check's parts: what a packet of 188 bytes shows and says, as far as it is asked.
+// The parts of the check: what a packet of 188 bytes shows and says, as far as the check needs it.
 use crate::Checked;
 use counters::FramePosition;
 use counters::SLOTS;
@@ -77,7 +77,7 @@ fn read_identifiers(ts: &mut [u16], os: &mut [u16], part: &[u8])
     }
 }
 
-// The bonding fields: of an extended header those of the packet, of a plain one zeros.
+// The bonding fields: those of the packet for an extended header, zeros for a plain one.
 struct Bonding {
     group_id: u8,
     number_of_carriers: u8,
@@ -128,7 +128,7 @@ fn bonding_refusal(bonding: Bonding, kind: Kind) -> u8
     )
 }
 
-// 8 to 11, and what the packet says where none of them holds. Each part is read when it is first asked for.
+// 8 to 11, and what the packet says if none of them applies. Each part is read when it is first needed.
 pub(crate) fn said_by(packet: &[u8], kind: Kind) -> Checked
     requires { ⌜ length (now packet) ≡ headerLength ⌝ }
     ensures { λ r. ⌜ r ≡ partsBeside (firstOf (ruleChecks kind (reading kind (now (packet .entry))))) kind (now (packet .entry)) ⌝ }

@@ -37,7 +37,7 @@ ReservedOnes kind p =
     (k : ℕ) → k < length (layout kind) → fieldAt kind k ≡ Field.reserved → row kind p k ≡ allOnes (getD (layout kind) k (0, 0))
 
 -- 'A header that the reader accepts, written again, gives the same bytes but for reserved bits': it is written, it says the same
--- in every row that is not reserved, and where the reserved bits were ones it is the same header, its CRC too
+-- in every row that is not reserved, and if the reserved bits were ones it is the same header, with the same CRC
 abbrev pub WrittenAgain : Type 0
 WrittenAgain =
     (kind : Kind) (pid : ℕ) (p : List ℕ) → Fit 8 p → readRefusal kind pid p ≡ 0

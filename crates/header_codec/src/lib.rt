@@ -1,4 +1,4 @@
-// Writer and reader of the header under one name, and the theorems that they fit together.
+// The writer and the reader of the header in one crate, and the theorems that they fit together.
 pub use header_read::Reading;
 pub use header_read::read;
 pub use header_write::write;

@@ -6,7 +6,7 @@ use lib.ListN.{length}
 use Rattle.setting.specs.declared.Kind.{Kind}
 use Rattle.setting.specs.declared.Setting.{Setting}
 use Rattle.header_layout.specs.Rows.{place}
-use Rattle.header_layout.specs.Layout.{startTable, identifierTable, controlTable, numberTable, privateTable, table, layout, rowWith}
+use Rattle.header_layout.specs.Layout.{startTable, identifierTable, controlTable, numberTable, privateTable, table, layout, rowWith, numbersStart}
 use Rattle.header_layout.specs.Header.{held, content}
 use Rattle.header_layout.proofs.Rows.{size}
 
@@ -23,6 +23,11 @@ pub size-layout : (kind : Kind) → size (layout kind) ≡ bodyBits
 unfolding laid-out place
 size-layout Kind.Plain = refl
 size-layout Kind.Extended = refl
+
+-- the byte at which the slots' numbers start
+pub numbers-start : numbersStart ≡ 73
+unfolding numbersStart laid-out place
+numbers-start = refl
 
 pub length-content : (kind : Kind) (pid : ℕ) (s : Setting) → length (content kind pid s) ≡ length (layout kind)
 unfolding laid-out

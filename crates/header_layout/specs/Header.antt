@@ -1,4 +1,4 @@
--- What stands in the rows of a header, the header that they make, and what a packet says that is read as one.
+-- What stands in the rows of a header, the header made of them, and what a packet says when it is read as a header.
 use Prim.Native.Nat.{ℕ, _-_, _^_}
 use mathlib.Core.Bool.{not, _&&_}
 use mathlib.Core.List.{List, [], _∷_, _++_, map}
@@ -22,7 +22,7 @@ headerLength = 188
 abbrev pub one : ℕ → List ℕ
 one v = v ∷ []
 
--- the identifiers of each stream, one stream behind the other, and each taken out of that again
+-- the two identifiers of each stream, one stream behind the other; and out of these again the first of each stream, and the second
 unfoldable pub paired : List ℕ → List ℕ → List ℕ
 paired [] os = []
 paired (t ∷ ts) [] = []
@@ -42,7 +42,7 @@ seconds (t ∷ o ∷ ids) = o ∷ seconds ids
 abbrev pub allOnes : Row → List ℕ
 allOnes r = replicate (r .1) (2 ^ r .0 - 1)
 
--- what stands in a line's row of the header that says a setting. Reserved bits are ones
+-- what stands in a line's row of a setting's header. Reserved bits are ones
 unfoldable pub held : ℕ → Setting → Line → List ℕ
 held pid s (Field.reserved, r) = allOnes r
 held pid s (Field.sync-byte, r) = one syncByte
@@ -79,7 +79,7 @@ content kind pid s = map (held pid s) (table kind)
 unfoldable pub body : Kind → ℕ → Setting → List ℕ
 body kind pid s = lineBits pid s (table kind)
 
--- the header's 188 bytes. The CRC is the register that the bytes from byte 4 on leave
+-- the header's 188 bytes. The CRC is what the register holds after the bytes from byte 4 on
 unfoldable pub header : Kind → ℕ → Setting → List ℕ
 header kind pid s =
     cut 8 headerLength (body kind pid s ++ bitsOf 32 (registerFrom (2 ^ 32 - 1) (drop 32 (body kind pid s))))
@@ -119,7 +119,7 @@ reading kind p =
       «frame_position» = record { 0 = byKind kind 0 (value kind p Field.position) };
     }
 
--- what is asked of every call's PID and of the packet or buffer that it is lent
+-- what every call checks of its PID and of its packet or buffer
 abbrev pub callChecks : ℕ → ℕ → List Check
 callChecks pid lent = (1, not (eqb lent headerLength)) ∷ (2, not (pidAllowed pid)) ∷ []
 

@@ -1,12 +1,12 @@
-// The header's 188 bytes: where its parts start, by the formulas over the counts. The table, what stands in it and what a packet says
-// by it are in specs/; the laws that the writer and the reader need are in proofs/.
+// The header's 188 bytes: where its parts start, computed from the numbers of streams and slots. The table, what stands in it and how a
+// packet is read by it are in specs/; the laws that the writer and the reader need are in proofs/.
 use counters::SLOTS;
 use counters::STREAMS;
 use setting::AUXILIARY_BYTES;
 use setting::PRIVATE_BYTES;
 
 pub const HEADER_LENGTH: usize = 188;
-// The CRC runs from here on.
+// The CRC covers the bytes from here on.
 pub const TSMF_SYNC: usize = 4;
 
 pub const IDENTIFIERS: usize = 9;

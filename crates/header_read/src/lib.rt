@@ -13,7 +13,7 @@ pub struct Reading {
     pub setting: Setting,
 }
 
-// Reads the lent packet as a header. Answers refusal 0 and the setting, or the refusal's number and zeros.
+// Reads the packet as a header. Answers refusal 0 and the setting, or the refusal's number and zeros.
 pub fn read(packet: &[u8], pid: u16, kind: Kind) -> Reading
     ensures { λ r. ⌜ r ≡ readOf kind pid (now (packet .entry)) ⌝ }
 {

@@ -1,4 +1,4 @@
-// The reader's parts: what a header says that its check does not answer, and all of it as a setting.
+// The parts of the reader: the fields that the check does not answer, and all fields as a setting.
 use crate::packed;
 use counters::STREAMS;
 use header_check::Checked;
@@ -13,7 +13,7 @@ ghost use Rattle.setting.specs.Rules.{byKind};
 ghost use Rattle.header_layout.specs.Header.{headerLength, reading};
 ghost use Rattle.header_check.specs.Checking.{partsOf};
 
-// The private data of a plain header, or the auxiliary information of an extended one. The lent bytes of the other kind stay.
+// The private data of a plain header, or the auxiliary information of an extended one. The other one's bytes stay as they were.
 fn read_private(data: &mut [u8], auxiliary: &mut [u8], packet: &[u8], kind: Kind)
     requires { ⌜ length (now packet) ≡ headerLength ⌝ }
     requires { ⌜ (length (now «data») ≡ privateBytes) × (length (now auxiliary) ≡ auxiliaryBytes) ⌝ }
@@ -57,7 +57,7 @@ fn fields_of(packet: &[u8]) -> Fields
     }
 }
 
-// What the packet says, field by field. `heard` has the parts that the check has read already. A part that the kind does not have is zeros.
+// What the packet says, field by field. `heard` has the parts that the check has already read. A part that the kind does not have is zeros.
 pub(crate) fn setting_of(packet: &[u8], kind: Kind, heard: Checked) -> Setting
     requires { ⌜ (length (now packet) ≡ headerLength) × (heard ≡ partsOf 0 (reading kind (now packet))) ⌝ }
     ensures { λ r. ⌜ r ≡ reading kind (now (packet .entry)) ⌝ }

@@ -11,8 +11,8 @@ ghost use Rattle.header_write.specs.Writing.{writeRefusal, written};
 mod packed;
 mod writer;
 
-// Writes the header of a setting into the lent 188 bytes, each field by its low bits; a buffer of any other length stays. It asks no
-// rules: a caller has asked them.
+// Writes the header of a setting into a buffer of 188 bytes, each field by its low bits. A buffer of any other length stays as it was. The
+// rules are not checked here: the caller has checked them.
 pub fn write_header(buffer: &mut [u8], pid: u16, kind: Kind, s: Setting)
     ensures { λ _. ⌜ now (buffer .exit) ≡ cond (eqb (length (now (buffer .entry))) headerLength) (header kind pid s) (now (buffer .entry)) ⌝ }
 {
@@ -26,7 +26,7 @@ pub fn write_header(buffer: &mut [u8], pid: u16, kind: Kind, s: Setting)
     }
 }
 
-// Writes the setting's header into the lent 188 bytes. Answers 0, or the refusal's number and leaves the buffer as it was.
+// Writes the setting's header into a buffer of 188 bytes. Answers 0; or answers the refusal's number, and leaves the buffer as it was.
 pub fn write(buffer: &mut [u8], pid: u16, kind: Kind, s: Setting) -> u8
     ensures { λ r. ⌜ r ≡ writeRefusal kind pid s (length (now (buffer .entry))) ⌝ }
     ensures { λ _. ⌜ now (buffer .exit) ≡ written kind pid s (now (buffer .entry)) ⌝ }

@@ -12,7 +12,7 @@ pub(crate) fn four(a: u8, b: u8, c: u8, d: u8) -> u8
     a % 4 * 64 + b % 4 * 16 + c % 4 * 4 + d % 4
 }
 
-// Packs the low 4 bits of each value, two a byte.
+// Packs the low 4 bits of each value, two values to a byte.
 pub(crate) fn write_halves(part: &mut [u8], values: &[u8])
     requires { ⌜ length (now values) ≡ 2 * length (now part) ⌝ }
     ensures { λ _. ⌜ run 8 (now (part .exit)) ≡ run 4 (now (values .entry)) ⌝ }

@@ -1,4 +1,4 @@
-// The writer's parts: each fills its own bytes of the lent buffer, straight from the setting. A field shows its low bits.
+// The parts of the writer: each fills its own bytes of the buffer, straight from the setting. Of each field the low bits are written.
 use crate::packed;
 use setting::AUXILIARY_BYTES;
 use setting::Kind;

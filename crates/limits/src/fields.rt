@@ -17,7 +17,7 @@ fn print(name: &[u8], first: u64, last: u64, refusal: u64) {
     io::write_all(STDOUT_FILENO, b"\n");
 }
 
-// A field of so many values, from 0 on, of which any other is a 17.
+// A field with so many values, from 0 on. Any other value is refused with 17.
 fn print_values(name: &[u8], values: u64) {
     if 0 < values {
         print(name, 0, values - 1, 17);
@@ -61,8 +61,8 @@ pub(crate) fn print_stream_fields() {
     print_values(b"relative_ts_number", limits::NUMBERS as u64);
 }
 
-// Private data and what an extended header has. A carrier's sequence is at most the number of carriers, and a frame's position at most
-// the number of frames.
+// Private data, and the fields of an extended header. A carrier's sequence is at most the number of carriers, and a frame's position at
+// most the number of frames.
 pub(crate) fn print_bonding_fields() {
     print(b"private_data", 0, 0xFF, 0);
     print(b"auxiliary", 0, 0xFF, 0);

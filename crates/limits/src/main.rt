@@ -1,8 +1,8 @@
-// Prints what a menu has to know, from the constants that the calls ask by, as text with tabs between the fields of a line:
-//   field, its name, its first and its last value, and the refusal of any other (0: none is refused);
-//   refusal, its number and its name, in the order in which a call asks;
-//   length, of what, and how many bytes;
-//   place, of which field in a setting's bytes, where it starts, and how many bytes it has.
+// Prints what a menu has to know, from the constants that the calls check against, as text with tabs between the fields of a line:
+//   field: its name, its first and last value, and the refusal of any other value (0: none is refused);
+//   refusal: its number and its name, in the order in which a call checks;
+//   length: of what, and how many bytes;
+//   place: of which field in a setting's bytes, where it starts, and how many bytes it has.
 mod fields;
 mod layout;
 mod refusals;

@@ -9,7 +9,7 @@ fn print(number: u64, name: &[u8]) {
     io::write_all(STDOUT_FILENO, b"\n");
 }
 
-// What a call asks of what it is lent.
+// The checks of a call's own arguments.
 pub(crate) fn print_lent_refusals() {
     print(1, b"length");
     print(2, b"header_pid");
@@ -17,7 +17,7 @@ pub(crate) fn print_lent_refusals() {
     print(16, b"no_frame");
 }
 
-// What is asked of a header.
+// The checks of a header.
 pub(crate) fn print_header_refusals() {
     print(3, b"sync_byte");
     print(4, b"other_pid");
@@ -26,7 +26,7 @@ pub(crate) fn print_header_refusals() {
     print(7, b"crc");
 }
 
-// What is asked of its setting.
+// The checks of its setting.
 pub(crate) fn print_setting_refusals() {
     print(8, b"frame_type");
     print(9, b"unavailable_number");
@@ -34,7 +34,7 @@ pub(crate) fn print_setting_refusals() {
     print(11, b"bonding_fields");
 }
 
-// What is asked behind the headers.
+// The checks behind those of the headers.
 pub(crate) fn print_call_refusals() {
     print(14, b"group");
     print(13, b"unavailable_stream");

@@ -1,5 +1,5 @@
-// Lists recordings, of plain headers with the PID 0x1FF0: each file that an argument names, `-` being the standard
-// input, or without arguments the standard input.
+// Lists recordings with plain headers of PID 0x1FF0: each file that an argument names, where `-` is standard input, or
+// standard input if there are no arguments.
 use libc::STDIN_FILENO;
 use libc::STDOUT_FILENO;
 ghost use Prim.Native.Nat.{_+_, _^_, _≤_, _<_};
@@ -8,14 +8,14 @@ ghost use lib.ListN.{length};
 ghost use Rattle.io.specs.Counts.{Counts};
 ghost use Rattle.listing.specs.Listing.{packetsIn, roomFor, listing, overFront};
 
-// The packets of a block, its bytes, and room for its lines: input is read and output written a block at a time.
+// The packets of a block, its bytes, and room for its lines. Input is read and output is written a block at a time.
 const BLOCK_PACKETS: usize = 174;
 
 const BLOCK_BYTES: usize = listing::PACKET_BYTES * BLOCK_PACKETS;
 
 const TEXT_BYTES: usize = listing::LINE_BYTES * (BLOCK_PACKETS + 1);
 
-// Reads once. A read that fails is reported, and brings nothing.
+// Reads once. A read that fails is reported, and counts as no bytes.
 fn read_once(fd: i32, name: &[u8], place: &mut [u8]) -> usize
     ensures { λ r. ⌜ r ≤ length (now (place .exit)) ⌝ }
 {
@@ -26,7 +26,7 @@ fn read_once(fd: i32, name: &[u8], place: &mut [u8]) -> usize
     io::count(got, place)
 }
 
-// Reads until the block is full or a read brings nothing: one that brings less than was asked is not the end.
+// Reads until the block is full or a read brings nothing. A read that brings less than was asked for is not the end.
 fn read_block(fd: i32, name: &[u8], block: &mut [u8]) -> usize
     ensures { λ r. ⌜ Counts r (now (block .exit)) ⌝ }
 {
@@ -41,7 +41,7 @@ fn read_block(fd: i32, name: &[u8], block: &mut [u8]) -> usize
     done
 }
 
-// The listing of a block over the front of a buffer, where no check refuses it. Answers its length.
+// Puts the listing of a block to the front of a buffer, if no check refuses it. Answers its length.
 fn put_block(out: &mut [u8], block: &[u8], first: u64) -> usize
     requires { ⌜ roomFor (length (now block)) ≤ length (now out) ⌝ }
     requires { ⌜ first + packetsIn (length (now block)) ≤ 2 ^ 64 ⌝ }
@@ -53,7 +53,7 @@ fn put_block(out: &mut [u8], block: &[u8], first: u64) -> usize
     listed.length
 }
 
-// Lists one block, of which the first packet has this number. Answers whether more may follow.
+// Lists one block, whose first packet has this number. Answers whether more may follow.
 fn list_block(fd: i32, name: &[u8], first: u64) -> bool
     requires { ⌜ first + 174 < 2 ^ 64 ⌝ }
 {
@@ -68,7 +68,7 @@ fn list_block(fd: i32, name: &[u8], first: u64) -> bool
     got == BLOCK_BYTES
 }
 
-// Lists what is open here. A loop that is proved has to end: the numbers of packets do.
+// Lists the open file. A proved loop has to end: this one does, at the latest, when the numbers of packets run out.
 fn list_open(fd: i32, name: &[u8]) {
     let step = BLOCK_PACKETS as u64;
     let mut number: u64 = 0;

@@ -1,4 +1,4 @@
--- The listing of a recording: a line for each packet, and one for bytes that are left over.
+-- The listing of a recording: a line for each packet, and one for left-over bytes.
 use Prim.Native.Nat.{ℕ, zero, suc, _+_, _*_, _/_, _%_, _^_}
 use mathlib.Core.Path.{_≡_}
 use mathlib.Core.Bool.{cond}
@@ -20,15 +20,15 @@ listedPid = 0x1FF0
 abbrev pub packetLength : ℕ
 packetLength = 188
 
--- the whole packets among so many bytes
+-- how many whole packets so many bytes are
 abbrev pub packetsIn : ℕ → ℕ
 packetsIn lent = lent / packetLength
 
--- the bytes that a line may take
+-- the most bytes that a line takes
 abbrev pub lineRoom : ℕ
 lineRoom = 96
 
--- the bytes that the listing of so many bytes may take: a line for each packet, and one for bytes that are left over
+-- the most bytes that the listing of so many bytes takes: a line for each packet, and one for left-over bytes
 abbrev pub roomFor : ℕ → ℕ
 roomFor lent = lineRoom * (packetsIn lent + 1)
 
@@ -42,7 +42,7 @@ headerWord = 104 ∷ 101 ∷ 97 ∷ 100 ∷ 101 ∷ 114 ∷ []
 abbrev pub tailWord : List ℕ
 tailWord = 116 ∷ 97 ∷ 105 ∷ 108 ∷ []
 
--- what is said of a packet that is no good header
+-- what is said of a packet that is not a good header
 unfoldable pub refusedFields : ℕ → List ℕ
 refusedFields refusal = field refusedWord space ++ field (decimal refusal) lineFeed
 
@@ -67,16 +67,16 @@ line number packet = field (decimal number) space ++ readingFields (readOf Kind.
 abbrev pub packetAt : List ℕ → ℕ → List ℕ
 packetAt bytes k = take packetLength (drop (packetLength * k) bytes)
 
--- the lines of the first n packets, of which the first has the number `first`
+-- the lines of the first n packets; the first packet has the number `first`
 unfoldable pub lines : ℕ → List ℕ → ℕ → List ℕ
 lines first bytes zero = []
 lines first bytes (suc n) = lines first bytes n ++ line (first + n) (packetAt bytes n)
 
--- the line for bytes that are left over, where there are any
+-- the line for left-over bytes, if there are any
 unfoldable pub tailLine : ℕ → List ℕ
 tailLine left = cond (eqb left 0) [] (field tailWord space ++ field (decimal left) lineFeed)
 
--- the listing of a recording's bytes, of which the first packet has the number `first`
+-- the listing of a recording's bytes; the first packet has the number `first`
 unfoldable pub listing : ℕ → List ℕ → List ℕ
 listing first bytes = lines first bytes (packetsIn (length bytes)) ++ tailLine (length bytes % packetLength)
 
@@ -96,16 +96,16 @@ listed first bytes room =
       length = cond (eqb (listRefusal first (length bytes) room) 0) (length (listing first bytes)) 0;
     }
 
--- a text over the front of a buffer, whose other bytes stay
+-- a text over the front of a buffer; its other bytes stay
 unfoldable pub overFront : List ℕ → List ℕ → List ℕ
 overFront text buffer = text ++ drop (length text) buffer
 
--- what the buffer holds after a call: the listing over its front, or what it held
+-- what the buffer holds after a call: the listing over its front, or what it held before
 unfoldable pub listedOver : ℕ → List ℕ → List ℕ → List ℕ
 listedOver first bytes buffer =
     cond (eqb (listRefusal first (length bytes) (length buffer)) 0) (overFront (listing first bytes) buffer) buffer
 
--- A recording that is listed block by block is listed whole, where each block but the last is whole packets.
+-- A recording that is listed block by block gets the same listing as the whole, if each block but the last is whole packets.
 abbrev pub ByBlocks : Type 0
 ByBlocks =
     (first packets : ℕ) (block rest : List ℕ) → length block ≡ packetLength * packets

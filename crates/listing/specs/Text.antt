@@ -12,7 +12,7 @@ space = 32
 abbrev pub lineFeed : ℕ
 lineFeed = 10
 
--- the digits of n without zeros in front, of a number that has no more than `most`
+-- the digits of n without leading zeros, if it has no more than `most` digits
 unfoldable pub digitsWithin : ℕ → ℕ → List ℕ
 digitsWithin zero n = []
 digitsWithin (suc most) n = cond (ltb n 10) [] (digitsWithin most (n / 10)) ++ ((48 + n % 10) ∷ [])
@@ -21,11 +21,11 @@ digitsWithin (suc most) n = cond (ltb n 10) [] (digitsWithin most (n / 10)) ++ (
 unfoldable pub decimal : ℕ → List ℕ
 decimal n = digitsWithin 20 n
 
--- a field, and the byte behind it
+-- a field and the byte behind it
 unfoldable pub field : List ℕ → ℕ → List ℕ
 field text end = text ++ (end ∷ [])
 
--- text was put into a buffer at a place: every other byte stays, and `next` is the place behind the text
+-- a text was put into a buffer at a place: every other byte stays, and `next` is the place behind the text
 pub record Puts (buffer : List ℕ) (at : ℕ) (text : List ℕ) (after : List ℕ) (next : ℕ) : Type 0 where
   pub is : after ≡ take at buffer ++ (text ++ drop (at + length text) buffer)
   pub behind : next ≡ at + length text

@@ -7,12 +7,12 @@ ghost use Rattle.listing.specs.Listing.{listRefusal, listed, listedOver}
 mod lines;
 mod text;
 
-// The bytes of a packet, and those that a line may take: a line for each packet and one more is room enough.
+// The bytes of a packet, and the most that a line takes. A line for each packet and one more is room enough.
 pub const PACKET_BYTES: usize = 188;
 
 pub const LINE_BYTES: usize = 96;
 
-// The refusal's number and length 0, or refusal 0 and the bytes of the listing.
+// The refusal's number and length 0, or refusal 0 and the length of the listing.
 pub struct Listed {
     pub refusal: u8,
     pub length: usize,
@@ -32,8 +32,8 @@ fn list_refusal(lent: usize, first: u64, room: usize) -> u8
     0
 }
 
-// Puts the listing of `bytes`, of which the first packet has the number `first`, at the front of `out`. A refusal
-// leaves `out` as it was.
+// Puts the listing of `bytes`, whose first packet has the number `first`, at the front of `out`. A refusal leaves `out` as
+// it was.
 pub fn list(out: &mut [u8], bytes: &[u8], first: u64) -> Listed
     ensures { λ r. ⌜ r ≡ listed first (now (bytes .entry)) (length (now (out .entry))) ⌝ }
     ensures { λ _. ⌜ now (out .exit) ≡ listedOver first (now (bytes .entry)) (now (out .entry)) ⌝ }

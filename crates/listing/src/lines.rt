@@ -53,7 +53,7 @@ fn put_line(out: &mut [u8], at: usize, number: u64, packet: &[u8]) -> usize
     )
 }
 
-// The line for bytes that are left over, where there are any.
+// The line for left-over bytes, if there are any.
 fn put_tail(out: &mut [u8], at: usize, left: usize) -> usize
     requires { ⌜ at + lineRoom ≤ length (now out) ⌝ }
     ensures { λ r. ⌜ Puts (now (out .entry)) at (tailLine left) (now (out .exit)) r ⌝ }
@@ -66,7 +66,7 @@ fn put_tail(out: &mut [u8], at: usize, left: usize) -> usize
     put_number(out, next, left as u64, b'\n')
 }
 
-// The listing of `bytes`, of which the first packet has the number `first`, at the front of a buffer with room for it.
+// The listing of `bytes`, whose first packet has the number `first`, at the front of a buffer with room for it.
 pub(crate) fn put_listing(out: &mut [u8], bytes: &[u8], first: u64) -> usize
     requires { ⌜ roomFor (length (now bytes)) ≤ length (now out) ⌝ }
     requires { ⌜ first + packetsIn (length (now bytes)) ≤ 2 ^ 64 ⌝ }

@@ -29,14 +29,14 @@ nullPacket = 0x47 ∷ 0x1F ∷ 0xFF ∷ 0x10 ∷ replicate 184 0xFF
 unfoldable pub unfit : ℕ → List ℕ → Bool
 unfit pid p = not (eqb (startValue p Field.sync-byte) syncByte) || eqb (startValue p Field.header-pid) pid
 
--- 1: it has not 188 bytes; 12: it is unfit; 0: it may stand in a slot
+-- 1: it is not 188 bytes long; 12: it is unfit; 0: it may stand in a slot
 unfoldable pub placeRefusal : ℕ → List ℕ → ℕ
 placeRefusal pid p = firstOf ((1, not (eqb (length p) packetLength)) ∷ (12, unfit pid p) ∷ [])
 
--- whether one of a stream's whole packets is unfit
+-- whether any whole packet of a stream is unfit
 unfoldable pub someUnfitIn : ℕ → List ℕ → Bool
 someUnfitIn pid stream = anyBelow (length stream / packetLength) (λ k. unfit pid (slot k stream))
 
--- the rest of a lent stream of which so many packets were placed
+-- the rest of a stream from which so many packets were placed
 unfoldable pub restOf : List ℕ → ℕ → List ℕ
 restOf stream placed = drop (packetLength * placed) stream

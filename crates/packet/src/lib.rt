@@ -24,7 +24,7 @@ pub fn place_refusal(packet: &[u8], pid: u16) -> u8
     0
 }
 
-// Whether one of a stream's whole packets lacks 0x47 or bears the header PID.
+// Whether any whole packet of a stream lacks 0x47 or bears the header PID.
 pub fn has_unfit(stream: &[u8], pid: u16) -> bool
     ensures { λ r. ⌜ r ≡ someUnfitIn pid (now (stream .entry)) ⌝ }
 {
@@ -40,7 +40,7 @@ pub fn has_unfit(stream: &[u8], pid: u16) -> bool
     false
 }
 
-// What is left of a lent stream of which so many packets were placed.
+// The rest of a stream from which so many packets were placed.
 pub fn rest<'a>(stream: &'a [u8], placed: usize) -> &'a [u8]
     ensures { λ r. ⌜ now r ≡ restOf (now (stream .entry)) placed ⌝ }
 {
@@ -59,7 +59,7 @@ pub extern "C" fn niranbok_place_refusal(packet: &[u8], pid: u16) -> u8
     place_refusal(packet, pid)
 }
 
-// How many bytes of a stream are left behind so many placed packets.
+// How many bytes of a stream are left after so many packets were placed.
 #[no_mangle]
 pub extern "C" fn niranbok_composer_rest(stream: &[u8], placed: usize) -> usize
     ensures { λ r. ⌜ r ≡ length (restOf (now (stream .entry)) placed) ⌝ }

@@ -1,4 +1,4 @@
--- What a packet is that arrives, and what it leaves in the store.
+-- What sort of packet arrives, and what it leaves in the store.
 use Prim.Native.Nat.{ℕ, _*_}
 use mathlib.Core.Bool.{cond}
 use mathlib.Core.List.{List}
@@ -15,7 +15,7 @@ use Rattle.receiver.specs.Table.{Sort, good, broken, other, storedOf}
 unfoldable pub sortOf : Kind → ℕ → List ℕ → Sort
 sortOf kind pid p = cond (eqb (readRefusal kind pid p) 0) good (cond (unfit pid p) broken other)
 
--- the store: a packet that is no header and not broken stands in slot k + 1, at 188 × k, while there is one
+-- the store afterwards: with k packets stored, one that is neither a header nor broken goes to slot k + 1, at byte 188 × k, if there is one
 unfoldable pub storeAfter : Stage → Sort → List ℕ → List ℕ → List ℕ
 storeAfter stage good p store = store
 storeAfter stage broken p store = store

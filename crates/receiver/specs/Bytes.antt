@@ -1,4 +1,4 @@
--- A receiver's state as its 58 bytes, and what bytes say as a state.
+-- A receiver's state as 58 bytes, and the state that bytes code.
 use Prim.Native.Nat.{ℕ, _+_, _^_, _<_}
 use mathlib.Core.Bool.{Bool, cond, not, _&&_, _||_}
 use mathlib.Core.List.{List, [], _∷_, _++_}
@@ -52,7 +52,7 @@ stageBytes Stage.Waiting = 0 ∷ 0 ∷ 0 ∷ []
 stageBytes (Stage.Open from k) = 1 ∷ from ∷ k ∷ []
 stageBytes (Stage.Ready from) = 2 ∷ from ∷ 0 ∷ []
 
--- a stage that every call refuses with 17, since no header has this counter: what bytes say that are no stage's
+-- a stage that every call refuses with 17, since no header has this counter. Bytes that code no stage are read as this one
 abbrev pub noStage : Stage
 noStage = Stage.Open 255 0
 
@@ -62,13 +62,13 @@ stageOf tag from k =
     (cond (eqb tag 1) (Stage.Open from k)
     (cond (eqb tag 2 && eqb k 0) (Stage.Ready from) noStage))
 
--- the stage that a state's bytes say: beside a number that is no kind, none
+-- the stage in a state's bytes. If the kind's byte is no kind, it is `noStage`
 abbrev pub stageIn : List ℕ → Stage
 stageIn b = cond (isKind (getD b kindAt 0)) (stageOf (getD b stageAt 0) (getD b counterAt 0) (getD b storedAt 0)) noStage
 
 -- ---- the state
 
--- PID, kind, stage, the slots' numbers by the open frame's header and by the one before, as headers have them
+-- PID, kind, stage, the slots' numbers by the open frame's header and by the one before, packed as in headers
 unfoldable pub receiverBytes : Receiver → List ℕ
 receiverBytes c =
     (wordBytes (c .pid ∷ []) ++ (kindNumber (c .kind) ∷ [])) ++ (stageBytes (c .stage) ++ (packed (c .numbers) ++ packed (c .before)))
@@ -83,17 +83,17 @@ receiverOf b =
       before = unpacked (part beforeAt packedLength b);
     }
 
--- a receiver that bytes can say: a PID of 16 bits, and a number of four for each slot; any other is refused with 17
+-- a receiver that bytes can code: a PID of 16 bits, and a number of 4 bits for each slot
 pub record Codable (c : Receiver) : Type 0 where
   pub pid : c .pid < 2 ^ 16
   pub numbers : Array lastSlot 4 (c .numbers)
   pub before : Array lastSlot 4 (c .before)
 
--- whether three bytes are a stage's: 0 to 2; waiting has no counter and nothing stored; ready has nothing stored
+-- whether three bytes code a stage: the first is 0 to 2; waiting has counter 0 and nothing stored; ready has nothing stored
 abbrev pub isStage : ℕ → ℕ → ℕ → Bool
 isStage tag from k = leb tag 2 && ((not (eqb tag 0) || (eqb from 0 && eqb k 0)) && (not (eqb tag 2) || eqb k 0))
 
--- whether bytes code a state: their kind is one, and their stage is one
+-- whether bytes code a state: the kind's byte is a kind, and the stage's bytes code a stage
 unfoldable pub isCoded : List ℕ → Bool
 isCoded b = isKind (getD b kindAt 0) && isStage (getD b stageAt 0) (getD b counterAt 0) (getD b storedAt 0)
 

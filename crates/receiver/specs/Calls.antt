@@ -1,4 +1,4 @@
--- What each call answers and leaves, over the bytes that it is lent.
+-- What each call answers, and what it leaves in the caller's bytes.
 use Prim.Native.Nat.{ℕ}
 use mathlib.Core.Bool.{cond, not}
 use mathlib.Core.List.{List, [], _∷_}
@@ -18,15 +18,15 @@ startRefused state pid kind =
 unfoldable pub startState : List ℕ → ℕ → ℕ → List ℕ
 startState state pid kind = leaves (startRefused state pid kind) (receiverBytes (waiting (kindOf kind) pid)) state
 
--- 1 for a state of another length, else the refusal that the state says
+-- 1 for a state of another length, else this refusal
 unfoldable pub lentRefusal : List ℕ → ℕ → ℕ
 lentRefusal state refusal = cond (eqb (length state) receiverLength) refusal 1
 
--- what every call asks of a state: its length, its PID and its numbers
+-- what every call checks of a state: its length, its PID and its numbers
 unfoldable pub stateRefused : List ℕ → ℕ
 stateRefused state = lentRefusal state (firstOf (receiverChecks (receiverOf state)))
 
--- receive: 1 for a state of another length, else what a receipt comes to by the state that the bytes say
+-- receive: 1 for a state of another length, else what receiving the packet in the coded state answers and leaves
 unfoldable pub receiveRefused : List ℕ → List ℕ → List ℕ → ℕ
 receiveRefused state p store = lentRefusal state (receiveOf (receiverOf state) p (length store) .refusal)
 
@@ -41,7 +41,7 @@ receiveState state p store =
 unfoldable pub receiveMemory : List ℕ → List ℕ → List ℕ → List ℕ
 receiveMemory state p store = cond (eqb (length state) receiverLength) (receiveStore (receiverOf state) p store) store
 
--- hand out: 1 for a state of another length, else what it comes to by the state that the bytes say
+-- hand out: 1 for a state of another length, else what handing out from the coded state answers and leaves
 unfoldable pub handOutRefused : List ℕ → ℕ → List ℕ → List ℕ → ℕ
 handOutRefused state r store out = lentRefusal state (handOutOf (receiverOf state) r (length store) (length out) .refusal)
 

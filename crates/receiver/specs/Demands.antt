@@ -16,8 +16,8 @@ use Rattle.receiver.specs.Calls.{receiveRefused, receiveEvent, receiveSt
 abbrev pub StateBack : Type 0
 StateBack = (c : Receiver) → Codable c → receiverOf (receiverBytes c) ≡ c
 
--- bytes with an allowed PID that code no state are refused with 17: by receive, whatever the packet, and by hand out, whatever
--- the number and the buffer
+-- bytes with an allowed PID that code no state are refused with 17: by receive, whatever the packet is, and by hand out, whatever the
+-- number and the buffer are
 abbrev pub UncodedRefused : Type 0
 UncodedRefused =
     (state store : List ℕ)

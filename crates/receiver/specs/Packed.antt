@@ -12,6 +12,6 @@ packedLength = lastSlot * 4 / 8
 unfoldable pub packed : List ℕ → List ℕ
 packed numbers = cut 8 packedLength (run 4 numbers)
 
--- the numbers that bytes say
+-- the numbers that bytes hold
 unfoldable pub unpacked : List ℕ → List ℕ
 unpacked bytes = cut 4 lastSlot (run 8 bytes)

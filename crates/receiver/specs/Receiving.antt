@@ -19,7 +19,7 @@ use Rattle.receiver.specs.Store.{storeLength, numbered, slotsFor}
 use Rattle.receiver.specs.Table.{Sort, good, broken, other, rowOf, stageChecks, isReady}
 use Rattle.receiver.specs.Arriving.{sortOf, storeAfter}
 
--- ---- the state, and what a packet's receipt comes to
+-- ---- the state, and what the calls answer
 
 -- the slots' numbers are those of the open frame's header, and those of the header before it
 pub record Receiver : Type 0 where
@@ -34,18 +34,18 @@ pub record Started : Type 0 where
   pub refusal : ℕ
   pub state : Receiver
 
--- refusal 0, the event and the new state; or the refusal's number, nothing and the state as it was
+-- refusal 0, the event and the new state; or the refusal's number, the event Nothing and the state as it was
 pub record Received : Type 0 where
   pub refusal : ℕ
   pub event : Event
   pub state : Receiver
 
--- a fresh one
+-- a fresh receiver
 unfoldable pub waiting : Kind → ℕ → Receiver
 waiting kind pid =
     record { pid = pid; kind = kind; stage = Stage.Waiting; numbers = replicate lastSlot 0; before = replicate lastSlot 0 }
 
--- the state somewhere else in the table, and behind a header that gives the slots these numbers
+-- the state at another stage, and the state after a header that gives the slots these numbers
 unfoldable pub moved : Receiver → Stage → Receiver
 moved c stage = record { pid = c .pid; kind = c .kind; stage = stage; numbers = c .numbers; before = c .before }
 
@@ -89,7 +89,7 @@ startOf kind pid =
       state = cond (pidAllowed pid) (waiting kind pid) (waiting Kind.Plain 0);
     }
 
--- the row that a packet takes
+-- the row of the table that applies to a packet
 unfoldable pub rowFor : Receiver → List ℕ → Row
 rowFor c p = rowOf (c .stage) (sortOf (c .kind) (c .pid) p) (reading (c .kind) p .«continuity_counter»)
 
@@ -107,7 +107,7 @@ unfoldable pub receiveStore : Receiver → List ℕ → List ℕ → List ℕ
 receiveStore c p store =
     leaves (receiveRefusal c (length p) (length store)) (storeAfter (c .stage) (sortOf (c .kind) (c .pid) p) p store) store
 
--- how many packets the ready frame has under number r
+-- how many packets of the ready frame have number r
 unfoldable pub handOutOf : Receiver → ℕ → ℕ → ℕ → HandedOut
 handOutOf c r store out =
     record {
@@ -115,7 +115,7 @@ handOutOf c r store out =
       packets = cond (eqb (handOutRefusal c r store out) 0) (slotsFor r (c .before)) 0;
     }
 
--- they stand at the front of the lent buffer, in slot order
+-- they go to the front of the output buffer, in slot order
 unfoldable pub handOutBuffer : Receiver → ℕ → List ℕ → List ℕ → List ℕ
 handOutBuffer c r store out =
     leaves (handOutRefusal c r (length store) (length out)) (over 0 (numbered r (c .before) store) out) out

@@ -1,4 +1,4 @@
--- The receiver's table: what a packet does to a receiver, by what it is, and where the receiver stands then.
+-- The receiver's table: what each sort of packet does to a receiver, and where the receiver stands afterwards.
 use Prim.Native.Nat.{ℕ, _+_, _-_, _%_, _^_}
 use mathlib.Core.Bool.{Bool, true, false, cond, _&&_}
 use mathlib.Core.List.{List, [], _∷_}
@@ -19,7 +19,7 @@ pub data Sort : Type 0 where
 abbrev pub counterStep : ℕ → ℕ → ℕ
 counterStep from to = (to + 2 ^ 8 - from) % 2 ^ 8 % 2 ^ 4
 
--- a row's result: what happened, and where the receiver stands then
+-- a row's result: what happened, and where the receiver stands afterwards
 abbrev pub row : Event → Stage → Row
 row event stage = record { event = event; stage = stage }
 
@@ -32,7 +32,7 @@ openRow from k good to =
 openRow from k broken to = row Event.Broken Stage.Waiting
 openRow from k other to = cond (ltb k lastSlot) (row Event.Stored (Stage.Open from (k + 1))) (row Event.Long Stage.Waiting)
 
--- all rows. Where a frame is ready, the one behind it is open with none stored
+-- all rows. While a frame is ready, the next one is open with no packet stored
 unfoldable pub rowOf : Stage → Sort → ℕ → Row
 rowOf Stage.Waiting good to = row Event.Opened (Stage.Open to 0)
 rowOf Stage.Waiting broken to = row Event.Nothing Stage.Waiting
@@ -40,7 +40,7 @@ rowOf Stage.Waiting other to = row Event.Nothing Stage.Waiting
 rowOf (Stage.Open from k) sort to = openRow from k sort to
 rowOf (Stage.Ready from) sort to = openRow from 0 sort to
 
--- what an event tells on paper: whether a frame became ready, and why one was dropped (1 short, 2 long, 3 jump, 4 broken, 0 none was)
+-- what an event means: whether a frame became ready, and why one was dropped (1 short, 2 long, 3 jump, 4 broken, 0 none was dropped)
 abbrev pub makesReady : Event → Bool
 makesReady Event.Nothing = false
 makesReady Event.Opened = false
@@ -67,7 +67,7 @@ isReady Stage.Waiting = false
 isReady (Stage.Open from k) = false
 isReady (Stage.Ready from) = true
 
--- how many packets of the open frame are stored; where none is open, as many as there are slots
+-- how many packets of the open frame are stored; if none is open, as many as there are slots
 unfoldable pub storedOf : Stage → ℕ
 storedOf Stage.Waiting = lastSlot
 storedOf (Stage.Open from k) = k

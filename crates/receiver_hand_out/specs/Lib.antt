@@ -1,3 +1,3 @@
--- What handing out a ready frame goes by.
+-- What handing out a ready frame rests on.
 pub mod Halves
 pub mod Ready

@@ -1,4 +1,4 @@
--- The checks before a frame is handed out, up to the room for its packets.
+-- The checks before a frame is handed out, but for the room for its packets.
 use Prim.Native.Nat.{ℕ}
 use mathlib.Core.Bool.{not}
 use mathlib.Core.List.{List, [], _∷_, _++_}
@@ -9,7 +9,7 @@ use Rattle.receiver.specs.Table.{isReady}
 use Rattle.receiver.specs.Store.{storeLength}
 use Rattle.receiver.specs.Receiving.{Receiver, receiverChecks}
 
--- all but 15, in the table's order
+-- all but 15, in the order of the table of refusals
 unfoldable pub readyChecks : Receiver → ℕ → ℕ → List Check
 readyChecks c r store =
     (1, not (eqb store storeLength))

@@ -8,12 +8,14 @@ use lib.ListN.{length, take, drop, replicate, length-drop, length-replicate}
 use lib.Seq.{length-take-le}
 use Rattle.slices.specs.Slices.{copied, someAtLeast}
 use Rattle.slices.proofs.Front.{put, front-none, front-part, front-length, front-all, copied-over}
+use Rattle.counters.specs.Counters.{lastSlot}
 use Rattle.setting.specs.declared.Kind.{Kind}
 use Rattle.setting.proofs.Fields.{fit-some}
 use Rattle.header_layout.specs.Rows.{place, rowAt}
+use Rattle.header_layout.specs.Layout.{numbersStart}
 use Rattle.header_layout.specs.Header.{reading}
 use Rattle.header_layout.proofs.Cut.{part-row}
-use Rattle.header_layout.proofs.LaidOut.{laid-out}
+use Rattle.header_layout.proofs.LaidOut.{laid-out, numbers-start}
 use Rattle.packet.specs.Packets.{packetLength}
 use Rattle.receiver.specs.Packed.{packedLength, packed, unpacked}
 use Rattle.receiver.proofs.Packing.{packed-unpacked}
@@ -37,15 +39,19 @@ joined ns a b l m n {x} {y} e f =
     front-all ns (x ++ y) _ (packedLength + packedLength) (front-part ns x _ y packedLength packedLength fronted (ap length second ∙ n)) (omega (arith, l))
     ∙ ap₂ (λ (u v : List ℕ). u ++ v) first second
 
-numbers-said : (kind : Kind) (p : List ℕ) → length p ≡ packetLength → unpacked (take packedLength (drop 73 p)) ≡ reading kind p .«relative_ts_number»
-unfolding unpacked reading laid-out rowAt place
-numbers-said Kind.Plain p l = part-row p 73 26 4 52 (omega (arith, l)) (omega arith)
-numbers-said Kind.Extended p l = part-row p 73 26 4 52 (omega (arith, l)) (omega arith)
+-- a packet has as many bytes from there on
+pub length-own : (p : List ℕ) → length p ≡ packetLength → length (take packedLength (drop numbersStart p)) ≡ packedLength
+length-own p l = length-take-le packedLength (drop numbersStart p) (rw length-drop (omega (arith, l, numbers-start)))
+
+numbers-said : (kind : Kind) (p : List ℕ) → length p ≡ packetLength → unpacked (take packedLength (drop numbersStart p)) ≡ reading kind p .«relative_ts_number»
+unfolding unpacked reading numbersStart laid-out rowAt place
+numbers-said Kind.Plain p l = part-row p numbersStart packedLength 4 lastSlot (omega (arith, l)) (omega arith)
+numbers-said Kind.Extended p l = part-row p numbersStart packedLength 4 lastSlot (omega (arith, l)) (omega arith)
 
 -- a header's numbers are the bytes that it has them in
-pub opened-is : (kind : Kind) (p : List ℕ) → length p ≡ packetLength → someAtLeast (2 ^ 8) (take packedLength (drop 73 p)) ≡ false
-    → packed (reading kind p .«relative_ts_number») ≡ take packedLength (drop 73 p)
+pub opened-is : (kind : Kind) (p : List ℕ) → length p ≡ packetLength → someAtLeast (2 ^ 8) (take packedLength (drop numbersStart p)) ≡ false
+    → packed (reading kind p .«relative_ts_number») ≡ take packedLength (drop numbersStart p)
 opened-is kind p l b =
-    let opened = take packedLength (drop 73 p) in
+    let opened = take packedLength (drop numbersStart p) in
     ap packed (sym (numbers-said kind p l))
-    ∙ packed-unpacked opened (length-take-le packedLength (drop 73 p) (rw length-drop (omega (arith, l))), fit-some 8 opened b)
+    ∙ packed-unpacked opened (length-own p l, fit-some 8 opened b)

@@ -19,6 +19,7 @@ ghost use Prim.Native.Nat.{_+_, _*_, _^_, _<_};
 ghost use lib.ListN.{length, getD, set, take, drop};
 ghost use Rattle.slices.specs.Slices.{over, someAtLeast};
 ghost use Rattle.counters.specs.Counters.{lastSlot};
+ghost use Rattle.header_layout.specs.Layout.{numbersStart};
 ghost use Rattle.packet.specs.Packets.{packetLength, unfit};
 ghost use Rattle.receiver.specs.Packed.{packedLength};
 ghost use Rattle.receiver.specs.Store.{storeLength};
@@ -93,8 +94,8 @@ fn take_packet(state: &mut [u8], packet: &[u8], store: &mut [u8]) -> u8
 // the open frame's.
 fn renew(numbers: &mut [u8], packet: &[u8])
     requires { ⌜ (length (now numbers) ≡ packedLength + packedLength) × (length (now packet) ≡ packetLength) ⌝ }
-    ensures { λ _. ⌜ now (numbers .exit) ≡ take packedLength (drop 73 (now (packet .entry))) ++ take packedLength (now (numbers .entry)) ⌝ }
-    ensures { λ _. ⌜ someAtLeast (2 ^ 8) (take packedLength (drop 73 (now (packet .entry)))) ≡ false ⌝ }
+    ensures { λ _. ⌜ now (numbers .exit) ≡ take packedLength (drop numbersStart (now (packet .entry))) ++ take packedLength (now (numbers .entry)) ⌝ }
+    ensures { λ _. ⌜ someAtLeast (2 ^ 8) (take packedLength (drop numbersStart (now (packet .entry)))) ≡ false ⌝ }
 {
     let mut before = [0u8; PACKED_BYTES];
     slices::copy(&mut before, &numbers[0..PACKED_BYTES]);

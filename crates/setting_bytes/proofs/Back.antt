@@ -1,18 +1,20 @@
 -- What was encoded is decoded again. Assumes nothing.
-use Prim.Native.Nat.{ℕ, _+_, _*_, _/_, _%_}
+use Prim.Native.Nat.{ℕ, _+_, _-_, _*_, _/_, _%_}
 use mathlib.Core.Path.{_≡_, refl, sym, ap, _∙_}
 use mathlib.Core.List.{List, [], _∷_, _++_}
 use native.Mathlib.Omega.{arith}
 use borrow.Author.Tests.{eq-eqb}
 use lib.ListN.{length, getD, take, drop, length-append}
 use lib.Seq.{take-at, drop-at, drop-drop, getD-drop}
+use Rattle.counters.specs.Counters.{lastStream, lastSlot}
 use Rattle.setting.specs.declared.Kind.{Kind}
 use Rattle.setting.specs.declared.Setting.{Setting}
-use Rattle.setting.specs.Setting.{OfItsTypes}
+use Rattle.setting.specs.Setting.{privateBytes, auxiliaryBytes, OfItsTypes}
 use Rattle.setting.specs.declared.Announced.{Announced}
 use Rattle.setting.specs.Announcing.{announced}
 use Rattle.setting_bytes.specs.Words.{wordBytes}
-use Rattle.setting_bytes.specs.Settings.{part, announcedLength, announcedBytes, announcedOf, settingLength, settingBytes, settingOf}
+use Rattle.setting_bytes.specs.Settings.{part, tsIdAt, networkIdAt, statusesAt, emergencyAt, announcedLength, announcedBytes, announcedOf}
+use Rattle.setting_bytes.specs.Settings.{announcedAt, numbersAt, privateAt, auxiliaryAt, groupAt, settingLength, settingBytes, settingOf}
 use Rattle.setting_bytes.specs.Demands.{SettingBack}
 use Rattle.setting_bytes.proofs.Numbers.{length-bytes, words-back}
 use Rattle.setting_bytes.proofs.Parts.{Streams, Long, length-announced, streams}
@@ -43,6 +45,10 @@ long s t =
       auxiliaries = t .auxiliaries .0;
     }
 
+-- the bytes of a row of identifiers
+abbrev ids : ℕ
+ids = 2 * lastStream
+
 -- what is announced
 pub announced-back : (a : Announced) → Streams a → announcedOf (announcedBytes a) ≡ a
 unfolding announcedOf announcedBytes wordBytes
@@ -51,18 +57,20 @@ announced-back a n =
     let n₂ = n .1 in
     let t : List ℕ = wordBytes (a .«ts_id») in
     let o : List ℕ = wordBytes (a .«original_network_id») in
-    let t-long : length t ≡ 30 = length-bytes (a .«ts_id») ∙ omega arith in
-    let o-long : length o ≡ 30 = length-bytes (a .«original_network_id») ∙ omega arith in
+    let t-long : length t ≡ 2 * lastStream = length-bytes (a .«ts_id») ∙ omega arith in
+    let o-long : length o ≡ 2 * lastStream = length-bytes (a .«original_network_id») ∙ omega arith in
     let e : List ℕ = a .«emergency_indicator» ∷ [] in
     let r : List ℕ = a .«receive_status» in
     let i : List ℕ = a .«slot_allocation_type» ∷ a .«frame_type» ∷ wordBytes (a .availability ∷ []) in
     let same : a .availability / 256 * 256 + a .availability % 256 ≡ a .availability = omega arith in
     rw (
       eq-eqb (length (announcedBytes a)) announcedLength (length-announced a n),
-      part-behind 4 0 30 i (t ++ (o ++ (r ++ e))) refl ∙ part-first 30 t (o ++ (r ++ e)) t-long,
-      part-behind 4 30 30 i (t ++ (o ++ (r ++ e))) refl ∙ part-behind 30 0 30 t (o ++ (r ++ e)) t-long ∙ part-first 30 o (r ++ e) o-long,
-      part-behind 4 60 15 i (t ++ (o ++ (r ++ e))) refl ∙ part-behind 30 30 15 t (o ++ (r ++ e)) t-long ∙ part-behind 30 0 15 o (r ++ e) o-long ∙ part-first 15 r e (n .2),
-      byte-behind 4 75 i (t ++ (o ++ (r ++ e))) refl ∙ byte-behind 30 45 t (o ++ (r ++ e)) t-long ∙ byte-behind 30 15 o (r ++ e) o-long ∙ byte-behind 15 0 r e (n .2),
+      part-behind tsIdAt 0 ids i (t ++ (o ++ (r ++ e))) refl ∙ part-first ids t (o ++ (r ++ e)) t-long,
+      part-behind tsIdAt (networkIdAt - tsIdAt) ids i (t ++ (o ++ (r ++ e))) refl ∙ part-behind ids 0 ids t (o ++ (r ++ e)) t-long ∙ part-first ids o (r ++ e) o-long,
+      part-behind tsIdAt (statusesAt - tsIdAt) lastStream i (t ++ (o ++ (r ++ e))) refl ∙ part-behind ids (statusesAt - networkIdAt) lastStream t (o ++ (r ++ e)) t-long
+          ∙ part-behind ids 0 lastStream o (r ++ e) o-long ∙ part-first lastStream r e (n .2),
+      byte-behind tsIdAt (emergencyAt - tsIdAt) i (t ++ (o ++ (r ++ e))) refl ∙ byte-behind ids (emergencyAt - networkIdAt) t (o ++ (r ++ e)) t-long
+          ∙ byte-behind ids (emergencyAt - statusesAt) o (r ++ e) o-long ∙ byte-behind lastStream 0 r e (n .2),
       words-back (a .«ts_id»),
       words-back (a .«original_network_id»),
       same,
@@ -72,7 +80,7 @@ module _ (s : Setting) (l : Long s) where
   abbrev a : Announced
   a = announced s
 
-  -- a setting takes 252 bytes
+  -- how many bytes a setting takes
   pub length-setting : length (settingBytes s) ≡ settingLength
   unfolding settingBytes
   length-setting =
@@ -102,18 +110,23 @@ module _ (s : Setting) (l : Long s) where
       let p : List ℕ = s .«private_data» ++ x in
       let n : List ℕ = s .«relative_ts_number» ++ p in
       let m : List ℕ = announcedBytes a ++ n in
-      let bonding : (k : ℕ) → getD (c ++ m) (247 + k) 0 ≡ getD g k 0 =
-      λ k. byte-from 2 (247 + k) (245 + k) c m refl (omega arith) ∙ byte-from 80 (245 + k) (165 + k) (announcedBytes a) n la (omega arith)
-      ∙ byte-from 52 (165 + k) (113 + k) (s .«relative_ts_number») p ln (omega arith) ∙ byte-from 85 (113 + k) (28 + k) (s .«private_data») x lp (omega arith)
-      ∙ byte-behind 28 k (s .auxiliary) g lx in
+      let bonding : (k : ℕ) → getD (c ++ m) (groupAt + k) 0 ≡ getD g k 0 =
+      λ k. byte-from announcedAt (groupAt + k) (groupAt - announcedAt + k) c m refl (omega arith)
+      ∙ byte-from announcedLength (groupAt - announcedAt + k) (groupAt - numbersAt + k) (announcedBytes a) n la (omega arith)
+      ∙ byte-from lastSlot (groupAt - numbersAt + k) (groupAt - privateAt + k) (s .«relative_ts_number») p ln (omega arith)
+      ∙ byte-from privateBytes (groupAt - privateAt + k) (groupAt - auxiliaryAt + k) (s .«private_data») x lp (omega arith)
+      ∙ byte-behind auxiliaryBytes k (s .auxiliary) g lx in
       rw (
         eq-eqb (length (settingBytes s)) settingLength length-setting,
-        part-behind 2 0 80 c m refl ∙ part-first 80 (announcedBytes a) n la,
+        part-behind announcedAt 0 announcedLength c m refl ∙ part-first announcedLength (announcedBytes a) n la,
         announced-back a (streams s l),
-        part-behind 2 80 52 c m refl ∙ part-behind 80 0 52 (announcedBytes a) n la ∙ part-first 52 (s .«relative_ts_number») p ln,
-        part-behind 2 132 85 c m refl ∙ part-behind 80 52 85 (announcedBytes a) n la ∙ part-behind 52 0 85 (s .«relative_ts_number») p ln ∙ part-first 85 (s .«private_data») x lp,
-        part-behind 2 217 28 c m refl ∙ part-behind 80 137 28 (announcedBytes a) n la ∙ part-behind 52 85 28 (s .«relative_ts_number») p ln
-            ∙ part-behind 85 0 28 (s .«private_data») x lp ∙ part-first 28 (s .auxiliary) g lx,
+        part-behind announcedAt (numbersAt - announcedAt) lastSlot c m refl ∙ part-behind announcedLength 0 lastSlot (announcedBytes a) n la
+            ∙ part-first lastSlot (s .«relative_ts_number») p ln,
+        part-behind announcedAt (privateAt - announcedAt) privateBytes c m refl ∙ part-behind announcedLength (privateAt - numbersAt) privateBytes (announcedBytes a) n la
+            ∙ part-behind lastSlot 0 privateBytes (s .«relative_ts_number») p ln ∙ part-first privateBytes (s .«private_data») x lp,
+        part-behind announcedAt (auxiliaryAt - announcedAt) auxiliaryBytes c m refl ∙ part-behind announcedLength (auxiliaryAt - numbersAt) auxiliaryBytes (announcedBytes a) n la
+            ∙ part-behind lastSlot (auxiliaryAt - privateAt) auxiliaryBytes (s .«relative_ts_number») p ln ∙ part-behind privateBytes 0 auxiliaryBytes (s .«private_data») x lp
+            ∙ part-first auxiliaryBytes (s .auxiliary) g lx,
         bonding 0,
         bonding 1,
         bonding 2,

@@ -1,5 +1,5 @@
 -- What was decoded is encoded again, where every element is a byte. Assumes nothing.
-use Prim.Native.Nat.{ℕ, zero, suc, _+_, _*_, _≤_, _<_}
+use Prim.Native.Nat.{ℕ, zero, suc, _+_, _-_, _*_, _≤_, _<_}
 use mathlib.Core.Path.{_≡_, refl, sym, ap, _∙_}
 use mathlib.Core.List.{List, [], _∷_, _++_, append-assoc}
 use native.Mathlib.Omega.{arith}
@@ -9,10 +9,14 @@ use lib.ListN.{length, getD, take, drop}
 use lib.Seq.{take-add, take-all, take-take, drop-cons, drop-drop}
 use Rattle.bits.specs.Fields.{Fit}
 use Rattle.bits.proofs.Laws.{fit-take, fit-drop}
+use Rattle.counters.specs.Counters.{lastStream, lastSlot}
+use Rattle.setting.specs.Setting.{privateBytes, auxiliaryBytes}
 use Rattle.setting.specs.Announcing.{announced}
 use Rattle.setting_bytes.specs.Words.{wordBytes, wordAt, wordsOf}
 use Rattle.setting_bytes.proofs.Numbers.{bytes-same}
-use Rattle.setting_bytes.specs.Settings.{part, announcedLength, announcedBytes, announcedOf, settingLength, settingBytes, settingOf}
+use Rattle.setting_bytes.specs.Settings.{part, slotTypeAt, frameTypeAt, availabilityAt, tsIdAt, networkIdAt, statusesAt, emergencyAt, announcedLength, announcedBytes, announcedOf}
+use Rattle.setting_bytes.specs.Settings.{counterAt, versionAt, announcedAt, numbersAt, privateAt, auxiliaryAt, groupAt, carriersAt, sequenceAt, framesAt, positionAt}
+use Rattle.setting_bytes.specs.Settings.{settingLength, settingFrom, settingBytes, settingOf}
 use Rattle.setting_bytes.proofs.Parts.{length-part}
 
 -- two parts side by side are one
@@ -53,33 +57,37 @@ word-same k b h fit =
     ap (λ (l : List ℕ). getD b k 0 ∷ l) (part-first-byte (k + 1) 0 b (omega arith)) ∙ part-first-byte k 1 b (omega arith) in
     ap (λ (l : List ℕ). wordBytes (wordsOf l)) two ∙ words-same k 1 b h fit
 
+-- how many bytes of what is announced stand from place k on
+abbrev announcedFrom : ℕ → ℕ
+announcedFrom k = announcedLength - k
+
 -- what bytes announce says the bytes
 pub announced-same : (b : List ℕ) → length b ≡ announcedLength → Fit 8 b → announcedBytes (announcedOf b) ≡ b
 unfolding announcedBytes announcedOf
 announced-same b long fit =
     rw (
       eq-eqb (length b) announcedLength long,
-      word-same 2 b (omega arith) fit,
-      words-same 4 15 b (omega arith) fit,
-      words-same 34 15 b (omega arith) fit,
-      part-first-byte 79 0 b (omega arith),
-      part-joined 64 15 1 b,
-      part-joined 34 30 16 b,
-      part-joined 4 30 46 b,
-      part-joined 2 2 76 b,
-      part-first-byte 1 78 b (omega arith),
-      part-first-byte 0 79 b (omega arith),
-    ) (take-all 80 b (omega arith))
+      word-same availabilityAt b (omega arith) fit,
+      words-same tsIdAt lastStream b (omega arith) fit,
+      words-same networkIdAt lastStream b (omega arith) fit,
+      part-first-byte emergencyAt (announcedFrom announcedLength) b (omega arith),
+      part-joined statusesAt lastStream (announcedFrom emergencyAt) b,
+      part-joined networkIdAt (2 * lastStream) (announcedFrom statusesAt) b,
+      part-joined tsIdAt (2 * lastStream) (announcedFrom networkIdAt) b,
+      part-joined availabilityAt 2 (announcedFrom tsIdAt) b,
+      part-first-byte frameTypeAt (announcedFrom availabilityAt) b (omega arith),
+      part-first-byte slotTypeAt (announcedFrom frameTypeAt) b (omega arith),
+    ) (take-all announcedLength b (omega arith))
 
--- what a setting's bytes announce stands in 80 of them, behind its counter and its version
-pub announced-part : (b : List ℕ) → length b ≡ settingLength → announced (settingOf b) ≡ announcedOf (part 2 80 b)
+-- what a setting's bytes announce stands in a part of them, behind its counter and its version
+pub announced-part : (b : List ℕ) → length b ≡ settingLength → announced (settingOf b) ≡ announcedOf (part announcedAt announcedLength b)
 unfolding settingOf announced
 announced-part b long = rw (eq-eqb (length b) settingLength long) refl
 
--- and says those 80
-pub announced-part-same : (b : List ℕ) → length b ≡ settingLength → Fit 8 b → announcedBytes (announced (settingOf b)) ≡ part 2 80 b
+-- and says that part
+pub announced-part-same : (b : List ℕ) → length b ≡ settingLength → Fit 8 b → announcedBytes (announced (settingOf b)) ≡ part announcedAt announcedLength b
 announced-part-same b long fit =
-    ap announcedBytes (announced-part b long) ∙ announced-same (part 2 80 b) (length-part 2 80 b (omega arith)) (fit-part 2 80 b fit)
+    ap announcedBytes (announced-part b long) ∙ announced-same (part announcedAt announcedLength b) (length-part announcedAt announcedLength b (omega arith)) (fit-part announcedAt announcedLength b fit)
 
 -- the setting that bytes say says the bytes
 pub setting-same : (b : List ℕ) → length b ≡ settingLength → Fit 8 b → settingBytes (settingOf b) ≡ b
@@ -88,15 +96,15 @@ setting-same b long fit =
     rw (
       announced-part-same b long fit,
       eq-eqb (length b) settingLength long,
-      part-first-byte 251 0 b (omega arith),
-      part-first-byte 250 1 b (omega arith),
-      part-first-byte 249 2 b (omega arith),
-      part-first-byte 248 3 b (omega arith),
-      part-first-byte 247 4 b (omega arith),
-      part-joined 219 28 5 b,
-      part-joined 134 85 33 b,
-      part-joined 82 52 118 b,
-      part-joined 2 80 170 b,
-      part-first-byte 1 250 b (omega arith),
-      part-first-byte 0 251 b (omega arith),
-    ) (take-all 252 b (omega arith))
+      part-first-byte positionAt (settingFrom settingLength) b (omega arith),
+      part-first-byte framesAt (settingFrom positionAt) b (omega arith),
+      part-first-byte sequenceAt (settingFrom framesAt) b (omega arith),
+      part-first-byte carriersAt (settingFrom sequenceAt) b (omega arith),
+      part-first-byte groupAt (settingFrom carriersAt) b (omega arith),
+      part-joined auxiliaryAt auxiliaryBytes (settingFrom groupAt) b,
+      part-joined privateAt privateBytes (settingFrom auxiliaryAt) b,
+      part-joined numbersAt lastSlot (settingFrom privateAt) b,
+      part-joined announcedAt announcedLength (settingFrom numbersAt) b,
+      part-first-byte versionAt (settingFrom announcedAt) b (omega arith),
+      part-first-byte counterAt (settingFrom versionAt) b (omega arith),
+    ) (take-all settingLength b (omega arith))

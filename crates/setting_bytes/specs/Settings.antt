@@ -1,5 +1,5 @@
 -- A setting's layout in bytes, field behind field in the setting's own order, and what bytes say as a setting.
-use Prim.Native.Nat.{ℕ, _+_, _*_}
+use Prim.Native.Nat.{ℕ, _+_, _-_, _*_}
 use mathlib.Core.Bool.{cond}
 use mathlib.Core.List.{List, [], _∷_, _++_}
 use lib.Dec.{eqb}
@@ -104,6 +104,10 @@ positionAt = framesAt + 1
 -- how many bytes it has: 252
 abbrev pub settingLength : ℕ
 settingLength = positionAt + 1
+
+-- how many of them stand from place k on
+abbrev pub settingFrom : ℕ → ℕ
+settingFrom k = settingLength - k
 
 unfoldable pub settingBytes : Setting → List ℕ
 settingBytes s =

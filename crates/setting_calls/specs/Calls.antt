@@ -4,7 +4,9 @@ use mathlib.Core.Bool.{cond, not}
 use mathlib.Core.List.{List, [], _∷_}
 use lib.Dec.{eqb}
 use lib.ListN.{length}
-use Rattle.setting.specs.Refusal.{firstOf, leaves}
+use Rattle.setting.specs.declared.Kind.{Kind}
+use Rattle.setting.specs.declared.Setting.{Setting}
+use Rattle.setting.specs.Refusal.{Check, firstOf, leaves}
 use Rattle.setting.specs.Rules.{widthChecks, ruleChecks}
 use Rattle.setting.specs.Setting.{blank}
 use Rattle.setting_bytes.specs.Kinds.{isKind, kindOf}
@@ -21,11 +23,15 @@ blankRefused setting = callRefused (length setting) 0
 unfoldable pub blankMemory : List ℕ → List ℕ
 blankMemory setting = leaves (blankRefused setting) (settingBytes blank) setting
 
--- then the fields, or the rules
-unfoldable pub widthsRefused : List ℕ → ℕ → ℕ
-widthsRefused setting kind =
-    cond (eqb (callRefused (length setting) kind) 0) (firstOf (widthChecks (kindOf kind) (settingOf setting))) (callRefused (length setting) kind)
+-- the refusal of the call itself, or else of the first of these checks that the setting fails
+unfoldable pub checksRefused : (Kind → Setting → List Check) → List ℕ → ℕ → ℕ
+checksRefused checks setting kind =
+    cond (eqb (callRefused (length setting) kind) 0) (firstOf (checks (kindOf kind) (settingOf setting))) (callRefused (length setting) kind)
 
+-- whether its fields fit
+unfoldable pub widthsRefused : List ℕ → ℕ → ℕ
+widthsRefused = checksRefused widthChecks
+
+-- whether it obeys the rules
 unfoldable pub rulesRefused : List ℕ → ℕ → ℕ
-rulesRefused setting kind =
-    cond (eqb (callRefused (length setting) kind) 0) (firstOf (ruleChecks (kindOf kind) (settingOf setting))) (callRefused (length setting) kind)
+rulesRefused = checksRefused ruleChecks

@@ -1,5 +1,5 @@
 -- The checks of a setting, each with the bytes that it asks. Assumes nothing.
-use Prim.Native.Nat.{ℕ, zero, suc, _+_, _^_, _≤_, _<_}
+use Prim.Native.Nat.{ℕ, zero, suc, _+_, _*_, _^_, _≤_, _<_}
 use mathlib.Core.Path.{_≡_, refl, ap, _∙_}
 use mathlib.Core.Bool.{not}
 use mathlib.Core.List.{List, [], _∷_, _++_}
@@ -9,14 +9,16 @@ use lib.Dec.{leb, eqb}
 use lib.ListN.{length, getD, take, drop}
 use lib.Seq.{take-take, drop-drop, getD-take, getD-drop}
 use Rattle.slices.specs.Slices.{anyBelow, someAtLeast}
-use Rattle.counters.specs.Counters.{within}
+use Rattle.counters.specs.Counters.{lastSlot, lastStream, within}
 use Rattle.setting.specs.declared.Kind.{Kind}
-use Rattle.setting.specs.Setting.{blank}
+use Rattle.setting.specs.Setting.{privateBytes, auxiliaryBytes, blank}
 use Rattle.setting.specs.Refusal.{Check, firstOf}
 use Rattle.setting.specs.Rules.{byKind, absentChecks, informationChecks, widthChecks, someUnavailable, pairTwice, bondingChecks, ruleChecks}
 use Rattle.setting.specs.Announcing.{announced, announcedChecks}
 use Rattle.setting_bytes.specs.Words.{wordAt, wordsOf}
-use Rattle.setting_bytes.specs.Settings.{part, announcedLength, announcedOf, settingLength, settingOf}
+use Rattle.setting_bytes.specs.Settings.{part, slotTypeAt, frameTypeAt, availabilityAt, tsIdAt, networkIdAt, statusesAt, emergencyAt, announcedLength, announcedOf}
+use Rattle.setting_bytes.specs.Settings.{counterAt, versionAt, announcedAt, numbersAt, privateAt, auxiliaryAt, groupAt, carriersAt, sequenceAt, framesAt, positionAt}
+use Rattle.setting_bytes.specs.Settings.{settingLength, settingOf}
 use Rattle.setting_bytes.proofs.Parts.{length-part}
 
 -- ---- a part of a part
@@ -36,7 +38,9 @@ byte-of-part j k m b h = getD-take m (drop j b) k 0 h ∙ getD-drop j b k 0
 -- ---- 17
 
 -- what is announced
-pub announced-in : (b : List ℕ) → length b ≡ announcedLength → announcedChecks (announcedOf b) ≡ informationChecks (getD b 0 0) (getD b 1 0) (wordAt 2 b) (part 64 15 b) (getD b 79 0)
+pub announced-in : (b : List ℕ) → length b ≡ announcedLength
+    → announcedChecks (announcedOf b)
+    ≡ informationChecks (getD b slotTypeAt 0) (getD b frameTypeAt 0) (wordAt availabilityAt b) (part statusesAt lastStream b) (getD b emergencyAt 0)
 unfolding announcedChecks announcedOf
 announced-in b whole = rw (eq-eqb (length b) announcedLength whole) refl
 
@@ -48,12 +52,13 @@ announced-of-zeros b h = rw (ne-eqb (length b) announcedLength h)
 -- a setting: the rows behind what is announced, and all
 abbrev pub restIn : Kind → List ℕ → List Check
 restIn kind b =
-    (17, someAtLeast (2 ^ 4) (part 82 52 b))
-    ∷ absentChecks kind (part 134 85 b) (part 219 28 b) (getD b 247 0) (getD b 248 0) (getD b 249 0) (getD b 250 0) (getD b 251 0)
+    (17, someAtLeast (2 ^ 4) (part numbersAt lastSlot b))
+    ∷ absentChecks kind (part privateAt privateBytes b) (part auxiliaryAt auxiliaryBytes b)
+    (getD b groupAt 0) (getD b carriersAt 0) (getD b sequenceAt 0) (getD b framesAt 0) (getD b positionAt 0)
 
 abbrev pub widthsIn : Kind → List ℕ → List Check
 widthsIn kind b =
-    (17, leb (2 ^ 4) (getD b 0 0)) ∷ (17, leb (2 ^ 3) (getD b 1 0)) ∷ (announcedChecks (announcedOf (part 2 80 b)) ++ restIn kind b)
+    (17, leb (2 ^ 4) (getD b counterAt 0)) ∷ (17, leb (2 ^ 3) (getD b versionAt 0)) ∷ (announcedChecks (announcedOf (part announcedAt announcedLength b)) ++ restIn kind b)
 
 pub widths-in : (kind : Kind) (b : List ℕ) → length b ≡ settingLength → widthChecks kind (settingOf b) ≡ widthsIn kind b
 unfolding widthChecks settingOf announcedChecks
@@ -66,25 +71,29 @@ widths-of-zeros Kind.Extended b h = rw (ne-eqb (length b) settingLength h)
 
 -- ---- 8 to 11
 
+-- where a place of what is announced is found in a setting
+abbrev pub inSetting : ℕ → ℕ
+inSetting k = announcedAt + k
+
 -- the rows of a setting
 abbrev pub rulesIn : Kind → List ℕ → List Check
 rulesIn kind b =
-    (8, not (byKind kind (eqb (getD b 3 0) 1) (within 1 2 (getD b 3 0))))
-    ∷ (9, someUnavailable (wordAt 4 b) (part 82 52 b))
-    ∷ (10, pairTwice (wordAt 4 b) (wordsOf (part 6 30 b)) (wordsOf (part 36 30 b)))
-    ∷ bondingChecks kind (getD b 248 0) (getD b 249 0) (getD b 250 0) (getD b 251 0)
+    (8, not (byKind kind (eqb (getD b (inSetting frameTypeAt) 0) 1) (within 1 2 (getD b (inSetting frameTypeAt) 0))))
+    ∷ (9, someUnavailable (wordAt (inSetting availabilityAt) b) (part numbersAt lastSlot b))
+    ∷ (10, pairTwice (wordAt (inSetting availabilityAt) b) (wordsOf (part (inSetting tsIdAt) (2 * lastStream) b)) (wordsOf (part (inSetting networkIdAt) (2 * lastStream) b)))
+    ∷ bondingChecks kind (getD b carriersAt 0) (getD b sequenceAt 0) (getD b framesAt 0) (getD b positionAt 0)
 
 pub rules-in : (kind : Kind) (b : List ℕ) → length b ≡ settingLength → ruleChecks kind (settingOf b) ≡ rulesIn kind b
 unfolding ruleChecks settingOf announcedOf
 rules-in kind b whole =
     rw (
       eq-eqb (length b) settingLength whole,
-      eq-eqb (length (part 2 80 b)) announcedLength (length-part 2 80 b (omega arith)),
-      byte-of-part 2 1 80 b (omega arith),
-      byte-of-part 2 2 80 b (omega arith),
-      byte-of-part 2 3 80 b (omega arith),
-      part-of-part 2 4 30 80 b (omega arith),
-      part-of-part 2 34 30 80 b (omega arith),
+      eq-eqb (length (part announcedAt announcedLength b)) announcedLength (length-part announcedAt announcedLength b (omega arith)),
+      byte-of-part announcedAt frameTypeAt announcedLength b (omega arith),
+      byte-of-part announcedAt availabilityAt announcedLength b (omega arith),
+      byte-of-part announcedAt (availabilityAt + 1) announcedLength b (omega arith),
+      part-of-part announcedAt tsIdAt (2 * lastStream) announcedLength b (omega arith),
+      part-of-part announcedAt networkIdAt (2 * lastStream) announcedLength b (omega arith),
     ) refl
 
 -- zeros have no frame type

@@ -25,11 +25,11 @@ ghost use Rattle.setting.specs.Announcing.{announcedChecks};
 ghost use Rattle.setting_bytes.specs.Settings.{announcedOf, settingOf};
 
 // Where what is announced stands in a setting.
-const FRAME_TYPE: usize = ANNOUNCED + 1;
+const FRAME_TYPE: usize = ANNOUNCED + setting_bytes::FRAME_TYPE;
 
-const AVAILABILITY: usize = ANNOUNCED + 2;
+const AVAILABILITY: usize = ANNOUNCED + setting_bytes::AVAILABILITY;
 
-const AVAILABILITY_LOW: usize = ANNOUNCED + 3;
+const AVAILABILITY_LOW: usize = AVAILABILITY + 1;
 
 const STREAM_IDS: usize = ANNOUNCED + TS_ID;
 

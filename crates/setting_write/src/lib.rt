@@ -19,7 +19,8 @@ ghost use Prim.Native.Nat.{_*_};
 ghost use lib.Dec.{eqb};
 ghost use lib.ListN.{length};
 ghost use Rattle.setting_bytes.specs.Words.{wordBytes};
-ghost use Rattle.setting_bytes.specs.Settings.{announcedLength, announcedBytes, settingLength, settingBytes};
+ghost use Rattle.setting_bytes.specs.Settings.{tsIdAt, announcedLength, announcedBytes};
+ghost use Rattle.setting_bytes.specs.Settings.{privateAt, auxiliaryAt, settingLength, settingFrom, settingBytes};
 ghost use Rattle.setting.specs.Announcing.{announced};
 
 fn write_words(part: &mut [u8], words: &[u16])
@@ -37,7 +38,7 @@ fn write_words(part: &mut [u8], words: &[u16])
 
 // The slot information, but for the streams' own.
 fn write_information(part: &mut [u8], a: Announced)
-    requires { ⌜ length (now part) ≡ 4 ⌝ }
+    requires { ⌜ length (now part) ≡ tsIdAt ⌝ }
     ensures { λ _. ⌜ now (part .exit) ≡ a .«slot_allocation_type» ∷ a .«frame_type» ∷ wordBytes (a .availability ∷ []) ⌝ }
 {
     part[0] = a.slot_allocation_type;
@@ -79,7 +80,7 @@ const POSITION: usize = GROUP + 4;
 
 // The counter, the version, what is announced and the slots' numbers.
 fn write_front(part: &mut [u8], s: Setting)
-    requires { ⌜ length (now part) ≡ 134 ⌝ }
+    requires { ⌜ length (now part) ≡ privateAt ⌝ }
     ensures { λ _. ⌜ now (part .exit) ≡ (s .«continuity_counter» ∷ s .«version_number» ∷ []) ++ (announcedBytes (announced s) ++ s .«relative_ts_number») ⌝ }
 {
     write_announced(&mut part[ANNOUNCED..NUMBERS], setting::announce(s));
@@ -91,7 +92,7 @@ fn write_front(part: &mut [u8], s: Setting)
 
 // The auxiliary bytes and the bonding fields, a byte each.
 fn write_back(part: &mut [u8], s: Setting)
-    requires { ⌜ length (now part) ≡ 33 ⌝ }
+    requires { ⌜ length (now part) ≡ settingFrom auxiliaryAt ⌝ }
     ensures { λ _. ⌜ now (part .exit) ≡ s .auxiliary ++ (s .«group_id» ∷ s .«number_of_carriers» ∷ s .«carrier_sequence» ∷ s .«number_of_frames» ∷ s .«frame_position» .0 ∷ []) ⌝ }
 {
     let auxiliary = s.auxiliary;

@@ -6,10 +6,10 @@ ghost use mathlib.Core.Bool.{cond};
 ghost use lib.ListN.{length};
 ghost use Rattle.slot_bits.specs.Bits.{slotsAsBits, total, inBytes};
 
-// The bytes that the slots' bits fill, eight in each.
+// How many bytes the slots' bits fill, eight in each.
 const BYTES: usize = SLOTS / 8 + 1;
 
-// The bit of mark i, from 0, in its byte, if the slot is marked.
+// The bit of mark i, from 0, in its byte, if that slot is marked; else 0.
 fn bit_of(is_marked: bool, i: usize) -> u8
     ensures { λ t. ⌜ t ≡ cond («is_marked») (2 ^ (i % 8)) 0 ⌝ }
 {
@@ -19,7 +19,7 @@ fn bit_of(is_marked: bool, i: usize) -> u8
     0
 }
 
-// The bits of up to eight slots added up, which is their byte.
+// The byte of up to eight slots: their bits added up.
 fn byte_of(bits: &[u8]) -> u64
     requires { ⌜ length (now bits) ≤ 8 ⌝ }
     ensures { λ t. ⌜ t ≡ total (now (bits .entry)) ⌝ }
@@ -50,9 +50,9 @@ fn number_of(bits: &[u8; 8 * BYTES]) -> u64
     number
 }
 
-// The marked slots as bits of one number; the first mark is slot 1's. The bits of eight slots are added into a byte at a time, and no
-// mark stops a loop, so that the compiler works on many slots at once: that is quicker than a shift for each slot. The bytes have slot 1
-// in bit 0, so twice their number has it in bit 1.
+// The marked slots as bits of one number; the first mark is slot 1's. The bits of eight slots at a time are added into a byte, and no loop
+// stops early, so that the compiler works on many slots at once: that is faster than a shift for each slot. The bytes have slot 1 in bit 0,
+// so their number is doubled to have it in bit 1.
 pub fn slots_as_bits(marks: &[bool; SLOTS]) -> u64
     ensures { λ t. ⌜ t ≡ slotsAsBits (now (marks .entry)) ⌝ }
 {

@@ -4,7 +4,7 @@ use Rattle.counters.specs.Counters.{lastSlot, lastPosition, lastCarrier}
 use Rattle.packet.specs.Packets.{packetLength, frameLength}
 use Rattle.receiver.specs.Bytes.{receiverLength}
 
--- the most frames that a group has, its bytes, and those of a stream that fills all its slots
+-- the most frames that a group has, the bytes of such a group, and of a stream that fills all its slots
 abbrev pub mostFrames : ℕ
 mostFrames = lastCarrier * lastPosition
 
@@ -14,15 +14,15 @@ groupLength = frameLength * mostFrames
 abbrev pub streamLength : ℕ
 streamLength = packetLength * lastSlot * mostFrames
 
--- what demux reads at once
+-- how many bytes demux reads at a time
 abbrev pub blockLength : ℕ
 blockLength = packetLength * 340
 
--- what unbond keeps for a carrier: the receiver's state, a block of as many packets as a frame has, and a super frame
+-- what unbond keeps for each carrier: the receiver's state, a block of as many packets as a frame has, and a super frame
 abbrev pub partLength : ℕ
 partLength = receiverLength + frameLength + frameLength * lastPosition
 
--- what it keeps for all: in one part the group and a frame for each carrier, in the other the stream and the carriers' parts
+-- its two buffers: one for the group and a frame for each carrier, the other for the stream and what it keeps for each carrier
 abbrev pub framesLength : ℕ
 framesLength = groupLength + frameLength * lastCarrier
 

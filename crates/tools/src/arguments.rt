@@ -19,7 +19,7 @@ pub(crate) fn same(a: &[u8], b: &[u8]) -> bool {
     true
 }
 
-// Argument i at the front of the buffer: its length, or 0 where there is none.
+// Reads argument i to the front of the buffer. Answers its length, or 0 if there is no such argument.
 pub(crate) fn word(i: usize, buffer: &mut [u8]) -> usize
     ensures { λ r. ⌜ Counts r (now (buffer .exit)) ⌝ }
 {
@@ -37,7 +37,7 @@ enum Base {
     Sixteen,
 }
 
-// The value of a digit of any base up to 16; 16 where it is none.
+// The value of a digit of any base up to 16, or 16 if it is no digit.
 fn digit(b: u8) -> u32
     ensures { λ r. ⌜ r ≤ 16 ⌝ }
 {
@@ -62,10 +62,10 @@ fn digit(b: u8) -> u32
     16
 }
 
-// Above this no number is read: none of the programs' is as large.
+// Numbers above this are not read: none that the programs need is as large.
 const MOST: u32 = 1000000;
 
-// The number with one digit more.
+// The number with one more digit behind it.
 fn with_digit(value: u32, b: u8, base: Base) -> Number {
     let d = digit(b);
     if MOST < value {
@@ -87,7 +87,7 @@ fn with_digit(value: u32, b: u8, base: Base) -> Number {
     }
 }
 
-// All of the text as a number, which has a digit at least.
+// All of the text as a number. A number has at least one digit.
 fn in_base(digits: &[u8], base: Base) -> Number {
     if digits.len() == 0 {
         return Number::None;
@@ -104,7 +104,7 @@ fn in_base(digits: &[u8], base: Base) -> Number {
     Number::Is(value)
 }
 
-// Decimal, or hexadecimal behind 0x.
+// A number in decimal, or in hexadecimal behind 0x.
 pub(crate) fn number_in(text: &[u8]) -> Number {
     if text.len() < 2 {
         return in_base(text, Base::Ten);
@@ -118,7 +118,7 @@ pub(crate) fn number_in(text: &[u8]) -> Number {
     in_base(&text[2..], Base::Sixteen)
 }
 
-// A text as a number of this range.
+// A text as a number in this range.
 pub(crate) fn within(text: &[u8], first: u32, last: u32) -> Number {
     let Number::Is(n) = number_in(text) else {
         return Number::None;
@@ -132,14 +132,14 @@ pub(crate) fn within(text: &[u8], first: u32, last: u32) -> Number {
     Number::Is(n)
 }
 
-// Argument i as a number of this range.
+// Argument i as a number in this range.
 pub(crate) fn number_at(i: usize, first: u32, last: u32) -> Number {
     let mut buffer = io::buffer();
     let n = word(i, &mut buffer);
     within(&buffer[0..n], first, last)
 }
 
-// Argument i as a header PID; 0, which is none, where it is out of range, which is said.
+// Argument i as a header PID. If it is out of range, says so and answers 0, which is no header PID.
 pub(crate) fn pid(i: usize) -> u16 {
     let first = limits::FIRST_PID as u32;
     let last = limits::LAST_PID as u32;
@@ -150,7 +150,7 @@ pub(crate) fn pid(i: usize) -> u16 {
     low(n)
 }
 
-// A word's number in 16 bits, or none, which is said.
+// Argument i as a number of 16 bits. If it is none, says so.
 pub(crate) fn identifier(i: usize, field: &[u8]) -> Number {
     let Number::Is(n) = number_at(i, 0, 65535) else {
         says::range(field, 0, 65535, 17);
@@ -159,12 +159,12 @@ pub(crate) fn identifier(i: usize, field: &[u8]) -> Number {
     Number::Is(n)
 }
 
-// The number in 16 bits, as all within 65,535 are.
+// The number as 16 bits; for callers whose numbers are at most 65,535.
 pub(crate) fn low(n: u32) -> u16 {
     (n % 65536) as u16
 }
 
-// Opens the named file to read, `-` being standard input. One that cannot be opened is said, and -1 answered.
+// Opens the named file to read; `-` is standard input. If it cannot be opened, says so and answers -1.
 fn open_named(name: &[u8]) -> i32 {
     if same(name, b"-") {
         return STDIN_FILENO;

@@ -1,4 +1,4 @@
-// bond: one stream in, the super frames of its carriers out, a file for each.
+// bond: one stream in, the super frames of its carriers out, one file for each carrier.
 use crate::arguments;
 use crate::arguments::Number;
 use crate::carriers;
@@ -20,7 +20,7 @@ ghost use lib.ListN.{length};
 ghost use Rattle.counters.specs.Counters.{lastCarrier, lastSlot};
 ghost use Rattle.tools.specs.Sizes.{groupLength, mostFrames, streamLength};
 
-// PID, GROUP, TS_ID, NETWORK_ID and FILE; then for each carrier FRAMES, SLOTS and FILE.
+// The arguments: PID, GROUP, TS_ID, NETWORK_ID and FILE; then for each carrier FRAMES, SLOTS and CARRIER_FILE.
 const HEAD: usize = 5;
 
 const WORDS: usize = 3;
@@ -31,13 +31,13 @@ fn usage() {
     );
 }
 
-// Says of a carrier's field that it is out of range.
+// Says that a field of a carrier is out of range.
 fn out_of_range(c: usize, field: &[u8], first: u32, last: u32) {
     says::about(b"carrier ", c as u64);
     says::range(field, first, last, 17);
 }
 
-// A number of carrier c; 0, which is none, where it is out of range.
+// Argument i, a number of carrier c. If it is out of range, says so and answers 0.
 fn small_at(i: usize, c: usize, field: &[u8], first: u32, last: u32) -> u8 {
     let Number::Is(n) = arguments::number_at(i, first, last) else {
         out_of_range(c, field, first, last);
@@ -46,7 +46,7 @@ fn small_at(i: usize, c: usize, field: &[u8], first: u32, last: u32) -> u8 {
     (n % 256) as u8
 }
 
-// Reads the carriers' numbers of frames and slots. Answers whether all are in range.
+// Reads how many frames and slots each carrier has. Answers whether all are in range.
 fn read_carriers(frames: &mut [u8], slots: &mut [u8], first: usize, n: usize) -> bool
     requires { ⌜ (length (now frames) ≡ 8) × (length (now slots) ≡ 8) ⌝ }
     requires { ⌜ (first ≤ 7) × (n ≤ lastCarrier) ⌝ }
@@ -77,7 +77,7 @@ fn read_carriers(frames: &mut [u8], slots: &mut [u8], first: usize, n: usize) ->
     true
 }
 
-// Opens the named file to write, emptied. One that cannot be is said, and -1 answered.
+// Opens the named file to write, and empties it. If it cannot be opened, says so and answers -1.
 fn create(i: usize) -> i32 {
     let mut name = io::buffer();
     let n = arguments::word(i, &mut name);
@@ -104,7 +104,7 @@ fn create_all(fds: &mut [i32], first: usize, n: usize) -> bool
     true
 }
 
-// The packets of a carrier's super frame, which has 3 or 4 frames.
+// How many packets a carrier's super frame takes. It has 3 or 4 frames.
 fn product(frames: u8, slots: u8) -> usize {
     if frames == limits::FEWEST_FRAMES {
         return slots as usize * 3;
@@ -177,7 +177,7 @@ fn spread(group: &mut [u8], stream: &[u8], bond: Bond) -> bool {
     true
 }
 
-// Reads what a super frame takes, with null packets behind it where less is left. Answers whether there was a packet.
+// Reads as many packets as a super frame takes. If fewer are left, null packets fill the rest. Answers whether there was a packet.
 fn read_stream(fd: i32, stream: &mut [u8]) -> bool {
     let got = input::read_block(fd, stream);
     input::say_part(got);
@@ -186,7 +186,7 @@ fn read_stream(fd: i32, stream: &mut [u8]) -> bool {
     whole != 0
 }
 
-// A super frame of the group, its headers in place. Answers whether more may follow.
+// Fills and writes a super frame of the group, whose headers are in place. Answers whether more may follow.
 fn make_super(
     fd: i32,
     fds: &[i32],
@@ -210,7 +210,7 @@ fn make_super(
     write_parts(fds, group, frames, n)
 }
 
-// A line every so many super frames of a long input.
+// On a long input, a line of progress every so many super frames.
 const PROGRESS: u64 = 10000;
 
 fn say_progress(number: u64) {
@@ -220,7 +220,7 @@ fn say_progress(number: u64) {
     }
 }
 
-// Makes super frames until the stream is used up. A loop that is proved has to end: the super frames' numbers do.
+// Makes super frames until the stream is used up. A proved loop has to end: this one does, at the latest, when the numbers run out.
 fn make_all(
     fd: i32,
     fds: &[i32],

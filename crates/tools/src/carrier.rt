@@ -1,5 +1,5 @@
-// One carrier of a group, read packet by packet. A run's first header has counter 0, and never more than fifteen headers in a row are
-// lost: so a header's counter tells its frame's place in the run, and with that the super frame that it belongs to.
+// One carrier of a group, read packet by packet. A run's first header has counter 0. As long as no more than fifteen headers in a row are
+// lost, a header's counter tells its frame's place in the run, and so which super frame it belongs to.
 use crate::carriers::SUPER_BYTES;
 use crate::input;
 use crate::says;
@@ -20,13 +20,13 @@ ghost use Rattle.packet.specs.Packets.{frameLength, packetLength};
 ghost use Rattle.receiver.specs.Bytes.{receiverLength};
 ghost use Rattle.tools.specs.Sizes.{partLength};
 
-// The packets that are read at once.
+// How many packets are read at a time.
 const BLOCK_PACKETS: usize = 53;
 
 const BLOCK_BYTES: usize = PACKET_BYTES * BLOCK_PACKETS;
 
-// A carrier has two lent parts of memory, since two parts of one cannot be lent at once. In the first stands the frame that is open, its
-// header and its packets; in the second the receiver's state, then the block, then the super frame asked for.
+// A carrier uses two buffers, since two parts of the same buffer cannot be lent to a function at once. The first holds the open frame, its
+// header and its packets. The second holds the receiver's state, then the block, then the wanted super frame.
 const BLOCK_AT: usize = RECEIVER_BYTES;
 
 pub(crate) const SUPER_AT: usize = BLOCK_AT + BLOCK_BYTES;
@@ -35,16 +35,16 @@ pub(crate) const PART_BYTES: usize = SUPER_AT + SUPER_BYTES;
 
 pub(crate) struct Carrier {
     pub(crate) fd: i32,
-    // The input has ended.
+    // Whether the input has ended.
     pub(crate) ended: bool,
-    // How many frames its super frames have, by the last good header; 0 before the first.
+    // How many frames a super frame has, by the last good header; 0 before the first one.
     pub(crate) frames: u8,
-    // The place in the run, from 0, of the frame that the last good header opened, and how many packets had come with it.
+    // The place in the run, from 0, of the frame that the last good header opened, and how many packets had come by then.
     pub(crate) place: u64,
     pub(crate) came: u64,
-    // The frames of the super frame asked for that came whole, a bit for each.
+    // Which frames of the wanted super frame came whole, a bit for each.
     pub(crate) have: u8,
-    // The packets of the block, and how many of them were taken.
+    // How many packets the block has, and how many of them were taken.
     pub(crate) packets: usize,
     pub(crate) taken: usize,
     pub(crate) tally: Tally,
@@ -64,7 +64,7 @@ pub(crate) fn start(fd: i32) -> Carrier {
     }
 }
 
-// The super frame of a frame's place.
+// The number of the super frame to which the frame at this place belongs.
 fn super_of(place: u64, frames: u8) -> u64 {
     if frames == limits::FEWEST_FRAMES {
         return place / 3;
@@ -72,7 +72,7 @@ fn super_of(place: u64, frames: u8) -> u64 {
     place / 4
 }
 
-// A frame's place in its super frame, from 0.
+// The frame's position in its super frame, from 0.
 fn position_of(place: u64, frames: u8) -> u8
     ensures { λ r. ⌜ r < 4 ⌝ }
 {
@@ -82,7 +82,7 @@ fn position_of(place: u64, frames: u8) -> u8
     (place % 4) as u8
 }
 
-// How many frames the super frame asked for has, 0 where not all of them came whole.
+// How many frames the wanted super frame has, or 0 if not all of them came whole.
 pub(crate) fn frames_whole(c: Carrier) -> u8 {
     if c.frames == limits::FEWEST_FRAMES {
         if c.have == 7 {
@@ -104,7 +104,7 @@ fn is_past(c: Carrier, want: u64) -> bool {
     want < super_of(c.place, c.frames)
 }
 
-// The place of a header with this counter behind that of a place.
+// The place in the run of the next header, which has this counter.
 fn place_behind(place: u64, counter: u8) -> u64 {
     let step = std::num::wrapping_sub_u8(counter, (place % 16) as u8) % 16;
     if step == 0 {
@@ -113,8 +113,8 @@ fn place_behind(place: u64, counter: u8) -> u64 {
     std::num::wrapping_add_u64(place, step as u64)
 }
 
-// Whether a header with this counter is one that came already, and not the sixteenth behind it: then a frame's packets would have come
-// between.
+// Whether a header with this counter is the last one again. It could also be the sixteenth behind it; but then more packets than a frame's
+// slots would have come in between.
 fn is_repeated(c: Carrier, counter: u8) -> bool {
     if c.frames == 0 {
         return false;
@@ -126,7 +126,7 @@ fn is_repeated(c: Carrier, counter: u8) -> bool {
     std::num::wrapping_sub_u64(so_far.came, c.came) <= SLOTS as u64
 }
 
-// A carrier whose place in the run is no longer known: nothing more of it is used.
+// Gives up a carrier whose place in the run is no longer known: no more of its packets are used.
 fn lost(c: Carrier) -> Carrier {
     says::text(b"a header came twice: the carrier's place in the run is no longer known\n");
     let mut next = c;
@@ -136,7 +136,7 @@ fn lost(c: Carrier) -> Carrier {
     next
 }
 
-// What a good header tells.
+// The carrier after a good header.
 fn with_header(c: Carrier, packet: &[u8], pid: u16) -> Carrier {
     let said = header_codec::read(packet, pid, Kind::Extended).setting;
     if is_repeated(c, said.continuity_counter) {
@@ -154,7 +154,7 @@ fn with_header(c: Carrier, packet: &[u8], pid: u16) -> Carrier {
     next
 }
 
-// Puts a frame that became ready to its position in the super frame.
+// Copies a frame that became ready to its position in the super frame.
 fn put_frame(part: &mut [u8], position: u8, frame: &[u8])
     requires { ⌜ (length (now part) ≡ partLength) × (length (now frame) ≡ frameLength) ⌝ }
     requires { ⌜ position < 4 ⌝ }
@@ -163,7 +163,7 @@ fn put_frame(part: &mut [u8], position: u8, frame: &[u8])
     slices::copy(&mut part[at..at + FRAME_BYTES], frame);
 }
 
-// Keeps a frame that became ready, if it is of the super frame asked for.
+// Keeps a frame that became ready, if it belongs to the wanted super frame.
 fn keep(c: Carrier, want: u64, part: &mut [u8], frame: &[u8]) -> Carrier
     requires { ⌜ (length (now part) ≡ partLength) × (length (now frame) ≡ frameLength) ⌝ }
 {
@@ -199,7 +199,7 @@ fn receive(frame: &mut [u8], part: &mut [u8], packet: &[u8]) -> u8
     event
 }
 
-// The header of the frame that is open now.
+// If the packet opened a frame, keeps it as that frame's header.
 fn hold(c: Carrier, event: u8, packet: &[u8], frame: &mut [u8], pid: u16) -> Carrier
     requires { ⌜ length (now frame) ≡ frameLength ⌝ }
 {
@@ -248,7 +248,7 @@ fn refill(c: Carrier, part: &mut [u8]) -> Carrier
     next
 }
 
-// Where the next packet of a block stands, if it has one.
+// Where the next packet of the block stands, if there is one.
 fn next_at(c: Carrier) -> usize
     ensures { λ r. ⌜ (receiverLength ≤ r) × (r ≤ receiverLength + packetLength * lastSlot) ⌝ }
 {
@@ -259,7 +259,7 @@ fn next_at(c: Carrier) -> usize
     BLOCK_AT
 }
 
-// Takes the next packet of the block. It is copied, since the state stands beside the block and is written.
+// Takes the next packet of the block. It is copied first, since the receiver's state stands in the same buffer and is changed.
 fn take_next(c: Carrier, want: u64, pid: u16, frame: &mut [u8], part: &mut [u8]) -> Carrier
     requires { ⌜ (length (now frame) ≡ frameLength) × (length (now part) ≡ partLength) ⌝ }
 {
@@ -269,7 +269,7 @@ fn take_next(c: Carrier, want: u64, pid: u16, frame: &mut [u8], part: &mut [u8])
     take(c, &packet, want, pid, frame, part)
 }
 
-// Takes the next packet of the block, or reads another block where it has none.
+// Takes the next packet of the block, or reads another block if none is left.
 fn step(c: Carrier, want: u64, pid: u16, frame: &mut [u8], part: &mut [u8]) -> Carrier
     requires { ⌜ (length (now frame) ≡ frameLength) × (length (now part) ≡ partLength) ⌝ }
 {
@@ -279,7 +279,7 @@ fn step(c: Carrier, want: u64, pid: u16, frame: &mut [u8], part: &mut [u8]) -> C
     refill(c, part)
 }
 
-// Reads on until the super frame with this number is whole, or a later one has begun, or the input has ended.
+// Reads on until a super frame behind the one with this number has begun, or the input has ended.
 pub(crate) fn read_on(c: Carrier, want: u64, pid: u16, frame: &mut [u8], part: &mut [u8]) -> Carrier
     requires { ⌜ (length (now frame) ≡ frameLength) × (length (now part) ≡ partLength) ⌝ }
 {

@@ -1,4 +1,4 @@
-// A group of carriers: its sizes, and where each one's super frame stands.
+// A group of carriers: its sizes, and where the super frame of each carrier stands.
 use counters::SLOTS;
 use packet::FRAME_BYTES;
 use packet::PACKET_BYTES;
@@ -11,7 +11,7 @@ ghost use Rattle.tools.specs.Sizes.{groupLength};
 
 pub(crate) const CARRIERS: usize = limits::LAST_CARRIER as usize;
 
-// The most frames of a group, its bytes, and those of a stream in all its slots.
+// The most frames of a group, the bytes of such a group, and of a stream that fills all its slots.
 const FRAMES: usize = CARRIERS * limits::MOST_FRAMES as usize;
 
 pub(crate) const GROUP_BYTES: usize = FRAME_BYTES * FRAMES;
@@ -20,7 +20,7 @@ pub(crate) const STREAM_BYTES: usize = PACKET_BYTES * SLOTS * FRAMES;
 
 pub(crate) const SUPER_BYTES: usize = FRAME_BYTES * limits::MOST_FRAMES as usize;
 
-// A number, or the limit where it is larger.
+// The smaller of the number and the limit.
 pub(crate) fn at_most(n: usize, limit: usize) -> usize
     ensures { λ r. ⌜ (r ≤ limit) × (r ≤ n) ⌝ }
 {
@@ -47,7 +47,7 @@ fn frames_before(frames: &[u8], n: usize) -> usize
     sum
 }
 
-// The bytes of the first n carriers: the next one's super frame starts behind them.
+// The bytes of the first n carriers. The next carrier's super frame starts behind them.
 pub(crate) fn bytes_before(frames: &[u8], n: usize) -> usize
     requires { ⌜ (n ≤ lastCarrier) × (length (now frames) ≡ 8) ⌝ }
     ensures { λ r. ⌜ r ≤ groupLength ⌝ }
@@ -55,7 +55,7 @@ pub(crate) fn bytes_before(frames: &[u8], n: usize) -> usize
     FRAME_BYTES * at_most(frames_before(frames, n), FRAMES)
 }
 
-// The bytes of a super frame of so many frames, where so many of the group are left.
+// The bytes of a super frame of so many frames, but no more than are left of the group.
 pub(crate) fn bytes_of(frames: u8, left: usize) -> usize
     ensures { λ r. ⌜ r ≤ left ⌝ }
 {

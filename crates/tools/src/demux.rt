@@ -23,7 +23,7 @@ ghost use Rattle.counters.specs.Counters.{lastStream};
 ghost use Rattle.receiver.specs.Store.{storeLength};
 ghost use Rattle.tools.specs.Sizes.{blockLength};
 
-// The packets that are read at once.
+// How many packets are read at a time.
 const BLOCK_PACKETS: usize = 340;
 
 const BLOCK_BYTES: usize = PACKET_BYTES * BLOCK_PACKETS;
@@ -34,7 +34,7 @@ fn usage() {
     );
 }
 
-// Which stream: by its number, or, where that is 0, by its identifiers.
+// The stream that was asked for: by its number, or, if that is 0, by its identifiers.
 struct Choice {
     number: u8,
     ts_id: u16,
@@ -49,7 +49,7 @@ fn no_choice() -> Choice {
     }
 }
 
-// What a choice came to.
+// The choice, and whether it is good.
 struct Chosen {
     good: bool,
     choice: Choice,
@@ -62,7 +62,7 @@ fn not_chosen() -> Chosen {
     }
 }
 
-// Where the ':' stands, or the length where there is none.
+// Where the ':' stands, or the length if there is none.
 fn colon(text: &[u8]) -> usize
     ensures { λ r. ⌜ r ≤ length (now (text .entry)) ⌝ }
 {
@@ -137,7 +137,7 @@ fn is_stream(s: Setting, k: usize, ts_id: u16, network_id: u16) -> bool
     networks[k] == network_id
 }
 
-// The number that a header gives the stream with these identifiers, 0 where it carries none.
+// The number that a header gives the stream with these identifiers, or 0 if it carries no such stream.
 pub(crate) fn number_in(s: Setting, ts_id: u16, network_id: u16) -> u8 {
     let mut k = 0;
     while k < STREAMS {
@@ -153,11 +153,11 @@ pub(crate) fn number_in(s: Setting, ts_id: u16, network_id: u16) -> u8 {
 struct Link {
     number: u8,
     tally: Tally,
-    // Whether standard output takes what is written.
+    // Whether standard output still takes what is written.
     taken: bool,
 }
 
-// The stream's number in the frame that a packet opened, or else as it was.
+// The stream's number in the frame that the packet opened. If it opened none, the number stays.
 fn number_after(event: u8, packet: &[u8], pid: u16, choice: Choice, number: u8) -> u8 {
     if choice.number != 0 {
         return choice.number;
@@ -183,8 +183,8 @@ fn write_packets(out: &[u8], packets: usize) -> bool
     true
 }
 
-// Hands out the stream's packets of a frame that just became ready. Answers how many, and more than a frame has where standard output
-// did not take them.
+// Hands out the stream's packets of a frame that just became ready. Answers how many there are, or more than a frame can have if standard
+// output did not take them.
 fn hand_out(state: &[u8], store: &[u8], number: u8) -> usize {
     let mut out = [0u8; STORE_BYTES];
     let mut packets = 0usize;
@@ -269,7 +269,7 @@ fn start() -> Link {
     }
 }
 
-// Reads blocks to the input's end. A loop that is proved has to end: the blocks' numbers do.
+// Reads blocks to the end of the input. A proved loop has to end: this one does, at the latest, when the numbers of blocks run out.
 fn take_all(
     fd: i32,
     block: &mut [u8],
@@ -318,7 +318,7 @@ fn run_chosen(fd: i32, pid: u16, i: usize) {
     }
 }
 
-// The input: the file that an argument names, or standard input where there is none.
+// The input: the file that argument i names, or standard input if there is no such argument.
 fn source(i: usize) -> i32 {
     if i < os::arg_count() {
         return arguments::open(i);

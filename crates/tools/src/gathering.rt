@@ -1,4 +1,4 @@
-// Super frames of all carriers gathered, one after another, and what became of them.
+// Gathers the super frames of all carriers, one after another, and counts what became of them.
 use crate::carrier;
 use crate::carrier::Carrier;
 use crate::carrier::PART_BYTES;
@@ -25,8 +25,8 @@ pub(crate) struct Group {
     pub(crate) carriers: [Carrier; CARRIERS],
 }
 
-// The lent memory: in front of the carriers' first parts the group's super frames, one behind another; in front of their second parts the
-// stream.
+// The two buffers. The first holds the group's super frames, one behind another, and then the open frame of each carrier; the second holds
+// the stream, and then the rest of what each carrier keeps.
 pub(crate) const FRAMES_BYTES: usize = GROUP_BYTES + FRAME_BYTES * CARRIERS;
 
 pub(crate) const PARTS_BYTES: usize = STREAM_BYTES + PART_BYTES * CARRIERS;
@@ -36,13 +36,13 @@ pub(crate) struct Count {
     pub(crate) out: u64,
     pub(crate) dropped: u64,
     pub(crate) packets: u64,
-    // A refusal was said: those behind it are only counted.
+    // Whether a refusal was reported. Later ones are only counted.
     pub(crate) said: bool,
-    // The last one that was tried is the input's end, or standard output takes no more.
+    // Whether the last try met the end of the input, or standard output took no more.
     pub(crate) ended: bool,
 }
 
-// What holds of the carriers: all have a file; all have the whole super frame; some have a part of it; the input of some has ended.
+// Of the carriers: whether all have a file, all have the whole super frame, some have a part of it, and the input of some has ended.
 pub(crate) struct Standing {
     pub(crate) open: bool,
     pub(crate) whole: bool,
@@ -77,7 +77,7 @@ pub(crate) fn standing_of(g: Group, n: usize) -> Standing
     all
 }
 
-// The carriers' numbers of frames, 0 where one has not all of its super frame.
+// How many frames each carrier has; 0 for one that lacks part of its super frame.
 fn frames_of(g: Group, n: usize) -> [u8; CARRIERS]
     requires { ⌜ n ≤ lastCarrier ⌝ }
     ensures { λ r. ⌜ length r ≡ 8 ⌝ }
@@ -92,7 +92,7 @@ fn frames_of(g: Group, n: usize) -> [u8; CARRIERS]
     frames
 }
 
-// Puts the super frame of carrier c, which has so many frames, behind so many bytes of the group.
+// Copies the super frame of carrier c, of `size` frames, into the group behind its first `before` bytes.
 fn put_super(frames: &mut [u8], before: usize, parts: &[u8], c: usize, size: u8)
     requires { ⌜ (length (now frames) ≡ framesLength) × (length (now parts) ≡ partsLength) ⌝ }
     requires { ⌜ (before ≤ groupLength) × (c < lastCarrier) ⌝ }
@@ -106,7 +106,7 @@ fn put_super(frames: &mut [u8], before: usize, parts: &[u8], c: usize, size: u8)
     );
 }
 
-// Puts the carriers' super frames one behind another.
+// Copies the carriers' super frames into the group, one behind another.
 fn join(frames: &mut [u8], parts: &[u8], sizes: &[u8], n: usize)
     requires { ⌜ (length (now frames) ≡ framesLength) × (length (now parts) ≡ partsLength) ⌝ }
     requires { ⌜ (length (now sizes) ≡ 8) × (n ≤ lastCarrier) ⌝ }
@@ -119,7 +119,7 @@ fn join(frames: &mut [u8], parts: &[u8], sizes: &[u8], n: usize)
     }
 }
 
-// Writes so many packets of the stream. Answers whether they were taken.
+// Writes so many packets of the stream. Answers whether standard output took them.
 fn write(parts: &[u8], packets: usize) -> bool
     requires { ⌜ length (now parts) ≡ partsLength ⌝ }
 {
@@ -141,7 +141,7 @@ fn with_drop(count: Count) -> Count {
     }
 }
 
-// A refusal is said the first time, and counted each time.
+// The first refusal is reported. All are counted.
 fn with_refusal(count: Count, refusal: u8) -> Count {
     let mut next = count;
     if !count.said {
@@ -151,7 +151,7 @@ fn with_refusal(count: Count, refusal: u8) -> Count {
     with_drop(next)
 }
 
-// A line every so many super frames of a long input.
+// On a long input, a line of progress every so many super frames.
 const PROGRESS: u64 = 10000;
 
 fn say_progress(out: u64) {
@@ -161,12 +161,12 @@ fn say_progress(out: u64) {
     }
 }
 
-// Gathers a group. Of all that is promised of it the programs rest on no more than that it ends.
+// Gathers a group. Of all that is promised of this call, the programs need only that it ends.
 fn gather_into(out: &mut [u8], group: &[u8], bond: Bond) -> Moved {
     bond::gather(group, out, bond)
 }
 
-// Gathers the group, which has so many bytes.
+// Gathers the group, which is so many bytes long.
 fn gather_group(frames: &[u8], bytes: usize, parts: &mut [u8], bond: Bond) -> Moved
     requires { ⌜ (length (now frames) ≡ framesLength) × (length (now parts) ≡ partsLength) ⌝ }
     requires { ⌜ bytes ≤ groupLength ⌝ }
@@ -199,7 +199,7 @@ fn gather(frames: &[u8], bytes: usize, parts: &mut [u8], bond: Bond, count: Coun
     }
 }
 
-// What comes of a super frame of which some carrier has not all.
+// The count after a super frame that some carrier lacks part of.
 fn not_whole(now: Standing, count: Count) -> Count {
     let mut next = count;
     next.ended = now.ended;

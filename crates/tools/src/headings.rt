@@ -25,7 +25,7 @@ pub(crate) struct Bonded {
     pub(crate) group_id: u8,
 }
 
-// The plan of a carrier whose stream has so many slots of each frame.
+// The plan of a carrier on which the stream has so many slots in each frame.
 fn plan_of(slots: u8) -> [u8; SLOTS]
     ensures { λ r. ⌜ length r ≡ lastSlot ⌝ }
 {
@@ -36,7 +36,7 @@ fn plan_of(slots: u8) -> [u8; SLOTS]
     plan::numbers(&shares)
 }
 
-// The counter of a frame, from 0, in the super frame with this number: the run's first header has 0.
+// The continuity counter of frame f, from 0, of the super frame with this number. The run's first header has counter 0.
 fn counter(number: u64, frames: u8, f: u8) -> u8
     requires { ⌜ f < 4 ⌝ }
 {
@@ -47,7 +47,7 @@ fn counter(number: u64, frames: u8, f: u8) -> u8
     (n * 4 + f) % 16
 }
 
-// The setting of a carrier's frame, from 0, in the super frame with this number.
+// The setting of frame f, from 0, of carrier c in the super frame with this number.
 fn setting_of(b: Bonded, c: u8, frames: u8, f: u8, number: u64) -> Setting
     requires { ⌜ f < 4 ⌝ }
 {
@@ -64,7 +64,7 @@ fn setting_of(b: Bonded, c: u8, frames: u8, f: u8, number: u64) -> Setting
     s
 }
 
-// Writes a header into the lent packet. Answers whether it was written.
+// Writes a header into the packet. Answers whether it was written.
 fn write_header(
     packet: &mut [u8],
     b: Bonded,
@@ -88,7 +88,7 @@ fn write_header(
     true
 }
 
-// Writes the headers of a carrier's super frame, which starts here.
+// Writes the headers of a carrier's super frame, which starts at `at`.
 fn write_super(
     group: &mut [u8],
     at: usize,

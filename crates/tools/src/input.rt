@@ -1,11 +1,11 @@
-// Reading: whole blocks, and whether a file is cut on packet borders.
+// Reads whole blocks, and checks whether a file ends at the end of a packet.
 use crate::says;
 use packet::PACKET_BYTES;
 ghost use Rattle.io.specs.Counts.{Counts};
 ghost use Prim.Native.Nat.{_≤_};
 ghost use lib.ListN.{length};
 
-// Reads once. A read that fails is said, and brings nothing.
+// Reads once. A read that fails is reported, and counts as no bytes.
 fn read_once(fd: i32, place: &mut [u8]) -> usize
     ensures { λ r. ⌜ r ≤ length (now (place .exit)) ⌝ }
 {
@@ -16,7 +16,7 @@ fn read_once(fd: i32, place: &mut [u8]) -> usize
     io::count(got, place)
 }
 
-// Reads until the block is full or a read brings nothing: one that brings less than was asked is not the end.
+// Reads until the block is full or a read brings nothing. A read that brings less than was asked for is not the end.
 pub(crate) fn read_block(fd: i32, block: &mut [u8]) -> usize
     ensures { λ r. ⌜ Counts r (now (block .exit)) ⌝ }
 {
@@ -31,14 +31,14 @@ pub(crate) fn read_block(fd: i32, block: &mut [u8]) -> usize
     done
 }
 
-// Says how many bytes stand behind the last whole packet.
+// Reports how many bytes stand behind the last whole packet.
 pub(crate) fn say_tail(bytes: u64) {
     says::number(bytes);
     says::text(b" bytes behind the last whole packet: not cut on packet borders");
     says::refused(1);
 }
 
-// Says it of a last block that ends in part of a packet.
+// Reports it if the last block ends inside a packet.
 pub(crate) fn say_part(bytes: usize) {
     let tail = bytes % PACKET_BYTES;
     if tail != 0 {
@@ -52,7 +52,7 @@ const FROM_HERE: i32 = 1;
 
 const FROM_THE_END: i32 = 2;
 
-// A place in a file as it is counted; 0 for none.
+// A place in a file as a count of bytes; 0 if it is none.
 fn place(n: i64) -> u64 {
     if n > 0 {
         return n as u64;
@@ -60,7 +60,7 @@ fn place(n: i64) -> u64 {
     0
 }
 
-// Whether what is left of a file is cut on packet borders. Of a pipe that cannot be asked: its end will tell.
+// Whether the rest of a file is whole packets. For a pipe this cannot be known before its end, and the answer is yes.
 pub(crate) fn is_cut(fd: i32) -> bool {
     let here = libc::lseek(fd, 0, FROM_HERE);
     if here < 0 {

@@ -1,5 +1,5 @@
-// The programs mux, demux, bond and unbond, which are one: the name by which it is started says which of them it is, or else its
-// first argument.
+// The programs mux, demux, bond and unbond, in one executable: the name by which it is started says which of them to run, or else its first
+// argument does.
 mod arguments;
 mod bonding;
 mod carrier;
@@ -27,7 +27,7 @@ enum Tool {
     None,
 }
 
-// Where the last part of a path starts, by one byte more of it.
+// Where the last part of a path starts, once byte i is read.
 fn start_with(b: u8, i: usize, start: usize) -> usize
     requires { ⌜ (start ≤ i) × (i < 2 ^ 63) ⌝ }
     ensures { λ r. ⌜ r ≤ i + 1 ⌝ }
@@ -75,7 +75,7 @@ fn tool_at(i: usize) -> Tool {
     named(&word[from..n])
 }
 
-// Runs the program, whose arguments start at `first`; false where there is none.
+// Runs the program, whose arguments start at `first`. Answers false if there is no such program.
 fn run(tool: Tool, first: usize) -> bool
     requires { ⌜ first ≤ 2 ⌝ }
 {

@@ -25,7 +25,7 @@ ghost use Rattle.counters.specs.Counters.{lastStream};
 ghost use Rattle.packet.specs.Packets.{frameLength};
 ghost use Rattle.receiver.specs.Store.{storeLength};
 
-// For each stream: SLOTS, TS_ID, NETWORK_ID and FILE.
+// The arguments of each stream: SLOTS, TS_ID, NETWORK_ID and FILE.
 const WORDS: usize = 4;
 
 fn usage() {
@@ -34,20 +34,20 @@ fn usage() {
     );
 }
 
-// What the arguments say: the setting, and how many slots each number has, 0 those of none. No good one has no slots.
+// What the arguments say: whether all are good, the setting, and how many slots each number has. Number 0 is for slots of no stream.
 struct Given {
     good: bool,
     setting: Setting,
     slots: [u32; SHARES],
 }
 
-// Says of a field of stream r that it is out of range.
+// Says that a field of stream r is out of range.
 fn out_of_range(r: u8, field: &[u8], first: u32, last: u32) {
     says::about(b"stream ", r as u64);
     says::range(field, first, last, 17);
 }
 
-// The number of slots of stream r, 0 where it is none.
+// Argument i, the number of slots of stream r. If it is out of range, says so and answers 0.
 fn slots_at(i: usize, r: u8) -> u32 {
     let first = Slot::FIRST as u32;
     let last = Slot::LAST as u32;
@@ -88,7 +88,7 @@ fn not_good(given: Given) -> Given {
     }
 }
 
-// Adds stream r, whose words start at argument i.
+// Adds stream r, whose arguments start at argument i.
 fn with_words(given: Given, i: usize, r: u8) -> Given
     requires { ⌜ (1 ≤ r) × (r ≤ lastStream) ⌝ }
     requires { ⌜ i ≤ 1000 ⌝ }
@@ -131,7 +131,7 @@ fn sum(slots: &[u32]) -> u32 {
     n
 }
 
-// The setting with its plan. Streams that ask for more slots than a frame has are refused.
+// Adds the plan to the setting. Streams that together need more slots than a frame has are refused.
 fn with_plan(given: Given) -> Given {
     let mut slots = given.slots;
     let asked = sum(&slots);
@@ -151,7 +151,7 @@ fn with_plan(given: Given) -> Given {
     }
 }
 
-// Opens the streams' files. Answers whether all could be.
+// Opens the streams' files. Answers whether all were opened.
 fn open_all(fds: &mut [i32], first: usize, streams: usize) -> bool
     requires { ⌜ (first ≤ 3) × (streams ≤ length (now fds)) ⌝ }
     requires { ⌜ length (now fds) ≡ lastStream ⌝ }
@@ -168,13 +168,13 @@ fn open_all(fds: &mut [i32], first: usize, streams: usize) -> bool
     true
 }
 
-// What a frame's streams brought so far: refusal 0 and how many packets, or the refusal's number.
+// What the streams put into a frame so far: refusal 0 and the number of packets, or the refusal's number.
 struct Filled {
     refusal: u8,
     packets: usize,
 }
 
-// Reads as many packets as there are slots, or as are left. Answers the bytes of whole packets.
+// Reads as many packets as there are slots, or all that are left. Answers the bytes of the whole packets.
 fn read_packets(fd: i32, bytes: &mut [u8], slots: u32, r: u8) -> usize
     requires { ⌜ length (now bytes) ≡ storeLength ⌝ }
     ensures { λ t. ⌜ Counts t (now (bytes .exit)) ⌝ }
@@ -221,7 +221,7 @@ fn put_stream(
     put_packets(filled, state, frame, &bytes[0..n], r)
 }
 
-// Puts one stream after another.
+// Puts the packets of all streams into the frame, one stream after another.
 fn fill(state: &mut [u8], frame: &mut [u8], fds: &[i32], slots: &[u32], streams: usize) -> Filled
     requires { ⌜ (length (now fds) ≡ lastStream) × (length (now slots) ≡ lastStream + 1) ⌝ }
     requires { ⌜ streams ≤ lastStream ⌝ }
@@ -249,7 +249,7 @@ fn write(bytes: &[u8]) -> bool {
     true
 }
 
-// Writes a frame, or of one that no stream brought anything for its header alone, which vouches for the frame before.
+// Writes a frame. If no stream had packets for it, writes only its header, which vouches for the frame before. Answers whether to go on.
 fn write_frame(frame: &[u8], packets: usize) -> bool
     requires { ⌜ length (now frame) ≡ frameLength ⌝ }
 {
@@ -288,7 +288,7 @@ fn finish_frame(
     close_frame(state, frame, filled.packets)
 }
 
-// Makes a frame. Answers whether the run goes on behind it.
+// Makes a frame. Answers whether the run goes on after it.
 fn make_frame(
     state: &mut [u8],
     frame: &mut [u8],
@@ -308,7 +308,7 @@ fn make_frame(
     finish_frame(state, frame, fds, slots, streams)
 }
 
-// A line every so many frames of a long run, a gigabyte or so.
+// On a long run, a line of progress every so many frames, which is about a gigabyte.
 const PROGRESS: u64 = 100000;
 
 fn say_progress(frames: u64) {
@@ -318,7 +318,7 @@ fn say_progress(frames: u64) {
     }
 }
 
-// Makes frames until the streams are used up. A loop that is proved has to end: the frames' numbers do.
+// Makes frames until the streams are used up. A proved loop has to end: this one does, at the latest, when the numbers run out.
 fn make_frames(
     state: &mut [u8],
     frame: &mut [u8],
@@ -362,7 +362,7 @@ fn start(pid: u16, given: Given, first: usize, streams: usize)
     }
 }
 
-// The streams' words start at `first`.
+// Reads the streams' arguments, which start at `first`, and makes the frames.
 fn run_streams(pid: u16, first: usize, streams: usize)
     requires { ⌜ (first ≤ 3) × (streams ≤ lastStream) ⌝ }
 {

@@ -6,10 +6,10 @@ ghost use Prim.Native.Nat.{_+_, _<_};
 ghost use lib.ListN.{length};
 ghost use Rattle.counters.specs.Counters.{lastSlot, lastStream};
 
-// The streams, and before them the slots of none.
+// The shares of a frame: number 0 is for slots of no stream, then one for each stream.
 pub(crate) const SHARES: usize = STREAMS + 1;
 
-// Each gains as much as it has slots in a frame.
+// Each share gains as much credit as it has slots in a frame.
 fn gain(credits: &mut [u32], slots: &[u32])
     requires { ⌜ length (now credits) ≡ length (now slots) ⌝ }
 {
@@ -30,7 +30,7 @@ fn richer(credits: &[u32], best: usize, r: usize) -> usize
     best
 }
 
-// The first of those with the most credit.
+// The first share with the most credit.
 fn richest(credits: &[u32]) -> usize
     requires { ⌜ 0 < length (now credits) ⌝ }
     ensures { λ r. ⌜ r < length (now (credits .entry)) ⌝ }
@@ -44,7 +44,7 @@ fn richest(credits: &[u32]) -> usize
     best
 }
 
-// The number of the next slot: the richest has it, and pays for it what a whole frame brings to all.
+// The number of the next slot. The share with the most credit gets it, and pays for it as much as all shares together gain for a slot.
 fn next(credits: &mut [u32], slots: &[u32]) -> u8
     requires { ⌜ (length (now credits) ≡ lastStream + 1) × (length (now slots) ≡ lastStream + 1) ⌝ }
 {
@@ -54,10 +54,10 @@ fn next(credits: &mut [u32], slots: &[u32]) -> u8
     best as u8
 }
 
-// Before the first slot all have as much, and more than they can lose.
+// The credit of each share before the first slot. It is more than a share can lose.
 const START: u32 = 1000;
 
-// The numbers of the slots where number r has so many of them, number 0 with those that are left.
+// The number of each slot, if number r gets so many of them, and number 0 those that are left.
 pub(crate) fn numbers(slots: &[u32]) -> [u8; SLOTS]
     requires { ⌜ length (now slots) ≡ lastStream + 1 ⌝ }
     ensures { λ r. ⌜ length r ≡ lastSlot ⌝ }

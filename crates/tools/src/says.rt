@@ -1,4 +1,4 @@
-// What the programs say on standard error, one line each time.
+// What the programs write to standard error, line by line.
 use libc::STDERR_FILENO;
 
 pub(crate) fn text(words: &[u8]) {
@@ -16,7 +16,7 @@ pub(crate) fn refused(refusal: u8) {
     text(b")\n");
 }
 
-// Names the stream or carrier that a line is about; none by 0.
+// Names the stream or carrier that a line is about; 0 stands for none.
 pub(crate) fn about(of: &[u8], item: u64) {
     if item != 0 {
         text(of);
@@ -25,7 +25,7 @@ pub(crate) fn about(of: &[u8], item: u64) {
     }
 }
 
-// Of a field that is no number of its range.
+// Says that a field is no number in its range.
 pub(crate) fn range(field: &[u8], first: u32, last: u32, refusal: u8) {
     text(field);
     text(b": expected a number from ");
@@ -35,7 +35,7 @@ pub(crate) fn range(field: &[u8], first: u32, last: u32, refusal: u8) {
     refused(refusal);
 }
 
-// What the numbers of 01's table mean that the programs can meet.
+// What the refusals of 01's table mean, as far as the programs can meet them.
 fn meaning(refusal: u8) {
     match refusal {
         1 => text(b"not cut on packet borders"),
@@ -48,7 +48,7 @@ fn meaning(refusal: u8) {
     }
 }
 
-// Of a call that was refused.
+// Says that a call was refused, and why.
 pub(crate) fn refusal(what: &[u8], refusal: u8) {
     text(what);
     text(b": ");

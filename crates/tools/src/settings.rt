@@ -3,7 +3,7 @@ use setting::Setting;
 ghost use Prim.Native.Nat.{_≤_};
 ghost use Rattle.counters.specs.Counters.{lastStream};
 
-// Stream r made available, with these identifiers.
+// The setting with stream r available, and with these identifiers for it.
 pub(crate) fn with_stream(mut s: Setting, r: u8, ts_id: u16, original_network_id: u16) -> Setting
     requires { ⌜ (1 ≤ r) × (r ≤ lastStream) ⌝ }
 {

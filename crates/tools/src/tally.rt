@@ -1,10 +1,10 @@
-// What happened to the frames of an input, and the summary of it.
+// Counts what happened to the frames of an input, and prints the summary.
 use crate::says;
 use receiver::events;
 
-// Counts, each of which would wrap at 2^64.
+// The counts. Each would wrap at 2^64.
 pub(crate) struct Tally {
-    // Packets that came, and those of a chosen stream that went out.
+    // Packets that came in, and packets of the chosen stream that went out.
     pub(crate) came: u64,
     pub(crate) went: u64,
     pub(crate) headers: u64,
@@ -29,7 +29,7 @@ pub(crate) fn none() -> Tally {
     }
 }
 
-// Whether the packet opened a frame: it is a good header.
+// Whether the packet opened a frame, and so is a good header.
 pub(crate) fn opens(event: u8) -> bool {
     match event {
         events::OPENED => true,
@@ -44,7 +44,7 @@ fn more(n: u64) -> u64 {
     std::num::wrapping_add_u64(n, 1)
 }
 
-// A line every so many frames of a long input, a gigabyte or so.
+// On a long input, a line of progress every so many frames, which is about a gigabyte.
 const PROGRESS: u64 = 100000;
 
 fn say_progress(ready: u64) {
@@ -54,7 +54,7 @@ fn say_progress(ready: u64) {
     }
 }
 
-// One packet more, and what it did.
+// Counts one more packet, and what it did.
 pub(crate) fn with_event(t: Tally, event: u8) -> Tally {
     let mut next = t;
     next.came = more(t.came);
@@ -94,7 +94,7 @@ fn say_count(words: &[u8], n: u64) {
     says::number(n);
 }
 
-// The frames, by what became of them.
+// Says what became of the frames.
 fn say_frames(t: Tally) {
     say_count(b"frames ready ", t.ready);
     say_count(b"; dropped: short ", t.short);
@@ -109,7 +109,7 @@ fn say_no_header(t: Tally, pid: u16) {
     says::text(b" packets: another PID, or not cut on packet borders\n");
 }
 
-// The frames of one input among several, in a line.
+// Says what became of the frames of one input among several, in one line.
 pub(crate) fn say_input(t: Tally, pid: u16) {
     if t.headers == 0 {
         say_no_header(t, pid);
@@ -119,7 +119,7 @@ pub(crate) fn say_input(t: Tally, pid: u16) {
     says::text(b"\n");
 }
 
-// The summary. An input without a header is said to have none.
+// Says the summary. If the input has no header, it says so.
 pub(crate) fn say(t: Tally, pid: u16) {
     if t.headers == 0 {
         say_no_header(t, pid);

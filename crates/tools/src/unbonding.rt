@@ -23,7 +23,7 @@ ghost use lib.ListN.{length};
 ghost use Rattle.counters.specs.Counters.{lastCarrier};
 ghost use Rattle.tools.specs.Sizes.{framesLength, partsLength};
 
-// PID, TS_ID and NETWORK_ID; then a file for each carrier, carrier 1 first.
+// The arguments: PID, TS_ID and NETWORK_ID; then a file for each carrier, carrier 1 first.
 const HEAD: usize = 3;
 
 fn usage() {
@@ -57,7 +57,7 @@ fn start_receivers(parts: &mut [u8], pid: u16)
     }
 }
 
-// Reads carrier c, from 0, on to the end of the super frame with this number, as far as it has one.
+// Reads carrier c, from 0, to the end of the super frame with this number, or to the end of its input.
 fn read_one(
     one: Carrier,
     c: usize,
@@ -80,7 +80,7 @@ fn read_one(
     )
 }
 
-// Reads each carrier on to there.
+// Does so for each carrier.
 fn read_on(g: Group, want: u64, pid: u16, n: usize, frames: &mut [u8], parts: &mut [u8]) -> Group
     requires { ⌜ (length (now frames) ≡ framesLength) × (length (now parts) ≡ partsLength) ⌝ }
     requires { ⌜ n ≤ lastCarrier ⌝ }
@@ -132,7 +132,7 @@ fn next_super(
     State { group, count }
 }
 
-// Reads and gathers until the input ends. A loop that is proved has to end: the super frames' numbers do.
+// Reads and gathers until the input ends. A proved loop has to end: this one does, at the latest, when the numbers run out.
 fn unbond_with(start: State, n: usize, bond: Bond, frames: &mut [u8], parts: &mut [u8]) -> State
     requires { ⌜ (length (now frames) ≡ framesLength) × (length (now parts) ≡ partsLength) ⌝ }
     requires { ⌜ n ≤ lastCarrier ⌝ }
@@ -164,7 +164,7 @@ fn start_and_unbond(
     unbond_with(start, n, bond, frames, parts)
 }
 
-// What is copied goes from one of the two to the other: a frame, then a super frame, then the group, then the stream.
+// Two buffers, since each copy is from one to the other: of a frame, then of a super frame, then of the group, then of the stream.
 fn unbond(start: State, n: usize, bond: Bond) -> State
     requires { ⌜ n ≤ lastCarrier ⌝ }
 {
@@ -173,7 +173,7 @@ fn unbond(start: State, n: usize, bond: Bond) -> State
     start_and_unbond(start, n, bond, &mut frames, &mut parts)
 }
 
-// Nothing became of any super frame yet.
+// The counts before the first super frame.
 fn no_count() -> Count {
     Count {
         out: 0,

@@ -4,11 +4,14 @@ use mathlib.Core.Path.{refl, ap, _∙_}
 use mathlib.Core.List.{List, _++_}
 use native.Mathlib.Omega.{arith}
 use borrow.Author.Needs.{needs}
-use lib.ListN.{take, drop, length-drop}
+use lib.ListN.{take, drop}
 use lib.Seq.{length-take-le}
 use Rattle.slices.specs.Slices.{copied}
+use Rattle.header_layout.specs.Rows.{place}
+use Rattle.header_layout.specs.Layout.{numbersStart}
+use Rattle.header_layout.proofs.LaidOut.{laid-out}
 use Rattle.receiver.specs.Packed.{packedLength}
-use Rattle.receiver_receive.proofs.Joined.{copied-part, joined}
+use Rattle.receiver_receive.proofs.Joined.{copied-part, joined, length-own}
 use Rattle.receiver_receive.proofs.renew.Statement.{statement}
 use Rattle.receiver_receive.proofs.renew.Tie as tie
 
@@ -73,6 +76,7 @@ same-length : tie.Need-same-length
 same-length c = search needs
 
 returns : tie.Need-returns
+unfolding numbersStart laid-out place
 returns c =
     let last = c .before .before in
     let first = last .before .before .before .before .before in
@@ -81,10 +85,10 @@ returns c =
     let s = copy .before .before .before .before .before .before in
     let a = s .args in
     let held = copy .copy .ensures ∙ copied-part (a .numbers .now) 0 packedLength (omega (arith, s .pre .0)) refl in
-    let own = take packedLength (drop 73 (a .packet .now)) in
+    let own = take packedLength (drop numbersStart (a .packet .now)) in
     let before = take packedLength (a .numbers .now) in (
       joined (a .numbers .now) own before (s .pre .0)
-          (length-take-le packedLength (drop 73 (a .packet .now)) (rw length-drop (omega (arith, s .pre .1)))) (length-take-le packedLength (a .numbers .now) (omega (arith, s .pre .0)))
+          (length-own (a .packet .now) (s .pre .1)) (length-take-le packedLength (a .numbers .now) (omega (arith, s .pre .0)))
           (first .copy2 .ensures) (last .copy3 .ensures ∙ ap (copied _) held),
       look .are-bytes .ensures,
     )

@@ -7,6 +7,7 @@ use borrow.Author.Needs.{needs}
 use borrow.Author.Tests.{eq-eqb}
 use lib.ListN.{length, take, drop, length-drop}
 use lib.Seq.{length-take-le}
+use Rattle.header_layout.specs.Layout.{numbersStart}
 use Rattle.header_layout.specs.Header.{reading}
 use Rattle.header_check.specs.Checking.{readRefusal, checkedOf}
 use Rattle.setting.specs.declared.Kind.{Kind}
@@ -17,7 +18,7 @@ use Rattle.receiver.specs.Store.{storeLength}
 use Rattle.receiver.specs.Bytes.{receiverOf, receiverLength, numbersAt}
 use Rattle.receiver.proofs.Bytes.{over-stage}
 use Rattle.receiver_receive.proofs.Sorts.{broken-sort, good-sort, checked-refusal, checked-counter}
-use Rattle.receiver_receive.proofs.Joined.{opened-is}
+use Rattle.receiver_receive.proofs.Joined.{length-own, opened-is}
 use Rattle.receiver_receive.proofs.Receipts.{whole-packet, broken-receipt, good-receipt}
 use Rattle.receiver_receive.proofs.Taking.{keeps, renews, renewed, renewed-length}
 use Rattle.receiver_receive.proofs.take_header.Statement.{statement}
@@ -124,8 +125,8 @@ move-on-requires-2 c κs =
     let renew = c .before .before .before .before in
     let s = start (renew .before .before .before .before) in
     let p = s .args .packet .now in
-    renewed-length (s .args .state .now) _ (take packedLength (drop 73 p)) (s .pre .0 .0)
-    (length-take-le packedLength (drop 73 p) (rw length-drop (omega (arith, whole-packet (receiverOf (s .args .state .now)) _ _ (s .pre .1 .1))))) (renew .renew .ensures .0)
+    renewed-length (s .args .state .now) _ (take packedLength (drop numbersStart p)) (s .pre .0 .0)
+    (length-own p (whole-packet (receiverOf (s .args .state .now)) _ _ (s .pre .1 .1))) (renew .renew .ensures .0)
 
 same-length-2 : tie.Need-same-length-2
 same-length-2 c = search needs
@@ -142,7 +143,7 @@ returns-2 c =
     let w = receiverOf (a .state .now) in
     let p = a .packet .now in
     let accepts = sym (said-refusal check) ∙ accepted .if1 .left in
-    let own = take packedLength (drop 73 p) in
+    let own = take packedLength (drop numbersStart p) in
     let said = reading (w .kind) p in
     renews (a .state .now) p storeLength (s .pre .0 .0) (s .pre .0 .1) (s .pre .1 .1) (row .header-row .result) (move .move-on2 .ensures .0) said
     (good-receipt w p storeLength (s .pre .1 .1) (good-sort (w .kind) (w .pid) p accepts) said refl

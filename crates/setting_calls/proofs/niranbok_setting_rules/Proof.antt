@@ -1,7 +1,7 @@
 -- `niranbok_setting_rules` meets its contract. Assumes nothing.
-use mathlib.Core.Path.{sym, _∙_}
-use borrow.Author.Tests.{ne-eqb}
+use Rattle.setting.specs.Rules.{ruleChecks}
 use Rattle.setting_calls.specs.Calls.{rulesRefused}
+use Rattle.setting_calls.proofs.Checked.{call-refused, then-checked}
 use borrow.Author.Needs.{needs}
 use Rattle.setting_calls.proofs.niranbok_setting_rules.Statement.{statement}
 use Rattle.setting_calls.proofs.niranbok_setting_rules.Tie as tie
@@ -11,7 +11,7 @@ call-refusal-requires c κs = search needs
 
 returns : tie.Need-returns
 unfolding rulesRefused
-returns c = rw (sym (c .before .call-refusal .ensures), ne-eqb (c .before .call-refusal .result) 0 (c .if1 .taken))
+returns c = call-refused ruleChecks _ _ _ (c .before .call-refusal .ensures) (c .if1 .taken)
 
 kind-of-requires : tie.Need-kind-of-requires
 kind-of-requires c κs = search needs
@@ -23,8 +23,7 @@ returns-2 : tie.Need-returns-2
 unfolding rulesRefused
 returns-2 c =
     let known = c .before in
-    rw (sym (known .before .before .call-refusal .ensures) ∙ known .before .if1 .left, sym (known .kind-of .ensures))
-    (c .rule-refusal .ensures)
+    then-checked ruleChecks _ _ _ (known .before .before .call-refusal .ensures) _ _ (known .before .if1 .left) (known .kind-of .ensures) (c .rule-refusal .ensures)
 
 pub niranbok-setting-rules-spec : {M : Type 1} → statement M
 niranbok-setting-rules-spec =

@@ -1,19 +1,20 @@
 -- `rule_refusal` meets its contract: a check a return. Assumes nothing.
+use Prim.Native.Nat.{_*_}
 use mathlib.Core.Path.{_≡_, refl, sym, ap, _∙_}
 use mathlib.Core.Bool.{not}
 use mathlib.Core.List.{List}
 use native.Mathlib.Omega.{arith}
 use borrow.Author.Needs.{needs}
 use lib.ListN.{replicate}
-use Rattle.counters.specs.Counters.{lastStream}
+use Rattle.counters.specs.Counters.{lastSlot, lastStream}
 use Rattle.setting.specs.Refusal.{Check, firstOf}
 use Rattle.setting.specs.Rules.{someUnavailable, pairTwice, ruleChecks}
 use Rattle.setting_bytes.specs.Words.{wordAt, wordsOf}
-use Rattle.setting_bytes.specs.Settings.{part, settingOf}
+use Rattle.setting_bytes.specs.Settings.{part, availabilityAt, tsIdAt, networkIdAt, numbersAt, settingOf}
 use Rattle.setting.proofs.Refusals.{Past, answers, passed}
 use Rattle.setting_bytes.proofs.Numbers.{all-read}
 use Rattle.setting_bytes.proofs.Parts.{length-part}
-use Rattle.setting_checks.proofs.Rows.{rulesIn, rules-in, rules-of-zeros}
+use Rattle.setting_checks.proofs.Rows.{inSetting, rulesIn, rules-in, rules-of-zeros}
 use Rattle.setting_checks.proofs.rule_refusal.Statement.{statement}
 use Rattle.setting_checks.proofs.rule_refusal.Tie as tie
 
@@ -27,21 +28,21 @@ told c = let s = c .before .before .args in ap firstOf (rules-in (s .kind) (s .b
 past-1 : (c : tie.Else2) → Past 1 (rows (c .before .before .before .before .before))
 past-1 c = passed _ _ (ap not (sym (c .before .frame-type-allowed .ensures)) ∙ c .if2 .left)
 
-unavailable : (c : tie.After-has-unavailable) → let b = c .before .before .before .before .before .before .before .before .before .before .args .bytes .now in c .has-unavailable .result ≡ someUnavailable (wordAt 4 b) (part 82 52 b)
+unavailable : (c : tie.After-has-unavailable) → let b = c .before .before .before .before .before .before .before .before .before .before .args .bytes .now in c .has-unavailable .result ≡ someUnavailable (wordAt (inSetting availabilityAt) b) (part numbersAt lastSlot b)
 unavailable c = c .has-unavailable .ensures ∙ rw (c .before .before .word .ensures) refl
 
 past-2 : (c : tie.Else3) → Past 2 (rows (c .before .before .before .before .before .before .before .before .before .before .before))
 past-2 c = past-1 (c .before .before .before .before .before .before) ∙ passed _ _ (sym (unavailable (c .before)) ∙ c .if3 .left)
 
-twice : (c : tie.After-has-pair-twice) → let b = c .before .before .before .before .before .before .before .before .before .before .before .before .before .before .before .before .before .before .before .before .before .before .args .bytes .now in c .has-pair-twice .result ≡ pairTwice (wordAt 4 b) (wordsOf (part 6 30 b)) (wordsOf (part 36 30 b))
+twice : (c : tie.After-has-pair-twice) → let b = c .before .before .before .before .before .before .before .before .before .before .before .before .before .before .before .before .before .before .before .before .before .before .args .bytes .now in c .has-pair-twice .result ≡ pairTwice (wordAt (inSetting availabilityAt) b) (wordsOf (part (inSetting tsIdAt) (2 * lastStream) b)) (wordsOf (part (inSetting networkIdAt) (2 * lastStream) b))
 twice c =
     let b = c .before .before .before .before .before .before .before .before .before .before .before .before .before .before .before .before .before .before .before .before .before .before .args .bytes .now in
     let whole = c .before .before .before .before .before .before .before .before .before .before .before .before .before .before .before .before .before .before .before .before .if1 .left in
     c .has-pair-twice .ensures
     ∙ rw (
       c .before .before .before .before .before .before .before .before .before .before .before .before .before .before .word .ensures,
-      c .before .before .before .before .before .before .before .before .read-words .ensures ∙ all-read (replicate lastStream 0) (part 6 30 b) (length-part 6 30 b (omega (arith, whole))),
-      c .before .before .before .before .read-words2 .ensures ∙ all-read (replicate lastStream 0) (part 36 30 b) (length-part 36 30 b (omega (arith, whole))),
+      c .before .before .before .before .before .before .before .before .read-words .ensures ∙ all-read (replicate lastStream 0) (part (inSetting tsIdAt) (2 * lastStream) b) (length-part (inSetting tsIdAt) (2 * lastStream) b (omega (arith, whole))),
+      c .before .before .before .before .read-words2 .ensures ∙ all-read (replicate lastStream 0) (part (inSetting networkIdAt) (2 * lastStream) b) (length-part (inSetting networkIdAt) (2 * lastStream) b (omega (arith, whole))),
     ) refl
 
 past-3 : (c : tie.Else4) → Past 3 (rows (c .before .before .before .before .before .before .before .before .before .before .before .before .before .before .before .before .before .before .before .before .before .before .before))

@@ -6,7 +6,7 @@ use borrow.Author.Tests.{le-leb, lt-leb}
 use Rattle.setting.specs.Refusal.{Check, firstOf}
 use Rattle.setting.specs.Rules.{widthChecks}
 use Rattle.setting.specs.Announcing.{announcedChecks}
-use Rattle.setting_bytes.specs.Settings.{part, announcedOf, settingOf}
+use Rattle.setting_bytes.specs.Settings.{part, announcedLength, announcedOf, announcedAt, settingOf}
 use Rattle.setting.proofs.Refusals.{Past, answers, passed, none-first, onward, at-once}
 use Rattle.setting_checks.proofs.Rows.{restIn, widthsIn, widths-in, widths-of-zeros}
 use Rattle.setting_checks.proofs.width_refusal.Statement.{statement}
@@ -17,7 +17,7 @@ abbrev rows : tie.Start → List Check
 rows c = widthsIn (c .args .kind) (c .args .bytes .now)
 
 abbrev shown : tie.Start → List Check
-shown c = announcedChecks (announcedOf (part 2 80 (c .args .bytes .now)))
+shown c = announcedChecks (announcedOf (part announcedAt announcedLength (c .args .bytes .now)))
 
 abbrev rest : tie.Start → List Check
 rest c = restIn (c .args .kind) (c .args .bytes .now)

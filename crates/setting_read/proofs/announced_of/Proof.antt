@@ -1,4 +1,5 @@
 -- `announced_of` meets its contract. Assumes nothing.
+use Prim.Native.Nat.{_*_}
 use mathlib.Core.Path.{refl, _∙_}
 use native.Mathlib.Omega.{arith}
 use borrow.Author.Tests.{eq-eqb, ne-eqb}
@@ -6,7 +7,7 @@ use lib.ListN.{length, replicate}
 use Rattle.counters.specs.Counters.{lastStream}
 use Rattle.setting.specs.Setting.{blank}
 use Rattle.setting.specs.Announcing.{announced}
-use Rattle.setting_bytes.specs.Settings.{part, announcedLength, announcedOf}
+use Rattle.setting_bytes.specs.Settings.{part, tsIdAt, networkIdAt, statusesAt, announcedLength, announcedOf}
 use Rattle.setting_bytes.proofs.Numbers.{all-read}
 use Rattle.setting_bytes.proofs.Parts.{length-part, copied-part}
 use borrow.Author.Needs.{needs}
@@ -92,9 +93,9 @@ returns-2 c =
     rw (
       eq-eqb (length b) announcedLength long,
       word .word .ensures,
-      ts .read-words .ensures ∙ all-read (replicate lastStream 0) (part 4 30 b) (length-part 4 30 b (omega arith)),
-      networks .read-words2 .ensures ∙ all-read (replicate lastStream 0) (part 34 30 b) (length-part 34 30 b (omega arith)),
-      copied .copy .ensures ∙ copied-part lastStream 64 b (omega arith),
+      ts .read-words .ensures ∙ all-read (replicate lastStream 0) (part tsIdAt (2 * lastStream) b) (length-part tsIdAt (2 * lastStream) b (omega arith)),
+      networks .read-words2 .ensures ∙ all-read (replicate lastStream 0) (part networkIdAt (2 * lastStream) b) (length-part networkIdAt (2 * lastStream) b (omega arith)),
+      copied .copy .ensures ∙ copied-part lastStream statusesAt b (omega arith),
     ) refl
 
 pub announced-of-spec : {M : Type 1} → statement M

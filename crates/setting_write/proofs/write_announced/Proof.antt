@@ -1,5 +1,5 @@
 -- `write_announced` meets its contract: five parts, one behind the other. Assumes nothing.
-use Prim.Native.Nat.{ℕ}
+use Prim.Native.Nat.{ℕ, _*_}
 use mathlib.Core.Path.{_≡_, sym, _∙_}
 use mathlib.Core.List.{List}
 use native.Mathlib.Omega.{arith}
@@ -7,7 +7,8 @@ use borrow.Author.Tests.{eq-eqb, ne-eqb}
 use borrow.Rule.Slice.PartMut.{same-len-mid, mid-len}
 use lib.ListN.{length, take, drop, length-set}
 use Rattle.slices.proofs.Front.{put, copied-over}
-use Rattle.setting_bytes.specs.Settings.{announcedLength}
+use Rattle.counters.specs.Counters.{lastStream}
+use Rattle.setting_bytes.specs.Settings.{tsIdAt, networkIdAt, statusesAt, emergencyAt, announcedLength}
 use Rattle.setting_bytes.proofs.Parts.{Streams, announced-parts}
 use borrow.Author.Needs.{needs}
 use Rattle.setting_write.proofs.write_announced.Statement.{statement}
@@ -32,28 +33,28 @@ named c = c .before .before .before .before .before .before
 
 -- each part is back with its length, and so is the whole
 abbrev after₁ : tie.After-write-information → List ℕ
-after₁ c = put 0 4 (begun c .args .bytes .now) (c .write-information .last .0)
+after₁ c = put 0 tsIdAt (begun c .args .bytes .now) (c .write-information .last .0)
 
 whole₁ : (c : tie.After-write-information) → length (after₁ c) ≡ announcedLength
-whole₁ c = same-len-mid 0 4 (begun c .args .bytes .now) (c .write-information .last .0) (c .write-information .kept .0) ∙ c .before .before .if1 .left
+whole₁ c = same-len-mid 0 tsIdAt (begun c .args .bytes .now) (c .write-information .last .0) (c .write-information .kept .0) ∙ c .before .before .if1 .left
 
 abbrev after₂ : tie.After-write-words → List ℕ
-after₂ c = put 4 30 (after₁ (informed c)) (c .write-words .last .0)
+after₂ c = put tsIdAt (2 * lastStream) (after₁ (informed c)) (c .write-words .last .0)
 
 whole₂ : (c : tie.After-write-words) → length (after₂ c) ≡ announcedLength
-whole₂ c = same-len-mid 4 30 (after₁ (informed c)) (c .write-words .last .0) (c .write-words .kept .0) ∙ whole₁ (informed c)
+whole₂ c = same-len-mid tsIdAt (2 * lastStream) (after₁ (informed c)) (c .write-words .last .0) (c .write-words .kept .0) ∙ whole₁ (informed c)
 
 abbrev after₃ : tie.After-write-words2 → List ℕ
-after₃ c = put 34 30 (after₂ (identified c)) (c .write-words2 .last .0)
+after₃ c = put networkIdAt (2 * lastStream) (after₂ (identified c)) (c .write-words2 .last .0)
 
 whole₃ : (c : tie.After-write-words2) → length (after₃ c) ≡ announcedLength
-whole₃ c = same-len-mid 34 30 (after₂ (identified c)) (c .write-words2 .last .0) (c .write-words2 .kept .0) ∙ whole₂ (identified c)
+whole₃ c = same-len-mid networkIdAt (2 * lastStream) (after₂ (identified c)) (c .write-words2 .last .0) (c .write-words2 .kept .0) ∙ whole₂ (identified c)
 
 abbrev after₄ : tie.After-copy → List ℕ
-after₄ c = put 64 15 (after₃ (named c)) (c .copy .last .0)
+after₄ c = put statusesAt lastStream (after₃ (named c)) (c .copy .last .0)
 
 whole₄ : (c : tie.After-copy) → length (after₄ c) ≡ announcedLength
-whole₄ c = same-len-mid 64 15 (after₃ (named c)) (c .copy .last .0) (c .copy .kept .0) ∙ whole₃ (named c)
+whole₄ c = same-len-mid statusesAt lastStream (after₃ (named c)) (c .copy .last .0) (c .copy .kept .0) ∙ whole₃ (named c)
 
 returns : tie.Need-returns
 returns c = rw (ne-eqb (length (c .before .before .args .bytes .now)) announcedLength (c .if1 .taken))
@@ -86,7 +87,7 @@ write-words-requires : tie.Need-write-words-requires
 write-words-requires c κs =
     let info = c .before .before .before .before .before in
     let n = streams (begun info) .0 in
-    mid-len 4 34 (after₁ info) (omega (arith, whole₁ info)) ∙ omega arith
+    mid-len tsIdAt networkIdAt (after₁ info) (omega (arith, whole₁ info)) ∙ omega arith
 
 sub-write-words-2 : tie.Need-sub-write-words-2
 sub-write-words-2 c = search needs
@@ -104,7 +105,7 @@ write-words-requires-2 : tie.Need-write-words-requires-2
 write-words-requires-2 c κs =
     let ts = c .before .before .before .before .before in
     let n = streams (begun (informed ts)) .1 in
-    mid-len 34 64 (after₂ ts) (omega (arith, whole₂ ts)) ∙ omega arith
+    mid-len networkIdAt statusesAt (after₂ ts) (omega (arith, whole₂ ts)) ∙ omega arith
 
 sub-copy : tie.Need-sub-copy
 sub-copy c = search needs
@@ -136,11 +137,11 @@ returns-2 c =
     let start = begun info in
     let long = info .before .before .if1 .left in
     let n = streams start in
-    let part = mid-len 64 79 (after₃ networks) (omega (arith, whole₃ networks)) in
+    let part = mid-len statusesAt emergencyAt (after₃ networks) (omega (arith, whole₃ networks)) in
     rw (eq-eqb (length (start .args .bytes .now)) announcedLength long)
     (announced-parts (start .args .a) (start .args .bytes .now) (info .write-information .last .0) (ts .write-words .last .0) (networks .write-words2 .last .0) (copied .copy .last .0)
     long n (info .write-information .ensures) (ts .write-words .ensures) (networks .write-words2 .ensures)
-    (copied .copy .ensures ∙ copied-over (take 15 (drop 64 (after₃ networks))) (start .args .a .«receive_status») (part ∙ sym (n .2))))
+    (copied .copy .ensures ∙ copied-over (take lastStream (drop statusesAt (after₃ networks))) (start .args .a .«receive_status») (part ∙ sym (n .2))))
 
 pub write-announced-spec : {M : Type 1} → statement M
 write-announced-spec =

@@ -7,6 +7,7 @@ use borrow.Rule.Slice.PartMut.{same-len-mid, mid-len}
 use lib.ListN.{length, take, drop, length-set}
 use Rattle.slices.proofs.Front.{put, copied-over}
 use Rattle.setting.specs.Setting.{auxiliaryBytes}
+use Rattle.setting_bytes.specs.Settings.{auxiliaryAt, settingFrom}
 use Rattle.setting_bytes.proofs.Parts.{setting-end}
 use borrow.Author.Needs.{needs}
 use Rattle.setting_write.proofs.write_back.Statement.{statement}
@@ -21,16 +22,16 @@ begun c = c .before .before .before .before .before
 
 -- the part is back with its length, and so is the whole
 abbrev after : tie.After-copy → List ℕ
-after c = put 0 28 (begun c .args .part .now) (c .copy .last .0)
+after c = put 0 auxiliaryBytes (begun c .args .part .now) (c .copy .last .0)
 
-whole : (c : tie.After-copy) → length (after c) ≡ 33
-whole c = same-len-mid 0 28 (begun c .args .part .now) (c .copy .last .0) (c .copy .kept .0) ∙ begun c .pre
+whole : (c : tie.After-copy) → length (after c) ≡ settingFrom auxiliaryAt
+whole c = same-len-mid 0 auxiliaryBytes (begun c .args .part .now) (c .copy .last .0) (c .copy .kept .0) ∙ begun c .pre
 
 auxiliary-copied : (c : tie.After-copy) → c .copy .last .0 ≡ begun c .args .s .auxiliary
 auxiliary-copied c =
     c .copy .ensures
-    ∙ copied-over (take 28 (drop 0 (begun c .args .part .now))) (begun c .args .s .auxiliary)
-    (mid-len 0 28 (begun c .args .part .now) (omega (arith, begun c .pre)) ∙ sym (bytes (begun c)))
+    ∙ copied-over (take auxiliaryBytes (drop 0 (begun c .args .part .now))) (begun c .args .s .auxiliary)
+    (mid-len 0 auxiliaryBytes (begun c .args .part .now) (omega (arith, begun c .pre)) ∙ sym (bytes (begun c)))
 
 sub-copy : tie.Need-sub-copy
 sub-copy c = search needs

@@ -9,7 +9,7 @@ use lib.ListN.{length, take, drop, length-set}
 use Rattle.slices.proofs.Front.{put, copied-over}
 use Rattle.counters.specs.Counters.{lastSlot}
 use Rattle.setting.specs.Announcing.{announced}
-use Rattle.setting_bytes.specs.Settings.{announcedLength, announcedBytes}
+use Rattle.setting_bytes.specs.Settings.{announcedLength, announcedBytes, announcedAt, numbersAt, privateAt}
 use Rattle.setting_bytes.proofs.Parts.{setting-front}
 use borrow.Author.Needs.{needs}
 use Rattle.setting_write.proofs.write_front.Statement.{statement}
@@ -28,31 +28,31 @@ told c = c .before .before .before .before .before .before
 
 -- each part is back with its length, and so is the whole
 abbrev after₁ : tie.After-write-announced → List ℕ
-after₁ c = put 2 80 (begun c .args .part .now) (c .write-announced .last .0)
+after₁ c = put announcedAt announcedLength (begun c .args .part .now) (c .write-announced .last .0)
 
-whole₁ : (c : tie.After-write-announced) → length (after₁ c) ≡ 134
-whole₁ c = same-len-mid 2 80 (begun c .args .part .now) (c .write-announced .last .0) (c .write-announced .kept .0) ∙ begun c .pre
+whole₁ : (c : tie.After-write-announced) → length (after₁ c) ≡ privateAt
+whole₁ c = same-len-mid announcedAt announcedLength (begun c .args .part .now) (c .write-announced .last .0) (c .write-announced .kept .0) ∙ begun c .pre
 
 abbrev after₂ : tie.After-copy → List ℕ
-after₂ c = put 82 52 (after₁ (told c)) (c .copy .last .0)
+after₂ c = put numbersAt lastSlot (after₁ (told c)) (c .copy .last .0)
 
-whole₂ : (c : tie.After-copy) → length (after₂ c) ≡ 134
-whole₂ c = same-len-mid 82 52 (after₁ (told c)) (c .copy .last .0) (c .copy .kept .0) ∙ whole₁ (told c)
+whole₂ : (c : tie.After-copy) → length (after₂ c) ≡ privateAt
+whole₂ c = same-len-mid numbersAt lastSlot (after₁ (told c)) (c .copy .last .0) (c .copy .kept .0) ∙ whole₁ (told c)
 
 -- what each part then holds
-told-room : (c : tie.After-write-announced) → length (take 80 (drop 2 (begun c .args .part .now))) ≡ announcedLength
-told-room c = mid-len 2 82 (begun c .args .part .now) (omega (arith, begun c .pre))
+told-room : (c : tie.After-write-announced) → length (take announcedLength (drop announcedAt (begun c .args .part .now))) ≡ announcedLength
+told-room c = mid-len announcedAt numbersAt (begun c .args .part .now) (omega (arith, begun c .pre))
 
 told-bytes : (c : tie.After-write-announced) → c .write-announced .last .0 ≡ announcedBytes (announced (begun c .args .s))
 told-bytes c =
-    rw (eq-eqb (length (take 80 (drop 2 (begun c .args .part .now)))) announcedLength (told-room c)) at (c .write-announced .ensures)
+    rw (eq-eqb (length (take announcedLength (drop announcedAt (begun c .args .part .now)))) announcedLength (told-room c)) at (c .write-announced .ensures)
     ∙ ap announcedBytes (c .before .announce .ensures)
 
 numbers-copied : (c : tie.After-copy) → c .copy .last .0 ≡ begun (told c) .args .s .«relative_ts_number»
 numbers-copied c =
     c .copy .ensures
-    ∙ copied-over (take 52 (drop 82 (after₁ (told c)))) (begun (told c) .args .s .«relative_ts_number»)
-    (mid-len 82 134 (after₁ (told c)) (omega (arith, whole₁ (told c))) ∙ sym (slots (begun (told c))))
+    ∙ copied-over (take lastSlot (drop numbersAt (after₁ (told c)))) (begun (told c) .args .s .«relative_ts_number»)
+    (mid-len numbersAt privateAt (after₁ (told c)) (omega (arith, whole₁ (told c))) ∙ sym (slots (begun (told c))))
 
 sub-write-announced : tie.Need-sub-write-announced
 sub-write-announced c = search needs

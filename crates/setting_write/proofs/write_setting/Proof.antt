@@ -8,7 +8,7 @@ use borrow.Rule.Slice.PartMut.{same-len-mid, mid-len}
 use lib.ListN.{length, take, drop}
 use Rattle.slices.proofs.Front.{put, copied-over}
 use Rattle.setting.specs.Setting.{privateBytes}
-use Rattle.setting_bytes.specs.Settings.{settingLength}
+use Rattle.setting_bytes.specs.Settings.{privateAt, auxiliaryAt, settingLength, settingFrom}
 use Rattle.setting_bytes.proofs.Parts.{setting-parts}
 use borrow.Author.Needs.{needs}
 use Rattle.setting_write.proofs.write_setting.Statement.{statement}
@@ -30,28 +30,28 @@ filled c = c .before .before .before .before
 
 -- each part is back with its length, and so is the whole
 abbrev after₁ : tie.After-write-front → List ℕ
-after₁ c = put 0 134 (begun c .args .bytes .now) (c .write-front .last .0)
+after₁ c = put 0 privateAt (begun c .args .bytes .now) (c .write-front .last .0)
 
 whole₁ : (c : tie.After-write-front) → length (after₁ c) ≡ settingLength
-whole₁ c = same-len-mid 0 134 (begun c .args .bytes .now) (c .write-front .last .0) (c .write-front .kept .0) ∙ c .before .before .if1 .left
+whole₁ c = same-len-mid 0 privateAt (begun c .args .bytes .now) (c .write-front .last .0) (c .write-front .kept .0) ∙ c .before .before .if1 .left
 
 abbrev after₂ : tie.After-copy → List ℕ
-after₂ c = put 134 85 (after₁ (fronted c)) (c .copy .last .0)
+after₂ c = put privateAt privateBytes (after₁ (fronted c)) (c .copy .last .0)
 
 whole₂ : (c : tie.After-copy) → length (after₂ c) ≡ settingLength
-whole₂ c = same-len-mid 134 85 (after₁ (fronted c)) (c .copy .last .0) (c .copy .kept .0) ∙ whole₁ (fronted c)
+whole₂ c = same-len-mid privateAt privateBytes (after₁ (fronted c)) (c .copy .last .0) (c .copy .kept .0) ∙ whole₁ (fronted c)
 
-front-length : (c : tie.After-write-front) → length (c .write-front .last .0) ≡ 134
-front-length c = c .write-front .kept .0 ∙ mid-len 0 134 (begun c .args .bytes .now) (omega (arith, c .before .before .if1 .left))
+front-length : (c : tie.After-write-front) → length (c .write-front .last .0) ≡ privateAt
+front-length c = c .write-front .kept .0 ∙ mid-len 0 privateAt (begun c .args .bytes .now) (omega (arith, c .before .before .if1 .left))
 
-back-length : (c : tie.After-write-back) → length (c .write-back .last .0) ≡ 33
-back-length c = c .write-back .kept .0 ∙ mid-len 219 252 (after₂ (filled c)) (omega (arith, whole₂ (filled c)))
+back-length : (c : tie.After-write-back) → length (c .write-back .last .0) ≡ settingFrom auxiliaryAt
+back-length c = c .write-back .kept .0 ∙ mid-len auxiliaryAt settingLength (after₂ (filled c)) (omega (arith, whole₂ (filled c)))
 
 private-copied : (c : tie.After-copy) → c .copy .last .0 ≡ begun (fronted c) .args .s .«private_data»
 private-copied c =
     c .copy .ensures
-    ∙ copied-over (take 85 (drop 134 (after₁ (fronted c)))) (begun (fronted c) .args .s .«private_data»)
-    (mid-len 134 219 (after₁ (fronted c)) (omega (arith, whole₁ (fronted c))) ∙ sym (bytes (begun (fronted c))))
+    ∙ copied-over (take privateBytes (drop privateAt (after₁ (fronted c)))) (begun (fronted c) .args .s .«private_data»)
+    (mid-len privateAt auxiliaryAt (after₁ (fronted c)) (omega (arith, whole₁ (fronted c))) ∙ sym (bytes (begun (fronted c))))
 
 returns : tie.Need-returns
 returns c = rw (ne-eqb (length (c .before .before .args .bytes .now)) settingLength (c .if1 .taken))
