@@ -1,18 +1,16 @@
 -- On the bytes of a state each call is the composer's own. Assumes nothing.
-use Prim.Native.Nat.{ℕ, zero, suc}
+use Prim.Native.Nat.{ℕ}
 use mathlib.Core.Path.{_≡_, refl, sym, _∙_}
 use mathlib.Core.Bool.{Bool, true, false, cond}
 use mathlib.Core.List.{List, [], _∷_, _++_, map}
 use native.Mathlib.Omega.{arith}
 use borrow.Author.Tests.{eq-eqb}
-use lib.Dec.{eqb, lit<}
-use lib.Pow.{pow-pos}
-use lib.ListN.{length, replicate, length-append, length-map}
-use Rattle.bits.specs.Fields.{Fit, none, more}
+use lib.Dec.{eqb}
+use lib.ListN.{length, length-append, length-map}
 use Rattle.setting.specs.Refusal.{leaves}
-use Rattle.setting.specs.Setting.{blank, OfItsTypes as SettingOfItsTypes}
 use Rattle.setting_bytes.specs.Settings.{settingLength, announcedBytes, settingBytes, announcedLength}
 use Rattle.setting_bytes.proofs.Parts.{length-announced}
+use Rattle.setting_bytes.proofs.Typed.{blank-types}
 use Rattle.setting_bytes.proofs.Back.{long, length-setting, setting-back}
 use Rattle.setting.specs.Announcing.{announced}
 use Rattle.composer.specs.Slots.{marksAfter}
@@ -49,24 +47,6 @@ length-composer c t =
       length-append s m,
       length-front c,
     ) (omega arith)
-
--- zeros fit
-zeros-fit : (w n : ℕ) → Fit w (replicate n 0)
-zeros-fit w zero = none
-zeros-fit w (suc n) = more (pow-pos w) (zeros-fit w n)
-
-blank-types : SettingOfItsTypes blank
-unfolding blank
-blank-types =
-    record {
-      ts-id = (refl, zeros-fit 16 15);
-      network-id = (refl, zeros-fit 16 15);
-      statuses = (refl, zeros-fit 8 15);
-      numbers = (refl, zeros-fit 8 52);
-      privates = (refl, zeros-fit 8 85);
-      auxiliaries = (refl, zeros-fit 8 28);
-      group = lit< tt;
-    }
 
 -- of two states
 one-of : (b : Bool) (new old : Composer) → OfItsTypes new → OfItsTypes old → OfItsTypes (cond b new old)

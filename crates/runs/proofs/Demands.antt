@@ -26,7 +26,7 @@ use Rattle.runs.specs.Work.{noWork}
 use Rattle.runs.specs.Losses.{Sent, MayHappen, arriving, freshWith, handedOut, numbersIn, wanted}
 use Rattle.runs.specs.Firmware.{FirmwareCall, OfBytes, startedAs, Closed, tunedTo}
 use Rattle.runs.specs.Demands.{RunOfCalls, framesClosed, FreshAndAsked, handsOut, AlwaysRoom, DemandThree, whole, headerAlone, PacketForPacket, placedIn, RunForRun}
-use Rattle.runs.proofs.Typed.{blank-types}
+use Rattle.setting_bytes.proofs.Typed.{blank-types}
 use Rattle.runs.proofs.Table.{Asked}
 use Rattle.runs.proofs.Lost.{InRow, end, here}
 use Rattle.runs.proofs.Composed.{sound-start}

@@ -9,8 +9,9 @@ pub mod Lost
 pub mod Sixteen
 pub mod Table
 pub mod Vouched
-mod Typed
 mod Tuned
 mod Placed
 mod Made
 pub mod Demands
+mod InOrder
+pub mod Accepted

@@ -30,7 +30,7 @@ use Rattle.runs.specs.Runs.{Call, begin, put, close, Each, none, more, O
 use Rattle.runs.specs.Work.{Work, added, workAfter, said, frameOf}
 use Rattle.runs.specs.Losses.{numbersIn}
 use Rattle.runs.specs.Firmware.{FirmwareCall, begins, puts, closes, OfBytes, Multiplexer, answered, putFront, afterCall, Closed, closedIn, closedFrames}
-use Rattle.runs.proofs.Typed.{setting-typed}
+use Rattle.setting_bytes.proofs.Typed.{setting-typed}
 use Rattle.runs.proofs.Filled.{marksFilled}
 use Rattle.runs.proofs.Placed.{front-more}
 use Rattle.runs.proofs.Held.{refused-same, refused-work, begun-run, put-run, closed-run, begun-work, put-work, closed-work, put-facts, close-facts, Opened, Sound, sound-after, Done, done, closed-as, refused-none, begin-none, put-none, close-one}

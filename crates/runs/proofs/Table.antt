@@ -75,7 +75,7 @@ module _ (kind : Kind) (pid : ℕ) (w : Reception) (s : Set kind pid w) where
       (none-append (stage-none (s .stage-is)) (more (some-fit 4 (w .state .numbers) (s .numbers-fit)) (more (some-fit 4 (w .state .before) (s .before-fit)) none)))
 
   -- no packet of 188 bytes is refused
-  accepted : (p : List ℕ) → length p ≡ packetLength → receiveRefusal (w .state) (length p) (length (w .store)) ≡ 0
+  pub accepted : (p : List ℕ) → length p ≡ packetLength → receiveRefusal (w .state) (length p) (length (w .store)) ≡ 0
   unfolding receiveRefusal
   accepted p l = first-none (more (ap not (eq-eqb (length p) packetLength l)) (more (ap not (eq-eqb (length (w .store)) storeLength (s .store-long))) state-none))
 

@@ -4,3 +4,4 @@ pub mod Back
 pub mod Parts
 pub mod Same
 pub mod Differing
+pub mod Typed
