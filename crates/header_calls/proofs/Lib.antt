@@ -1,1 +1,2 @@
 pub mod Settled
+pub mod BytesBack

@@ -1,2 +1,3 @@
 -- The calls that write and read a header: what they answer and leave.
 pub mod Calls
+pub mod Demands

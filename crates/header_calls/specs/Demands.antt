@@ -1,0 +1,28 @@
+-- What demand 2 says of headers, over the calls of the C header. The proof stands apart.
+use Prim.Native.Nat.{ℕ}
+use mathlib.Core.Path.{_≡_}
+use mathlib.Core.Bool.{true}
+use mathlib.Core.List.{List}
+use lib.ListN.{length}
+use Rattle.bits.specs.Fields.{Fit}
+use Rattle.header_layout.specs.Header.{headerLength}
+use Rattle.header_layout.specs.Meets.{MeetsRules}
+use Rattle.setting_bytes.specs.Kinds.{isKind, kindOf}
+use Rattle.setting_bytes.specs.Settings.{settingLength, settingOf}
+use Rattle.header_calls.specs.Calls.{writeRefused, writeMemory, readRefused, readMemory}
+
+-- 252 bytes that say a setting which meets the rules
+pub record Meets (pid kind : ℕ) (setting : List ℕ) : Type 0 where
+  pub is-kind : isKind kind ≡ true
+  pub bytes : Fit 8 setting
+  pub long : length setting ≡ settingLength
+  pub rules : MeetsRules (kindOf kind) pid (settingOf setting)
+
+-- 'Every setting that meets the rules is written, and read back equal': what `niranbok_header_write` leaves in 188 bytes,
+-- `niranbok_header_read` reads into 252 bytes, and they are those that were written
+abbrev pub BytesBack : Type 0
+BytesBack =
+    (pid kind : ℕ) (setting packet buffer : List ℕ) → Meets pid kind setting → length packet ≡ headerLength → length buffer ≡ settingLength
+    → (writeRefused packet pid kind setting ≡ 0)
+    × ((readRefused (writeMemory packet pid kind setting) pid kind buffer ≡ 0)
+    × (readMemory (writeMemory packet pid kind setting) pid kind buffer ≡ setting))
