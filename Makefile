@@ -114,9 +114,10 @@ archive-test: setup
 	$(EMULATOR) target/board/board
 	cd compare && $(CROSS_CARGO) test --quiet -p board --tests
 
-# The header's constants, held to the program that is there.
+# The header's constants held to the program that is there; and what that prints held to the archive's calls, value by value.
 limits-test: setup
 	scripts/limits.sh $(EMULATOR) target/bin/limits
+	$(EMULATOR) target/bin/limits | (cd compare && $(CROSS_CARGO) run --quiet -p limits -- ../include/niranbok.h)
 
 # All of the board interface's.
 board-test: setup board
