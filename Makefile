@@ -108,10 +108,11 @@ archive:
 	@ar rcs $(ARCHIVE)/libniranbok.a $(ARCHIVE)/roots/*/*.o
 	@scripts/exports.sh $(ARCHIVE)/libniranbok.a
 
-# The example in C, and both implementations over the same inputs, with the archive that is there.
+# The examples in C, and both implementations over the same inputs, with the archive that is there.
 archive-test: setup
-	$(CROSS_CC) -std=c99 -Wall -Wextra -Werror -Iinclude examples/board.c target/board/libniranbok.a -o target/board/board
-	$(EMULATOR) target/board/board
+	for name in board bonding; do \
+	$(CROSS_CC) -std=c99 -Wall -Wextra -Werror -Iinclude examples/$$name.c target/board/libniranbok.a -o target/board/$$name && \
+	$(EMULATOR) target/board/$$name || exit 1; done
 	cd compare && $(CROSS_CARGO) test --quiet -p board --tests
 
 # The header's constants held to the program that is there; and what that prints held to the archive's calls, value by value.
