@@ -2,8 +2,8 @@
 # `make board` makes the archive for C; `make bench` measures, `make count` counts instructions; `make memory` runs the comparison under
 # valgrind; `make real` takes real streams through the tools; `make map` writes the map of the crates. What lacks is installed, and said;
 # `make setup` does that apart. Measuring and valgrind take an archive for the machine's own processor.
-.PHONY: tools names rust-test tools-test real run test board archive archive-test limits-test board-test native bench count memory vectors \
-	setup map map-test
+.PHONY: tools names rust-test tools-test lister-test real run test board archive archive-test limits-test board-test native bench count \
+	memory vectors setup map map-test
 SHELL = /bin/bash
 .SHELLFLAGS = -o pipefail -c
 
@@ -72,6 +72,10 @@ real: setup
 	@scripts/install.sh 'it makes the real streams' ffmpeg=ffmpeg
 	@$(MAKE) --no-print-directory tools
 	examples/real.sh target/tools/mux target/tools/demux
+
+# The lister as the scope document calls it: its example, without arguments.
+lister-test: setup
+	scripts/example.sh $(EMULATOR) target/bin/lister
 
 run: setup
 	@scripts/prove.sh lister
