@@ -2,8 +2,8 @@
 # `make board` makes the archive for C; `make bench` measures, `make count` counts instructions; `make memory` runs the comparison under
 # valgrind; `make real` takes real streams through the tools; `make map` writes the map of the crates. What lacks is installed, and said;
 # `make setup` does that apart. Measuring and valgrind take an archive for the machine's own processor.
-.PHONY: tools names rust-test tools-test real run test board archive archive-test limits-test board-test native bench count memory vectors \
-	setup map map-test
+.PHONY: tools names rust-test tools-test lister-test real run test board archive archive-test limits-test board-test native bench count \
+	memory vectors setup map map-test
 SHELL = /bin/bash
 .SHELLFLAGS = -o pipefail -c
 
@@ -73,6 +73,10 @@ real: setup
 	@$(MAKE) --no-print-directory tools
 	examples/real.sh target/tools/mux target/tools/demux
 
+# The lister as the scope document calls it: its example, without arguments.
+lister-test: setup
+	scripts/example.sh $(EMULATOR) target/bin/lister
+
 run: setup
 	@scripts/prove.sh lister
 	$(EMULATOR) target/bin/lister < samples/recording.ts
@@ -108,15 +112,17 @@ archive:
 	@ar rcs $(ARCHIVE)/libniranbok.a $(ARCHIVE)/roots/*/*.o
 	@scripts/exports.sh $(ARCHIVE)/libniranbok.a
 
-# The example in C, and both implementations over the same inputs, with the archive that is there.
+# The examples in C, and both implementations over the same inputs, with the archive that is there.
 archive-test: setup
-	$(CROSS_CC) -std=c99 -Wall -Wextra -Werror -Iinclude examples/board.c target/board/libniranbok.a -o target/board/board
-	$(EMULATOR) target/board/board
+	for name in board bonding; do \
+	$(CROSS_CC) -std=c99 -Wall -Wextra -Werror -Iinclude examples/$$name.c target/board/libniranbok.a -o target/board/$$name && \
+	$(EMULATOR) target/board/$$name || exit 1; done
 	cd compare && $(CROSS_CARGO) test --quiet -p board --tests
 
-# The header's constants, held to the program that is there.
+# The header's constants held to the program that is there; and what that prints held to the archive's calls, value by value.
 limits-test: setup
 	scripts/limits.sh $(EMULATOR) target/bin/limits
+	$(EMULATOR) target/bin/limits | (cd compare && $(CROSS_CARGO) run --quiet -p limits -- ../include/niranbok.h)
 
 # All of the board interface's.
 board-test: setup board

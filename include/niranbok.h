@@ -6,9 +6,13 @@
  * state is the caller's bytes.
  *
  * A pointer comes with its length in bytes. It points to that many bytes, also where a call will
- * refuse the length, and is not null, also where the length is 0. What one call is lent twice does
- * not overlap if the call writes to either. Pointers to one number (size_t *, uint8_t *event) point
- * to one.
+ * refuse the length, and is not null, also where the length is 0. Pointers to one number (size_t *,
+ * uint8_t *event) point to one. The things that one call is lent must not overlap: not a frame and the
+ * stream that is put into it, not a state and a store, and not a number that is written and a buffer.
+ *
+ * Calls may run at the same time in different threads, as long as what one of them writes is lent to no
+ * other: the library has no memory of its own, so there is nothing to lock and nothing to set up. Two
+ * threads that share a state, a frame, a store or a group have to take turns.
  *
  * Settings and states are bytes in the layouts below, numbers of 16 bits with the high byte first.
  * They may hold anything: what is out of range is refused. A saved state may be kept and given
@@ -61,9 +65,11 @@ extern "C" {
 #define NIRANBOK_FRAME_POSITION 251      /* 1 byte */
 
 /* The range of each field that a caller sets, as the program `limits` prints them, with the refusal that
- * any other value gets. Identifiers, private data, auxiliary information and the group id may be
- * anything. A carrier's sequence is at most the number of carriers, a frame's position at most the
- * number of frames. */
+ * any other value gets, in a header of a kind that has the field. Plain headers have private data, and
+ * extended ones have what is below that, from the auxiliary information to the frame's position. In a
+ * setting of the kind that does not have a field, it is 0, and anything else is a 17. Identifiers, private
+ * data, auxiliary information and the group id may be anything in their kind. A carrier's sequence is at
+ * most the number of carriers, a frame's position at most the number of frames. */
 #define NIRANBOK_HEADER_PID_FIRST 16 /* 2 */
 #define NIRANBOK_HEADER_PID_LAST 8190
 #define NIRANBOK_CONTINUITY_COUNTER_FIRST 0 /* 17; in begin the run's own counter is used */
@@ -88,9 +94,9 @@ extern "C" {
 #define NIRANBOK_EMERGENCY_INDICATOR_LAST 1
 #define NIRANBOK_RELATIVE_TS_NUMBER_FIRST 0 /* 17 */
 #define NIRANBOK_RELATIVE_TS_NUMBER_LAST 15
-#define NIRANBOK_PRIVATE_DATA_FIRST 0
+#define NIRANBOK_PRIVATE_DATA_FIRST 0 /* plain headers; else 0 */
 #define NIRANBOK_PRIVATE_DATA_LAST 255
-#define NIRANBOK_AUXILIARY_FIRST 0
+#define NIRANBOK_AUXILIARY_FIRST 0 /* extended headers, and so down to the frame's position; else 0 */
 #define NIRANBOK_AUXILIARY_LAST 255
 #define NIRANBOK_GROUP_ID_FIRST 0
 #define NIRANBOK_GROUP_ID_LAST 255
@@ -131,15 +137,18 @@ extern "C" {
 /* A composer's state, for who keeps one: header PID (2 bytes), kind, counter and version of the last
  * closed header (15 and 7 before the first), what that header announced (slot_allocation_type,
  * frame_type, 2 bytes of availability, 30 of TS_id, 30 of original_network_id, 15 of receive_status,
- * emergency_indicator), whether a frame is open (0 or 1), its setting (252 bytes), and for each of
- * slots 1 to 52 whether it is filled (0 or 1). A kind or a mark above 1 is a 17. While no frame is
- * open, the setting and the marks are not looked at beyond that, and calls leave zeros there.
+ * emergency_indicator), whether a frame is open (0 or 1), its setting (252 bytes, as begin was given
+ * it), and for each of slots 1 to 52 whether it is filled (0 or 1). A kind or a mark above 1 is a 17.
+ * While no frame is open, the setting and the marks are not looked at beyond that: they may be anything
+ * before a call, and start and close leave zeros there.
  *
  * A receiver's state: header PID (2 bytes), kind, stage (0 waiting, 1 a frame is open, 2 the frame
  * before the open one is ready), the open frame's counter (0 while waiting), how many packets of it
  * are stored (0 in stages 0 and 2), the 52 slots' numbers by its header (26 bytes, as the header has
  * them: slot 1 in the high half of the first byte, slot 2 in its low half), and by the header before
- * it (26 bytes). A kind above 1, a stage above 2, a counter above 15, more than 52 packets, or
+ * it (26 bytes). Only a good header changes the slots' numbers: it moves the first 26 bytes to the last
+ * and writes its own. When a frame is dropped and none opens, both stay as they were, though no frame
+ * has them any more. A kind above 1, a stage above 2, a counter above 15, more than 52 packets, or
  * anything but 0 where 0 is said is a 17. */
 
 /* What receiving a packet did. */
@@ -176,8 +185,9 @@ uint32_t niranbok_count_available(uint16_t availability);
 /* Writes a setting of zeros into the lent 252 bytes. Refuses 1. */
 uint8_t niranbok_setting_blank(uint8_t *setting, size_t setting_length);
 
-/* Whether every field of a setting fits its bits, as a header of this kind has them. Writes nothing.
- * Refuses 1, 17. */
+/* Whether every field of a setting fits its bits, as a header of this kind has them. Writes nothing. The
+ * number of carriers and of frames, the carrier's sequence and the frame's position of an extended setting
+ * are not asked here but by the rules, with 11. Refuses 1, 17. */
 uint8_t niranbok_setting_widths(const uint8_t *setting, size_t setting_length, uint8_t kind);
 
 /* Whether a setting obeys the rules of a header of this kind. Writes nothing. Refuses 1, 17 (the kind),
@@ -214,7 +224,9 @@ uint8_t niranbok_composer_put(uint8_t *state, size_t state_length, uint8_t *fram
                               size_t frame_length, const uint8_t *stream, size_t stream_length,
                               uint8_t r, size_t *placed);
 
-/* How many bytes of a stream are left behind so many placed packets: its last ones. */
+/* How many bytes of a stream are left behind so many placed packets: its last ones. The rest begins at
+ * stream + stream_length - rest, and goes to the stream's end. With 0 packets placed, as after a refusal, it
+ * is the whole stream; with all of them placed, or more than the stream has, it is 0 bytes. */
 size_t niranbok_composer_rest(const uint8_t *stream, size_t stream_length, size_t placed);
 
 /* Closes the open frame: writes its header into slot 0, and the new state. Refuses 1, 2, 17, 16, 8, 9,
@@ -226,7 +238,13 @@ uint8_t niranbok_composer_close(uint8_t *state, size_t state_length, uint8_t *fr
 uint8_t niranbok_receiver_start(uint8_t *state, size_t state_length, uint16_t pid, uint8_t kind);
 
 /* Takes one packet: writes the new state, what the packet did, and, where it was stored, its slot of
- * the store. Refuses 1, 2, 17. */
+ * the store. Refuses 1, 2, 17.
+ *
+ * A whole frame, as gathering needs it, is built by the caller: the store has the 52 slots and not the
+ * header. Keep a copy of the packet that opened the frame (the event is NIRANBOK_OPENED, NIRANBOK_READY,
+ * NIRANBOK_SHORT or NIRANBOK_JUMP). When a later packet makes the frame ready (NIRANBOK_READY), the kept
+ * packet and behind it the store's 9,776 bytes are the frame's 9,964. Copy them before the next packet is
+ * received, and then keep the packet that made it ready: it opened the next frame. */
 uint8_t niranbok_receiver_receive(uint8_t *state, size_t state_length, const uint8_t *packet,
                                   size_t packet_length, uint8_t *store, size_t store_length,
                                   uint8_t *event);
@@ -237,7 +255,8 @@ uint8_t niranbok_receiver_hand_out(const uint8_t *state, size_t state_length, co
                                    size_t store_length, uint8_t *out, size_t out_length, uint8_t r,
                                    size_t *packets);
 
-/* Reads the headers of a group, the super frames of carriers 1 to `carriers` one behind another: writes
+/* Reads the headers of a group, the super frames of carriers 1 to `carriers` one behind another, each of 3
+ * or 4 frames with extended headers (examples/bonding.c makes one, and one again from receivers): writes
  * whether one of them carries the stream as available (1, or 0), and how many bonded slots it has, which
  * is how many packets spread takes and gather gives. Refuses 1, 2, 17, 3 to 11, 14. */
 uint8_t niranbok_read_headers(const uint8_t *group, size_t group_length, uint8_t carriers,

@@ -37,7 +37,7 @@ await() {
 }
 
 # Runs one of the Makefile's tests, and leaves a word on how it ended.
-tests='map-test setup archive archive-test rust-test tools-test limits-test'
+tests='map-test setup archive archive-test rust-test lister-test tools-test limits-test'
 try() { # TEST [WORDS..]
     local began=$SECONDS how=passed
     echo "--- $1"
@@ -56,6 +56,7 @@ beside() { # CRATE...
     try setup 2>&1 | tee >(cat >&3) && await "${@/#/target/stamp/}" && try archive AT_ONCE=1 && try archive-test
     try rust-test
     if [ "$(cat "$logs/setup")" = passed ] && await target/must-fail; then
+        [ ! -e target/bin/lister ] || try lister-test
         [ ! -e target/bin/tools ] || try tools-test
         [ ! -e target/bin/limits ] || try limits-test
     fi

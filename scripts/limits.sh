@@ -11,7 +11,12 @@ trap 'rm -rf "$work"' EXIT
 awk -F '\t' '
     function same(name, n) { print "_Static_assert(NIRANBOK_" toupper(name) " == " n ", \"" name "\");" }
     BEGIN { print "#include \"niranbok.h\"" }
-    $1 == "field" && NF == 5 { same($2 "_FIRST", $3); same($2 "_LAST", $4); next }
+    function range(name, first, last) { same(name "_FIRST", first); same(name "_LAST", last) }
+    function absent(first, last) { return first == "-" || first == 0 && last == 0 }
+    # one range where the kinds agree or only one has the field, else one for each kind
+    $1 == "field" && NF == 10 && absent($3, $4) { range($2, $6, $7); next }
+    $1 == "field" && NF == 10 && (absent($6, $7) || $3 == $6 && $4 == $7) { range($2, $3, $4); next }
+    $1 == "field" && NF == 10 { range($2 "_PLAIN", $3, $4); range($2 "_EXTENDED", $6, $7); next }
     $1 == "refusal" && NF == 3 { same("REFUSED_" $3, $2); next }
     $1 == "length" && NF == 3 { same($2 "_BYTES", $3); next }
     $1 == "place" && NF == 4 { same($2, $3); next }

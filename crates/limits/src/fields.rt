@@ -1,111 +1,189 @@
-// The fields that a caller can set, each with its range.
+// The fields that a caller can set, each with what plain and what extended headers allow.
 use counters::FramePosition;
 use counters::RelativeNumber;
 use counters::Slot;
 use libc::STDOUT_FILENO;
 use setting::limits;
 
-fn print(name: &[u8], first: u64, last: u64, refusal: u64) {
+// The largest number that a field of one byte holds, and of two.
+const BYTE: u64 = 0xFF;
+
+const WORD: u64 = 0xFFFF;
+
+// What a kind of header allows, and the refusal of any other value (0: none is refused).
+struct Range {
+    first: u64,
+    last: u64,
+    refusal: u64,
+}
+
+// A kind that does not have the field has a 0 there.
+const ABSENT: Range = Range {
+    first: 0,
+    last: 0,
+    refusal: 17,
+};
+
+fn print_number(n: u64) {
+    io::write_all(STDOUT_FILENO, b"\t");
+    io::print_decimal(STDOUT_FILENO, n);
+}
+
+fn print_range(range: Range) {
+    print_number(range.first);
+    print_number(range.last);
+    print_number(range.refusal);
+}
+
+fn print_name(name: &[u8]) {
     io::write_all(STDOUT_FILENO, b"field\t");
     io::write_all(STDOUT_FILENO, name);
-    io::write_all(STDOUT_FILENO, b"\t");
-    io::print_decimal(STDOUT_FILENO, first);
-    io::write_all(STDOUT_FILENO, b"\t");
-    io::print_decimal(STDOUT_FILENO, last);
-    io::write_all(STDOUT_FILENO, b"\t");
-    io::print_decimal(STDOUT_FILENO, refusal);
+}
+
+// The refusals stand for values up to here; those above get another one (0: the field's bytes hold none above).
+fn print_end(up_to: u64, above: u64) {
+    print_number(up_to);
+    print_number(above);
     io::write_all(STDOUT_FILENO, b"\n");
 }
 
-// A field with so many values, from 0 on. Any other value is refused with 17.
-fn print_values(name: &[u8], values: u64) {
+fn print(name: &[u8], plain: Range, extended: Range, held: u64) {
+    print_name(name);
+    print_range(plain);
+    print_range(extended);
+    print_end(held, 0);
+}
+
+// A field that both kinds have, with the same range.
+fn print_both(name: &[u8], range: Range, held: u64) {
+    print(name, range, range, held);
+}
+
+// A field of so many values, from 0 on, of which any other is a 17.
+fn print_values(name: &[u8], values: u64, held: u64) {
     if 0 < values {
-        print(name, 0, values - 1, 17);
+        let range = Range {
+            first: 0,
+            last: values - 1,
+            refusal: 17,
+        };
+        print_both(name, range, held);
     }
 }
 
+// A field that may hold anything.
+fn any(held: u64) -> Range {
+    Range {
+        first: 0,
+        last: held,
+        refusal: 0,
+    }
+}
+
+// A frame_type that does not fit its bits is a 17 before it is an 8.
+fn print_frame_type() {
+    print_name(b"frame_type");
+    print_range(Range {
+        first: limits::FIRST_FRAME_TYPE as u64,
+        last: limits::FIRST_FRAME_TYPE as u64,
+        refusal: 8,
+    });
+    print_range(Range {
+        first: limits::FIRST_FRAME_TYPE as u64,
+        last: limits::LAST_FRAME_TYPE as u64,
+        refusal: 8,
+    });
+    print_end(limits::FRAME_TYPES as u64 - 1, 17);
+}
+
 pub(crate) fn print_header_fields() {
-    print(
-        b"header_pid",
-        limits::FIRST_PID as u64,
-        limits::LAST_PID as u64,
-        2,
-    );
-    print_values(b"continuity_counter", limits::COUNTERS as u64);
-    print_values(b"version_number", limits::VERSIONS as u64);
+    let pids = Range {
+        first: limits::FIRST_PID as u64,
+        last: limits::LAST_PID as u64,
+        refusal: 2,
+    };
+    print_both(b"header_pid", pids, WORD);
+    print_values(b"continuity_counter", limits::COUNTERS as u64, BYTE);
+    print_values(b"version_number", limits::VERSIONS as u64, BYTE);
     print_values(
         b"slot_allocation_type",
         limits::SLOT_ALLOCATION_TYPES as u64,
+        BYTE,
     );
-    print(
-        b"frame_type_plain",
-        limits::FIRST_FRAME_TYPE as u64,
-        limits::FIRST_FRAME_TYPE as u64,
-        8,
-    );
-    print(
-        b"frame_type_extended",
-        limits::FIRST_FRAME_TYPE as u64,
-        limits::LAST_FRAME_TYPE as u64,
-        8,
-    );
+    print_frame_type();
 }
 
 // What a header says of its streams and slots.
 pub(crate) fn print_stream_fields() {
-    print_values(b"availability", limits::AVAILABILITIES as u64);
-    print(b"ts_id", 0, 0xFFFF, 0);
-    print(b"original_network_id", 0, 0xFFFF, 0);
-    print_values(b"receive_status", limits::RECEIVE_STATUSES as u64);
-    print_values(b"emergency_indicator", limits::EMERGENCY_INDICATORS as u64);
-    print_values(b"relative_ts_number", limits::NUMBERS as u64);
+    print_values(b"availability", limits::AVAILABILITIES as u64, WORD);
+    print_both(b"ts_id", any(WORD), WORD);
+    print_both(b"original_network_id", any(WORD), WORD);
+    print_values(b"receive_status", limits::RECEIVE_STATUSES as u64, BYTE);
+    print_values(
+        b"emergency_indicator",
+        limits::EMERGENCY_INDICATORS as u64,
+        BYTE,
+    );
+    print_values(b"relative_ts_number", limits::NUMBERS as u64, BYTE);
 }
 
-// Private data, and the fields of an extended header. A carrier's sequence is at most the number of carriers, and a frame's position at
-// most the number of frames.
+// A bonding field of an extended header.
+fn print_bonding(name: &[u8], first: u64, last: u64) {
+    let range = Range {
+        first: first,
+        last: last,
+        refusal: 11,
+    };
+    print(name, ABSENT, range, BYTE);
+}
+
+// Private data, which plain headers alone have, and what extended ones alone have. A carrier's sequence is at most the number of
+// carriers, and a frame's position at most the number of frames.
 pub(crate) fn print_bonding_fields() {
-    print(b"private_data", 0, 0xFF, 0);
-    print(b"auxiliary", 0, 0xFF, 0);
-    print(b"group_id", 0, 0xFF, 0);
-    print(
-        b"number_of_carriers",
-        limits::FIRST_CARRIER as u64,
-        limits::LAST_CARRIER as u64,
-        11,
-    );
-    print(
-        b"carrier_sequence",
-        limits::FIRST_CARRIER as u64,
-        limits::LAST_CARRIER as u64,
-        11,
-    );
-    print(
+    print(b"private_data", any(BYTE), ABSENT, BYTE);
+    print(b"auxiliary", ABSENT, any(BYTE), BYTE);
+    print(b"group_id", ABSENT, any(BYTE), BYTE);
+    let first_carrier = limits::FIRST_CARRIER as u64;
+    let last_carrier = limits::LAST_CARRIER as u64;
+    print_bonding(b"number_of_carriers", first_carrier, last_carrier);
+    print_bonding(b"carrier_sequence", first_carrier, last_carrier);
+    print_bonding(
         b"number_of_frames",
         limits::FEWEST_FRAMES as u64,
         limits::MOST_FRAMES as u64,
-        11,
     );
-    print(
+    print_bonding(
         b"frame_position",
         FramePosition::FIRST as u64,
         FramePosition::LAST as u64,
-        11,
     );
 }
 
-// The numbers that calls take: a slot of a plan, a stream, the carriers of a group.
+// A number that calls take.
+fn print_taken(name: &[u8], first: u64, last: u64) {
+    let range = Range {
+        first: first,
+        last: last,
+        refusal: 17,
+    };
+    print_both(name, range, BYTE);
+}
+
+// The numbers that calls take: a slot of a plan, a stream, the carriers of a group. A group has extended headers alone, so of plain ones
+// the last says nothing.
 pub(crate) fn print_numbers() {
-    print(b"slot", Slot::FIRST as u64, Slot::LAST as u64, 17);
-    print(
+    print_taken(b"slot", Slot::FIRST as u64, Slot::LAST as u64);
+    print_taken(
         b"stream",
         RelativeNumber::FIRST as u64,
         RelativeNumber::LAST as u64,
-        17,
     );
-    print(
-        b"carriers",
-        limits::FIRST_CARRIER as u64,
-        limits::LAST_CARRIER as u64,
-        17,
-    );
+    print_name(b"carriers");
+    io::write_all(STDOUT_FILENO, b"\t-\t-\t-");
+    print_range(Range {
+        first: limits::FIRST_CARRIER as u64,
+        last: limits::LAST_CARRIER as u64,
+        refusal: 17,
+    });
+    print_end(BYTE, 0);
 }

@@ -1,5 +1,7 @@
 // Prints what a menu has to know, from the constants that the calls check against, as text with tabs between the fields of a line:
-//   field: its name, its first and last value, and the refusal of any other value (0: none is refused);
+//   field: its name; in plain headers its first and its last value, and the refusal of any other (0: none is refused); the same three for
+//     extended headers (a field that a kind does not have is 0 to 0; - where no call of that kind has it); the value up to which these
+//     refusals hold, and the refusal above it (0: the field's bytes hold nothing above);
 //   refusal: its number and its name, in the order in which a call checks;
 //   length: of what, and how many bytes;
 //   place: of which field in a setting's bytes, where it starts, and how many bytes it has.
