@@ -8,9 +8,8 @@ use lib.ListN.{length, take, drop, length-append, length-drop, take-append-drop}
 use lib.Seq.{length-take-le, drop-at, drop-drop}
 use Rattle.setting.specs.declared.Kind.{Kind}
 use Rattle.counters.specs.Counters.{lastSlot}
-use Rattle.header_read.specs.Reader.{readOf}
 use Rattle.packet.specs.Packets.{packetLength, frameLength, slot, unfit}
-use Rattle.runs.proofs.Vouched.{GoodFrame}
+use Rattle.runs.proofs.Vouched.{GoodHeader, GoodFrame}
 use Rattle.runs.proofs.Lost.{slot-behind, Counted, and-then}
 use Rattle.bond_places.specs.Order.{framePackets}
 use Rattle.bond.proofs.Placed.{slot-front}
@@ -61,12 +60,7 @@ module _ (kind : Kind) (pid : ℕ) where
     first-good : GoodFrame kind pid n (take frameLength h)
     first-good =
         record {
-          setting = good .setting;
-          read = ap (readOf kind pid) (slot-now 0 (omega arith) ∙ a .header 0 ∙ slot-then 0 (omega arith)) ∙ good .read;
-          counter = good .counter;
-          small = good .small;
-          numbers-fit = good .numbers-fit;
-          numbers-long = good .numbers-long;
+          header = subst (GoodHeader kind pid n) (sym (slot-now 0 (omega arith) ∙ a .header 0 ∙ slot-then 0 (omega arith))) (good .header);
           long = first-long;
           fit = first-fit;
         }
@@ -88,19 +82,20 @@ module _ (kind : Kind) (pid : ℕ) where
 
   -- ---- the frames of one carrier, and what stands behind them
 
-  pub record Cut (n : ℕ) (fs : List (List ℕ)) (next rest h : List ℕ) : Type 0 where
-    pub counts : Counted kind pid n (framesFrom (length fs) h ++ (next ∷ []))
+  pub record Cut (n : ℕ) (fs tail : List (List ℕ)) (rest h : List ℕ) : Type 0 where
+    pub counts : Counted kind pid n (framesFrom (length fs) h ++ tail)
     pub behind : Alike pid rest (drop (frameLength * length fs) h)
 
-  pub cut-frames : (n : ℕ) (fs : List (List ℕ)) (next rest g h : List ℕ) → Counted kind pid n (fs ++ (next ∷ []))
-      → g ≡ flatten fs ++ rest → Alike pid g h → Cut n fs next rest h
+  -- other frames may stand behind them then, where those count on as well
+  pub cut-frames : (n : ℕ) (fs old new : List (List ℕ)) (rest g h : List ℕ) → Counted kind pid n (fs ++ old)
+      → ((m : ℕ) → Counted kind pid m old → Counted kind pid m new) → g ≡ flatten fs ++ rest → Alike pid g h → Cut n fs new rest h
   unfolding framesFrom flatten
-  cut-frames n [] next rest g h c e a = record { counts = c; behind = subst (λ (x : List ℕ). Alike pid x h) e a }
-  cut-frames n (f ∷ fs) next rest g h (and-then good c) e a =
+  cut-frames n [] old new rest g h c on e a = record { counts = on n c; behind = subst (λ (x : List ℕ). Alike pid x h) e a }
+  cut-frames n (f ∷ fs) old new rest g h (and-then good c) on e a =
       let first : g ≡ f ++ (flatten fs ++ rest) = e ∙ append-assoc f (flatten fs) rest in
       let later : drop frameLength g ≡ flatten fs ++ rest =
       ap (drop frameLength) first ∙ drop-at f (flatten fs ++ rest) frameLength (good .long) in
-      let ih = cut-frames _ fs next rest (drop frameLength g) (drop frameLength h) c later (later-alike g h a) in
+      let ih = cut-frames _ fs old new rest (drop frameLength g) (drop frameLength h) c on later (later-alike g h a) in
       let at : frameLength + frameLength * length fs ≡ frameLength * suc (length fs) = omega arith in
       record {
         counts = and-then (first-good n f (flatten fs ++ rest) g h good first a) (ih .counts);

@@ -1,26 +1,32 @@
 -- Demand 2 over bonded carriers, from the composers to the gathered stream, proved. Assumes nothing.
 use Prim.Native.Nat.{ℕ, zero, suc, _+_, _*_, _≤_, _<_}
-use mathlib.Core.Path.{_≡_, refl, sym, ap, ap₂, _∙_}
+use mathlib.Core.Path.{_≡_, refl, sym, ap, ap₂, subst, _∙_}
 use mathlib.Core.Bool.{Bool, true, false}
-use mathlib.Core.List.{List, [], _∷_, _++_, map, flatten, append-assoc}
+use mathlib.Core.List.{List, [], _∷_, _++_, map, flatten, append-nil, append-assoc}
 use native.Mathlib.Omega.{arith}
 use lib.ListN.{length, getD, take, drop, take-append-drop}
-use lib.Seq.{drop-drop}
+use lib.Seq.{drop-drop, drop-at, take-at}
 use Rattle.setting.specs.declared.Kind.{Kind}
 use Rattle.setting.specs.Rules.{pidAllowed}
 use Rattle.slices.specs.Slices.{Among, here, there}
 use Rattle.packet.specs.Packets.{packetLength, frameLength, slot, unfit}
 use Rattle.receiver.specs.Store.{storeLength}
 use Rattle.runs.specs.Runs.{Each, none, more}
-use Rattle.runs.proofs.Demands.{From, stretch}
+use Rattle.runs.specs.Losses.{arriving}
+use Rattle.runs.specs.Firmware.{tunedTo}
+use Rattle.runs.specs.Demands.{whole, headerAlone}
+use Rattle.runs.proofs.Lost.{Counted}
+use Rattle.runs.proofs.Values.{From, counted-front, counted-rest}
+use Rattle.runs.proofs.Demands.{run-stretch, tuned-fresh}
+use Rattle.setting_bytes.specs.Kinds.{kindOf}
 use Rattle.bond_group.specs.declared.Bond.{Bond}
 use Rattle.bond_group.specs.Group.{packetsIn, bonded, order}
 use Rattle.bond.specs.Bonding.{spreadGroup, gatherOf, gatherBuffer}
 use Rattle.bond.specs.Demands.{WellFormed, Fitting}
 use Rattle.bond_group.proofs.Passing.{Called, called}
 use Rattle.bond.proofs.Demands.{comes-back, in-this-order, nothing-else, order-holds}
-use Rattle.bonded.specs.Carriers.{Carrier, Composed, groupOf, framesFrom, sentBy, receivedFrom}
-use Rattle.bonded.specs.Demands.{groupAgain, BackFromItsCarriers}
+use Rattle.bonded.specs.Carriers.{extended, Carrier, superAt, groupAt, framesFrom, framesOver, sentBy, framesKept, received, cutAt, groupAgain}
+use Rattle.bonded.specs.Demands.{spreadAt, broughtAt, BackFromItsCarriers}
 use Rattle.bonded.proofs.Kept.{fresh-kept}
 use Rattle.bonded.proofs.Alike.{Alike, cut-frames}
 
@@ -74,31 +80,95 @@ frames-flat (suc n) bytes =
     (ap (λ (k : ℕ). drop k bytes) e ∙ sym (drop-drop (frameLength * n) frameLength bytes))
     ∙ ap (λ (x : List ℕ). take frameLength bytes ++ x) (frames-flat n (drop frameLength bytes)) ∙ take-append-drop frameLength bytes
 
-module _ (pid : ℕ) (store : List ℕ) (allowed : pidAllowed pid ≡ true) (long : length store ≡ storeLength) where
-  -- a super frame and the frame behind it are a stretch of the carrier's run
-  run-of : (c : Carrier) → Composed pid c → From Kind.Extended pid (c .super ++ (c .next ∷ []))
-  run-of c k =
-      stretch Kind.Extended pid (c .calls) allowed (k .typed) (c .earlier) (c .super ++ (c .next ∷ [])) (c .later)
-      (k .closed ∙ ap (λ (x : List (List ℕ)). c .earlier ++ x) (sym (append-assoc (c .super) (c .next ∷ []) (c .later))))
+-- as many as were asked for
+length-frames : (n : ℕ) (bytes : List ℕ) → length (framesFrom n bytes) ≡ n
+unfolding framesFrom
+length-frames zero bytes = refl
+length-frames (suc n) bytes = ap suc (length-frames n (drop frameLength bytes))
 
-  all-back : (carriers : List Carrier) (h : List ℕ) → Each (Composed pid) carriers → Alike pid (groupOf carriers) h
-      → flatten (map (receivedFrom pid store) (sentBy carriers h)) ≡ h
-  unfolding groupOf sentBy receivedFrom flatten
-  all-back [] [] none a = refl
-  all-back [] (x ∷ h) none a = absurd (omega (arith, a .long))
-  all-back (c ∷ cs) h (more k ks) a =
-      let r = run-of c k in
-      let cut = cut-frames Kind.Extended pid (r .n) (c .super) (c .next) (groupOf cs) (groupOf (c ∷ cs)) h (r .counts) refl a in
+-- super frame k of the frames that were sent is what was sent of group k
+cut-over : (supers : List (List (List ℕ))) (bytes : ℕ → List ℕ) (k : ℕ) → k < length supers
+    → cutAt supers k (framesOver supers bytes) ≡ framesFrom (length (getD supers k [])) (bytes k)
+unfolding cutAt framesOver
+cut-over [] bytes k h = absurd (omega arith)
+cut-over (s ∷ ss) bytes zero h = take-at (framesFrom (length s) (bytes 0)) (framesOver ss (λ k. bytes (suc k))) (length s) (length-frames (length s) (bytes 0))
+cut-over (s ∷ ss) bytes (suc k) h =
+    ap (cutAt ss k) (drop-at (framesFrom (length s) (bytes 0)) (framesOver ss (λ k. bytes (suc k))) (length s) (length-frames (length s) (bytes 0)))
+    ∙ cut-over ss (λ k. bytes (suc k)) k (omega arith)
+
+module _ (kind : Kind) (pid : ℕ) where
+  -- super frame k is a stretch of a run's frames
+  counted-at : (n : ℕ) (supers : List (List (List ℕ))) (tail : List (List ℕ)) (k : ℕ) → k < length supers → Counted kind pid n (flatten supers ++ tail)
+      → From kind pid (getD supers k [])
+  unfolding flatten
+  counted-at n [] tail k h c = absurd (omega arith)
+  counted-at n (s ∷ ss) tail zero h c =
+      record { n = n; counts = counted-front s (flatten ss ++ tail) (subst (Counted kind pid n) (append-assoc s (flatten ss) tail) c) }
+  counted-at n (s ∷ ss) tail (suc k) h c =
+      let r = counted-rest s (subst (Counted kind pid n) (append-assoc s (flatten ss) tail) c) in
+      counted-at (r .n) ss tail k (omega arith) (r .counts)
+
+  -- with good packets written over slots they count on
+  counted-over : (n : ℕ) (supers : List (List (List ℕ))) (tail : List (List ℕ)) (bytes rest : ℕ → List ℕ) → Counted kind pid n (flatten supers ++ tail)
+      → ((k : ℕ) → k < length supers → Alike pid (flatten (getD supers k []) ++ rest k) (bytes k)) → Counted kind pid n (framesOver supers bytes ++ tail)
+  unfolding flatten framesOver
+  counted-over n [] tail bytes rest c a = c
+  counted-over n (s ∷ ss) tail bytes rest c a =
+      let later : (m : ℕ) → Counted kind pid m (flatten ss ++ tail) → Counted kind pid m (framesOver ss (λ k. bytes (suc k)) ++ tail) = λ m d.
+      counted-over m ss tail (λ k. bytes (suc k)) (λ k. rest (suc k)) d (λ k h. a (suc k) (omega arith)) in
+      subst (Counted kind pid n) (sym (append-assoc (framesFrom (length s) (bytes 0)) (framesOver ss (λ k. bytes (suc k))) tail))
+      (cut-frames kind pid n s (flatten ss ++ tail) (framesOver ss (λ k. bytes (suc k)) ++ tail) (rest 0) (flatten s ++ rest 0) (bytes 0)
+      (subst (Counted kind pid n) (append-assoc s (flatten ss) tail) c) later refl (a 0 (omega arith)) .counts)
+
+module _ (pid rounds : ℕ) where
+  abbrev kind : Kind
+  kind = kindOf extended
+
+  -- the super frames of a carrier and the frame behind them are a stretch of its run
+  run-of : (c : Carrier pid) → From kind pid (flatten (c .supers) ++ (c .next ∷ []))
+  run-of c =
+      run-stretch pid extended (c .run) (c .earlier) (flatten (c .supers) ++ (c .next ∷ [])) (c .later)
+      (c .closed ∙ ap (λ (x : List (List ℕ)). c .earlier ++ x) (sym (append-assoc (flatten (c .supers)) (c .next ∷ []) (c .later))))
+
+  module _ (c : Carrier pid) (cs : List (Carrier pid)) (bytes : ℕ → List ℕ) (long : length (c .supers) ≡ rounds)
+      (a : (k : ℕ) → k < rounds → Alike pid (flatten (superAt c k) ++ groupAt k cs) (bytes k)) where
+    -- its receiver brings what it sent
+    brought : framesKept [] (tunedTo (c .state) pid extended (c .store)) (arriving (map whole (framesOver (c .supers) bytes) ++ (headerAlone (c .next) ∷ [])))
+        ≡ framesOver (c .supers) bytes
+    brought =
+        let r = run-of c in
+        fresh-kept kind pid (r .n) (tunedTo (c .state) pid extended (c .store)) (c .store) (tuned-fresh (c .state) pid extended (c .store) (c .accepted) (c .store-long))
+        (framesOver (c .supers) bytes) (c .next)
+        (counted-over kind pid (r .n) (c .supers) (c .next ∷ []) bytes (λ k. groupAt k cs) (r .counts) (λ k h. a k (omega (arith, h, long))))
+
+    -- and behind its part of a group stand the others'
+    behind : (k : ℕ) → k < rounds → Alike pid (groupAt k cs) (drop (frameLength * length (superAt c k)) (bytes k))
+    behind k h =
+        let r = run-of c in
+        let f = counted-at kind pid (r .n) (c .supers) (c .next ∷ []) k (omega (arith, h, long)) (r .counts) in
+        cut-frames kind pid (f .n) (superAt c k) [] [] (groupAt k cs) (flatten (superAt c k) ++ groupAt k cs) (bytes k)
+        (subst (Counted kind pid (f .n)) (sym (append-nil (superAt c k))) (f .counts)) (λ m d. d) refl (a k h) .behind
+
+  all-back : (carriers : List (Carrier pid)) (bytes : ℕ → List ℕ) → Each (λ c. length (c .supers) ≡ rounds) carriers
+      → ((k : ℕ) → k < rounds → Alike pid (groupAt k carriers) (bytes k))
+      → (k : ℕ) → k < rounds → groupAgain k carriers (received carriers (sentBy carriers bytes)) ≡ bytes k
+  unfolding groupAt sentBy received groupAgain
+  all-back [] bytes none a k h = sym (empty (bytes k) (a k h .long))
+    where
+      empty : (l : List ℕ) → length l ≡ 0 → l ≡ []
+      empty [] e = refl
+      empty (x ∷ l) e = absurd (omega arith)
+  all-back (c ∷ cs) bytes (more l ls) a k h =
       ap₂ (λ (x y : List ℕ). x ++ y)
-      (ap flatten (fresh-kept Kind.Extended pid (r .n) store (framesFrom (length (c .super)) h) (c .next) allowed long (cut .counts)))
-      (all-back cs (drop (frameLength * length (c .super)) h) ks (cut .behind))
-      ∙ frames-flat (length (c .super)) h
+      (ap flatten (ap (cutAt (c .supers) k) (brought c cs bytes l a) ∙ cut-over (c .supers) bytes k (omega (arith, h, l))))
+      (all-back cs (λ j. drop (frameLength * length (superAt c j)) (bytes j)) ls (behind c cs bytes l a) k h)
+      ∙ frames-flat (length (superAt c k)) (bytes k)
 
 pub back-from-its-carriers : BackFromItsCarriers
-back-from-its-carriers b carriers stream store out composed w s long room =
-    let group = groupOf carriers in
-    let back : groupAgain b carriers stream store ≡ spreadGroup b group stream =
-    all-back (b .pid) store (call b group stream w s .pid) long carriers (spreadGroup b group stream) composed
-    (spread-alike b group stream w s) in
-    let come = comes-back b group stream out w s room in
+back-from-its-carriers b carriers rounds streams m k h out room =
+    let group = groupAt k carriers in
+    let back : broughtAt b carriers streams k ≡ spreadAt b carriers streams k =
+    all-back (b .pid) rounds carriers (spreadAt b carriers streams) (m .each-carrier)
+    (λ j q. spread-alike b (groupAt j carriers) (streams j) (m .well-formed j q) (m .fitting j q)) k h in
+    let come = comes-back b group (streams k) out (m .well-formed k h) (m .fitting k h) room in
     (ap (λ (g : List ℕ). gatherOf b g (length out)) back ∙ come .1, ap (λ (g : List ℕ). gatherBuffer b g out) back ∙ come .2)

@@ -24,17 +24,41 @@ use Rattle.runs.specs.Demands.{whole, headerAlone}
 use Rattle.runs.proofs.Table.{Opens, Set, event-is, row-opens, bad-row, bad-set, stored-stage, Plain, joined, afterAll, StoredAll, stored-all}
 use Rattle.runs.proofs.Vouched.{GoodFrame, good-event, good-set, good-store, good-opens, step-one, vouched-row}
 use Rattle.runs.proofs.Lost.{arrive-plain, arrive-entire, Counted, no-more, and-then}
-use Rattle.runs.proofs.Demands.{waiting-set, waiting-stage}
+use Rattle.runs.proofs.Values.{waiting-set, waiting-stage}
+use Rattle.runs.proofs.Tuned.{Tuned, tuned-heard, codable, says-ready}
+use Rattle.receiver.proofs.OnBytes.{calls-on-bytes}
+use Rattle.receiver.specs.Bytes.{eventNumber}
+use Rattle.receiver.specs.Calls.{receiveEvent}
+use Rattle.runs.specs.Firmware.{Demultiplexer, heard, saysReady}
 use Rattle.bonded.specs.Carriers.{opensFrame, framesKept}
 
--- what framesKept does with a packet, by its event
+-- ---- over a receiver's state as a value
+
+-- whether a packet opened a frame
+abbrev opensBy : Event → Bool
+opensBy Event.Nothing = false
+opensBy Event.Opened = true
+opensBy Event.Stored = false
+opensBy Event.Ready = true
+opensBy Event.Short = true
+opensBy Event.Jump = true
+opensBy Event.Long = false
+opensBy Event.Broken = false
+
+unfoldable framesHeld : List ℕ → Reception → List (List ℕ) → List (List ℕ)
+framesHeld held w [] = []
+framesHeld held w (p ∷ ps) =
+    cond (makesReady (receiveOf (w .state) p (length (w .store)) .event)) ((held ++ afterPacket w p .store) ∷ []) []
+    ++ framesHeld (cond (opensBy (receiveOf (w .state) p (length (w .store)) .event)) p held) (afterPacket w p) ps
+
+-- what it does with a packet, by its event
 abbrev keptBy : Event → List ℕ → Reception → List ℕ → List (List ℕ) → List (List ℕ)
 keptBy e held w p ps =
-    cond (makesReady e) ((held ++ afterPacket w p .store) ∷ []) [] ++ framesKept (cond (opensFrame e) p held) (afterPacket w p) ps
+    cond (makesReady e) ((held ++ afterPacket w p .store) ∷ []) [] ++ framesHeld (cond (opensBy e) p held) (afterPacket w p) ps
 
 kept-by : (e : Event) (held : List ℕ) (w : Reception) (p : List ℕ) (ps : List (List ℕ))
-    → receiveOf (w .state) p (length (w .store)) .event ≡ e → framesKept held w (p ∷ ps) ≡ keptBy e held w p ps
-unfolding framesKept
+    → receiveOf (w .state) p (length (w .store)) .event ≡ e → framesHeld held w (p ∷ ps) ≡ keptBy e held w p ps
+unfolding framesHeld
 kept-by e held w p ps q = ap (λ (x : Event). keptBy x held w p ps) q
 
 module _ (kind : Kind) (pid : ℕ) where
@@ -51,7 +75,7 @@ module _ (kind : Kind) (pid : ℕ) where
 
   -- they make no frame ready and open none
   stored-kept : (held : List ℕ) (from k : ℕ) (w : Reception) (ps later : List (List ℕ)) → Set kind pid w → Opens (w .state .stage) from k
-      → k + length ps ≤ lastSlot → Each (Plain pid) ps → framesKept held w (ps ++ later) ≡ framesKept held (afterAll w ps) later
+      → k + length ps ≤ lastSlot → Each (Plain pid) ps → framesHeld held w (ps ++ later) ≡ framesHeld held (afterAll w ps) later
   unfolding afterAll
   stored-kept held from k w [] later s o h none = refl
   stored-kept held from k w (p ∷ ps) later s o h (more (l, u) fit) =
@@ -71,16 +95,16 @@ module _ (kind : Kind) (pid : ℕ) where
         → Brings n held w (f ∷ [])
 
   header-kept : (n : ℕ) (held f : List ℕ) (w : Reception) (owed ps : List (List ℕ)) → Set kind pid w → GoodFrame kind pid n f
-      → Brings n held w owed → framesKept held w (slot 0 f ∷ ps) ≡ owed ++ framesKept (slot 0 f) (afterPacket w (slot 0 f)) ps
+      → Brings n held w owed → framesHeld held w (slot 0 f ∷ ps) ≡ owed ++ framesHeld (slot 0 f) (afterPacket w (slot 0 f)) ps
   unfolding rowOf
   header-kept n held f w owed ps s g (nothing e) =
-      kept-by Event.Opened held w (slot 0 f) ps (good-event kind pid n f w s g ∙ ap (λ (x : Stage). rowOf x good n .event) e)
+      kept-by Event.Opened held w (slot 0 f) ps (good-event kind pid n (slot 0 f) w s (g .header) ∙ ap (λ (x : Stage). rowOf x good n .event) e)
   header-kept n held f w owed ps s g (frame x from o h c e) =
       let step : (from + 0 + 1) % 16 ≡ n = omega (arith, c) in
       let v = row-opens good n o ∙ vouched-row from lastSlot n (step-one from 0 n h (omega arith) step) in
-      kept-by Event.Ready held w (slot 0 f) ps (good-event kind pid n f w s g ∙ ap (λ (r : Row). r .event) v)
-      ∙ ap (λ (y : List ℕ). y ∷ framesKept (slot 0 f) (afterPacket w (slot 0 f)) ps)
-      (ap (λ (y : List ℕ). held ++ y) (good-store kind pid n f w s g) ∙ e)
+      kept-by Event.Ready held w (slot 0 f) ps (good-event kind pid n (slot 0 f) w s (g .header) ∙ ap (λ (r : Row). r .event) v)
+      ∙ ap (λ (y : List ℕ). y ∷ framesHeld (slot 0 f) (afterPacket w (slot 0 f)) ps)
+      (ap (λ (y : List ℕ). held ++ y) (good-store kind pid n (slot 0 f) w s (g .header)) ∙ e)
 
   -- ---- a frame that arrives whole
 
@@ -108,12 +132,12 @@ module _ (kind : Kind) (pid : ℕ) where
 
     all-stored : StoredAll kind pid 0 [] n 0 opened packets [] (opened .store)
     all-stored =
-        stored-all kind pid 0 [] n 0 opened packets [] (opened .store) (good-set kind pid n f w s g)
-        (good-opens kind pid n f w s g) few plain refl refl
+        stored-all kind pid 0 [] n 0 opened packets [] (opened .store) (good-set kind pid n (slot 0 f) w s (g .header))
+        (good-opens kind pid n (slot 0 f) w s (g .header)) few plain refl refl
 
     store-then : afterAll opened packets .store ≡ drop packetLength f
     store-then =
-        let long : length (opened .store) ≡ storeLength = good-set kind pid n f w s g .store-long in
+        let long : length (opened .store) ≡ storeLength = good-set kind pid n (slot 0 f) w s (g .header) .store-long in
         let all : length (opened .store) ≤ packetLength * (0 + length packets) = omega (arith, long, count) in
         all-stored .store-then
         ∙ ap₂ (λ (x y : List ℕ). x ++ y) (entire-then .1) (drop-of-length-le (opened .store) all) ∙ append-nil (drop packetLength f)
@@ -122,15 +146,15 @@ module _ (kind : Kind) (pid : ℕ) where
     brings-then : Brings ((n + 1) % 16) (slot 0 f) (afterAll opened packets) (f ∷ [])
     unfolding slot
     brings-then =
-        frame f n (subst (Opens (afterAll opened packets .state .stage) n) count (all-stored .stage-then)) (g .small) refl
+        frame f n (subst (Opens (afterAll opened packets .state .stage) n) count (all-stored .stage-then)) (g .header .small) refl
         (ap (λ (x : List ℕ). take packetLength f ++ x) store-then ∙ take-append-drop packetLength f)
 
     frame-kept : (held : List ℕ) (owed later : List (List ℕ)) → Brings n held w owed
-        → framesKept held w (slot 0 f ∷ (packets ++ later)) ≡ owed ++ framesKept (slot 0 f) (afterAll opened packets) later
+        → framesHeld held w (slot 0 f ∷ (packets ++ later)) ≡ owed ++ framesHeld (slot 0 f) (afterAll opened packets) later
     frame-kept held owed later b =
         header-kept n held f w owed (packets ++ later) s g b
         ∙ ap (λ (x : List (List ℕ)). owed ++ x)
-        (stored-kept (slot 0 f) n 0 opened packets later (good-set kind pid n f w s g) (good-opens kind pid n f w s g) few plain)
+        (stored-kept (slot 0 f) n 0 opened packets later (good-set kind pid n (slot 0 f) w s (g .header)) (good-opens kind pid n (slot 0 f) w s (g .header)) few plain)
 
   -- ---- all frames, and the next header behind them
 
@@ -140,10 +164,10 @@ module _ (kind : Kind) (pid : ℕ) where
   none-arrive (suc n) bytes = none-arrive n (drop packetLength bytes)
 
   all-kept : (n : ℕ) (held : List ℕ) (w : Reception) (owed fs : List (List ℕ)) (next : List ℕ) → Set kind pid w → Brings n held w owed
-      → Counted kind pid n (fs ++ (next ∷ [])) → framesKept held w (arriving (map whole fs ++ (headerAlone next ∷ []))) ≡ owed ++ fs
-  unfolding arriving headerArrives framesKept
+      → Counted kind pid n (fs ++ (next ∷ [])) → framesHeld held w (arriving (map whole fs ++ (headerAlone next ∷ []))) ≡ owed ++ fs
+  unfolding arriving headerArrives framesHeld
   all-kept n held w owed [] next s b (and-then g no-more) =
-      ap (λ (ps : List (List ℕ)). framesKept held w (slot 0 next ∷ (ps ++ []))) (none-arrive lastSlot (drop packetLength next))
+      ap (λ (ps : List (List ℕ)). framesHeld held w (slot 0 next ∷ (ps ++ []))) (none-arrive lastSlot (drop packetLength next))
       ∙ header-kept n held next w owed [] s g b
   all-kept n held w owed (f ∷ fs) next s b (and-then g c) =
       frame-kept n f w s g held owed (arriving (map whole fs ++ (headerAlone next ∷ []))) b
@@ -151,9 +175,38 @@ module _ (kind : Kind) (pid : ℕ) where
       (all-kept ((n + 1) % 16) (slot 0 f) (afterAll (opened n f w s g) (packets n f w s g)) (f ∷ []) fs next
       (all-stored n f w s g .set-then) (brings-then n f w s g) c)
 
+-- ---- over a receiver's bytes
+
+opens-number : (e : Event) → opensFrame (eventNumber e) ≡ opensBy e
+unfolding eventNumber
+opens-number Event.Nothing = refl
+opens-number Event.Opened = refl
+opens-number Event.Stored = refl
+opens-number Event.Ready = refl
+opens-number Event.Short = refl
+opens-number Event.Jump = refl
+opens-number Event.Long = refl
+opens-number Event.Broken = refl
+
+module _ (kind : Kind) (pid : ℕ) where
+  kept-alike : (held : List ℕ) (b : Demultiplexer) (w : Reception) → Tuned kind pid b w → (ps : List (List ℕ)) → framesKept held b ps ≡ framesHeld held w ps
+  unfolding framesKept framesHeld
+  kept-alike held b w t [] = refl
+  kept-alike held b w t (p ∷ ps) =
+      let next = tuned-heard kind pid b w t p in
+      let on = calls-on-bytes (w .state) (codable kind pid w (t .set)) .0 .receives p (w .store) in
+      let event : receiveEvent (b .state) p (b .store) ≡ eventNumber (receiveOf (w .state) p (length (w .store)) .event) =
+      ap₂ (λ (x y : List ℕ). receiveEvent x p y) (t .state-is) (t .store-is) ∙ on .1 .0 in
+      let opens : opensFrame (receiveEvent (b .state) p (b .store)) ≡ opensBy (receiveOf (w .state) p (length (w .store)) .event) =
+      ap opensFrame event ∙ opens-number (receiveOf (w .state) p (length (w .store)) .event) in
+      ap₂ (λ (x y : List (List ℕ)). x ++ y)
+      (ap₂ (λ (c : Bool) (l : List ℕ). cond c ((held ++ l) ∷ []) []) (says-ready kind pid b w t p) (next .store-is))
+      (ap (λ (c : Bool). framesKept (cond c p held) (heard b p) ps) opens
+      ∙ kept-alike (cond (opensBy (receiveOf (w .state) p (length (w .store)) .event)) p held) (heard b p) (afterPacket w p) next ps)
+
   -- a fresh receiver brings them all
-  pub fresh-kept : (n : ℕ) (store : List ℕ) (fs : List (List ℕ)) (next : List ℕ) → pidAllowed pid ≡ true → length store ≡ storeLength
-      → Counted kind pid n (fs ++ (next ∷ []))
-      → framesKept [] (freshWith kind pid store) (arriving (map whole fs ++ (headerAlone next ∷ []))) ≡ fs
-  fresh-kept n store fs next e l c =
-      all-kept n [] _ [] fs next (waiting-set kind pid store e l) (nothing (waiting-stage kind pid)) c
+  pub fresh-kept : (n : ℕ) (b : Demultiplexer) (store : List ℕ) → Tuned kind pid b (freshWith kind pid store) → (fs : List (List ℕ)) (next : List ℕ)
+      → Counted kind pid n (fs ++ (next ∷ [])) → framesKept [] b (arriving (map whole fs ++ (headerAlone next ∷ []))) ≡ fs
+  fresh-kept n b store t fs next c =
+      kept-alike [] b (freshWith kind pid store) t (arriving (map whole fs ++ (headerAlone next ∷ [])))
+      ∙ all-kept kind pid n [] _ [] fs next (t .set) (nothing (waiting-stage kind pid)) c

@@ -30,7 +30,7 @@ use Rattle.setting_bytes.proofs.Typed.{blank-types}
 use Rattle.runs.proofs.Table.{Asked}
 use Rattle.runs.proofs.Lost.{InRow, end, here}
 use Rattle.runs.proofs.Composed.{sound-start}
-use Rattle.runs.proofs.Values.{in-row, waiting-set, stretch-comes-out, first-of, each-rest, map-append}
+use Rattle.runs.proofs.Values.{From, stretch, in-row, waiting-set, stretch-comes-out, first-of, each-rest, map-append}
 use Rattle.runs.proofs.Tuned.{Tuned, given-out, room-always}
 use Rattle.runs.proofs.Made.{valued, valued-typed, Alike, TrueTo, frames-alike}
 
@@ -89,6 +89,11 @@ module _ (pid kind : ℕ) (run : RunOfCalls pid kind) where
 
   pub frames-true : Each (TrueTo (kindOf kind) pid) (framesClosed run)
   frames-true = run-alike .1
+
+  -- some of its frames in a row
+  pub run-stretch : (before fs after : List (List ℕ)) → map (λ f. f .frame) (framesClosed run) ≡ before ++ (fs ++ after) → From (kindOf kind) pid fs
+  run-stretch before fs after q =
+      stretch (kindOf kind) pid (map valued (run .calls)) run-allowed (each-valued (run .calls) (run .lent)) before fs after (sym (run-alike .0) ∙ q)
 
   -- whatever happens to some of its frames on the way
   pub stretch-given : (r : ℕ) (before after : List (List ℕ)) (sent : List Sent)

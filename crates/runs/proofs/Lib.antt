@@ -9,7 +9,7 @@ pub mod Lost
 pub mod Sixteen
 pub mod Table
 pub mod Vouched
-mod Tuned
+pub mod Tuned
 mod Placed
 mod Made
 pub mod Demands

@@ -91,11 +91,11 @@ pub record From (kind : Kind) (pid : ℕ) (fs : List (List ℕ)) : Type 0 where
   pub n : ℕ
   pub counts : Counted kind pid n fs
 
-counted-front : {kind : Kind} {pid n : ℕ} (xs ys : List (List ℕ)) → Counted kind pid n (xs ++ ys) → Counted kind pid n xs
+pub counted-front : {kind : Kind} {pid n : ℕ} (xs ys : List (List ℕ)) → Counted kind pid n (xs ++ ys) → Counted kind pid n xs
 counted-front [] ys c = no-more
 counted-front (x ∷ xs) ys (and-then g c) = and-then g (counted-front xs ys c)
 
-counted-rest : {kind : Kind} {pid n : ℕ} (xs : List (List ℕ)) {ys : List (List ℕ)} → Counted kind pid n (xs ++ ys) → From kind pid ys
+pub counted-rest : {kind : Kind} {pid n : ℕ} (xs : List (List ℕ)) {ys : List (List ℕ)} → Counted kind pid n (xs ++ ys) → From kind pid ys
 counted-rest {n = n} [] c = record { n = n; counts = c }
 counted-rest (x ∷ xs) (and-then g c) = counted-rest xs c
 
