@@ -1,4 +1,4 @@
-mod Accepts
+pub mod Cycles
 mod Carried
 pub mod Composed
 pub mod Values

@@ -17,26 +17,25 @@ use Rattle.setting.specs.declared.Announced.{Announced}
 use Rattle.packet.specs.Packets.{packetLength, slot, unfit}
 use Rattle.setting.specs.Announcing.{announced}
 use Rattle.composer.specs.Composing.{saying}
-use Rattle.composer.specs.States.{composerLength}
-use Rattle.composer.specs.Calls.{startRefused}
 use Rattle.setting_bytes.specs.Words.{wordBytes}
-use Rattle.setting_bytes.specs.Kinds.{kindOf}
-use Rattle.setting_bytes.specs.Settings.{settingLength, announcedBytes, settingBytes}
-use Rattle.setting_bytes.proofs.Back.{long, length-setting, setting-back}
+use Rattle.setting_bytes.specs.Kinds.{kindOf, kindNumber}
+use Rattle.setting_bytes.proofs.KindsBack.{kind-back}
+use Rattle.counters.specs.Counters.{available}
+use Rattle.setting.specs.Rules.{someUnavailable, pairTwice, absentChecks, widthChecks, bondingChecks, ruleChecks}
+use Rattle.setting_bytes.specs.Settings.{announcedBytes, settingBytes}
+use Rattle.setting_bytes.proofs.Back.{long}
 use Rattle.setting.specs.Refusal.{firstOf}
-use Rattle.setting.proofs.Fields.{fit-some}
 use Rattle.slices.specs.Slices.{anyBelow, someAtLeast}
-use Rattle.bits.specs.Fields.{Fit}
 use Rattle.receiver.specs.Store.{storeLength, numbered, slotsFor}
-use Rattle.receiver.specs.Receiving.{Receiver, waiting}
+use Rattle.receiver.specs.Receiving.{waiting}
 use Rattle.receiver.specs.Bytes.{receiverLength}
 use Rattle.receiver.specs.Calls.{startRefused as receiverRefused}
 use Rattle.receiver.proofs.Store.{length-numbered}
-use Rattle.runs.specs.Runs.{Call, begin, put, close, Each, none, more, started, framesOf}
-use Rattle.runs.specs.Work.{Work, numbersFilled, said, headedBehind, headed, frameOf, added, taken}
+use Rattle.runs.specs.Runs.{Call, Each, none, more, started, framesOf}
+use Rattle.runs.specs.Work.{Work, numbersFilled, said, headedBehind, headed, frameOf, added, taken as Wtaken}
 use Rattle.runs.specs.Composed.{headedBy}
 use Rattle.runs.specs.Losses.{kept, lost, isKept, Sent, MayHappen, InARowAtMost, headerArrives, packetsArrive, arriving, Reception, afterPacket, freshWith, handedOut, entire, wanted}
-use Rattle.runs.specs.Firmware.{FirmwareCall, begins, puts, closes, OfBytes, tunedTo}
+use Rattle.runs.specs.Firmware.{tunedTo}
 use Rattle.runs.specs.Demands.{RunOfCalls, framesClosed, OneRun, LostOrSpoiled, FreshAndAsked, handsOut, SixteenFail, headerAlone}
 use Rattle.runs.proofs.Composed.{Good, header-read, hold, each-good}
 use Rattle.runs.proofs.Table.{Asked, Set, Plain, afterAll, StoredAll, stored-all}
@@ -44,9 +43,8 @@ use Rattle.runs.proofs.Vouched.{GoodFrame, good-set, good-opens, good-n
 use Rattle.runs.proofs.Lost.{slot-behind, arrive-plain, arrive-entire, Counted, and-then, each-append, wanted-missing}
 use Rattle.runs.proofs.Values.{counted-run, first-of, waiting-set, waiting-stage, map-append}
 use Rattle.runs.proofs.Tuned.{given-out}
-use Rattle.runs.proofs.Made.{valued}
-use Rattle.runs.proofs.Demands.{run-alike, tuned-fresh, always-room}
-use Rattle.runs.proofs.Accepts.{plan, thePid, oneSlot, one-types, thePacket, theBuffer, theWork, cycles, cycles-typed, zero-numbers, works-are}
+use Rattle.runs.proofs.Demands.{tuned-fresh, always-room}
+use Rattle.runs.proofs.Cycles.{thePid, thePacket, plan, oneSlot, Takes, one-takes, cycles, cycles-typed, workOf, works-are, runOf, run-frames}
 
 -- ---- lists
 
@@ -70,8 +68,26 @@ last-two (suc n) (x ∷ xs) e =
 
 -- ---- eighteen frames
 
+abbrev theSetting : Setting
+theSetting = oneSlot 0 0 0 0
+
+taken : Takes Kind.Plain theSetting
+unfolding oneSlot firstOf widthChecks absentChecks ruleChecks bondingChecks someUnavailable pairTwice available someAtLeast anyBelow settingBytes announcedBytes announced wordBytes
+taken = one-takes 0 0 0 0 Kind.Plain refl refl refl
+
+each-taken : (n : ℕ) → Each (Takes Kind.Plain) (replicate n theSetting)
+each-taken zero = none
+each-taken (suc n) = more taken (each-taken n)
+
+abbrev theWork : Work
+theWork = workOf theSetting
+
+works-alike : (n : ℕ) → map workOf (replicate n theSetting) ≡ replicate n theWork
+works-alike zero = refl
+works-alike (suc n) = ap (λ (l : List Work). theWork ∷ l) (works-alike n)
+
 abbrev eighteen : List Call
-eighteen = cycles 18
+eighteen = cycles (replicate 18 theSetting)
 
 length-behind : (counter version : ℕ) (last : Announced) (ks : List Work) → length (headedBehind counter version last ks) ≡ length ks
 unfolding headedBehind
@@ -89,7 +105,7 @@ unfolding headed
 headed-more k ks = refl
 
 headed-is : headedBy Kind.Plain thePid eighteen ≡ h₀ ∷ others
-headed-is = ap headed (works-are 18) ∙ headed-more theWork (replicate 17 theWork)
+headed-is = ap headed (works-are Kind.Plain (replicate 18 theSetting) (each-taken 18) ∙ works-alike 18) ∙ headed-more theWork (replicate 17 theWork)
 
 split : LastTwo 15 others
 split = last-two 15 others (length-behind 0 0 (announced (theWork .setting)) (replicate 17 theWork) ∙ length-replicate 17 theWork)
@@ -111,7 +127,7 @@ f₁₇ = framed (split .z)
 
 frames-are : framesOf (started Kind.Plain thePid) eighteen ≡ f₀ ∷ (middle ++ (f₁₆ ∷ f₁₇ ∷ []))
 frames-are =
-    hold Kind.Plain thePid eighteen refl (cycles-typed 18) ∙ ap (map framed) headed-is
+    hold Kind.Plain thePid eighteen refl (cycles-typed (each-taken 18)) ∙ ap (map framed) headed-is
     ∙ ap (λ (l : List (List ℕ)). f₀ ∷ l) (ap (map framed) (split .is) ∙ map-append framed (split .front) (split .y ∷ split .z ∷ []))
 
 counted-at : {kind : Kind} {pid : ℕ} (n : ℕ) → n < 2 ^ 4 → (xs ys : List (List ℕ)) → Counted kind pid n (xs ++ ys) → Counted kind pid ((n + length xs) % 16) ys
@@ -129,7 +145,7 @@ rest-of-counted : {kind : Kind} {pid n : ℕ} {f : List ℕ} {fs : List (List �
 rest-of-counted (and-then g c) = c
 
 counted-all : Counted Kind.Plain thePid 0 (f₀ ∷ (middle ++ (f₁₆ ∷ f₁₇ ∷ [])))
-counted-all = subst (Counted Kind.Plain thePid 0) frames-are (counted-run Kind.Plain thePid eighteen refl (cycles-typed 18))
+counted-all = subst (Counted Kind.Plain thePid 0) frames-are (counted-run Kind.Plain thePid eighteen refl (cycles-typed (each-taken 18)))
 
 -- the first has counter 0, and so has the seventeenth
 counted-last : Counted Kind.Plain thePid 0 (f₁₆ ∷ f₁₇ ∷ [])
@@ -333,19 +349,24 @@ comes =
 
 -- a packet of it has number 1
 first-numbers : g₀ .header .setting .«relative_ts_number» ≡ numbersFilled plan (theWork .lent)
-unfolding said saying theWork oneSlot
+unfolding said saying workOf oneSlot
 first-numbers =
     ap (λ (x : Reading). x .setting .«relative_ts_number»)
-    (sym (g₀ .header .read) ∙ header-read Kind.Plain thePid h₀ (first-of (subst (Each (Good Kind.Plain thePid)) headed-is (each-good Kind.Plain thePid eighteen refl (cycles-typed 18)))))
+    (sym (g₀ .header .read) ∙ header-read Kind.Plain thePid h₀ (first-of (subst (Each (Good Kind.Plain thePid)) headed-is (each-good Kind.Plain thePid eighteen refl (cycles-typed (each-taken 18))))))
 
 none-for : (n : ℕ) → slotsFor 1 (replicate n 0) ≡ 0
 unfolding slotsFor
 none-for zero = refl
 none-for (suc n) = omega (arith, none-for n)
 
+zero-numbers : (n : ℕ) (lent : ℕ → List ℕ) → numbersFilled (replicate n 0) lent ≡ replicate n 0
+unfolding numbersFilled
+zero-numbers zero lent = refl
+zero-numbers (suc n) lent = ap (λ (ns : List ℕ). 0 ∷ ns) (zero-numbers n lent)
+
 one-filled : numbersFilled plan (theWork .lent) ≡ 1 ∷ replicate 51 0
-unfolding numbersFilled theWork thePacket
-one-filled = ap (λ (ns : List ℕ). 1 ∷ ns) (zero-numbers 51 (taken 1 (added 1 thePacket (λ n. []))))
+unfolding numbersFilled workOf thePacket
+one-filled = ap (λ (ns : List ℕ). 1 ∷ ns) (zero-numbers 51 (Wtaken 1 (added 1 thePacket (λ n. []))))
 
 one-slot : slotsFor 1 (1 ∷ replicate 51 0) ≡ 1
 unfolding slotsFor
@@ -384,51 +405,28 @@ nothing-wanted =
 
 -- ---- the same eighteen frames by firmware's calls
 
-unfoldable firmwareCycles : ℕ → List FirmwareCall
-firmwareCycles zero = []
-firmwareCycles (suc n) = begins (settingBytes oneSlot) theBuffer ∷ puts thePacket 1 ∷ closes ∷ firmwareCycles n
+abbrev plainKind : ℕ
+plainKind = kindNumber Kind.Plain
 
-setting-fits : Fit 8 (settingBytes oneSlot)
-unfolding settingBytes announcedBytes announced wordBytes oneSlot someAtLeast anyBelow
-setting-fits = fit-some 8 (settingBytes oneSlot) refl
-
-cycles-lent : (n : ℕ) → Each OfBytes (firmwareCycles n)
-unfolding firmwareCycles
-cycles-lent zero = none
-cycles-lent (suc n) = more setting-fits (more tt (more tt (cycles-lent n)))
-
-begin-valued : valued (begins (settingBytes oneSlot) theBuffer) ≡ begin theBuffer oneSlot
-begin-valued = rw (eq-eqb _ settingLength (length-setting oneSlot (long oneSlot one-types)), setting-back oneSlot one-types)
-
-cycles-valued : (n : ℕ) → map valued (firmwareCycles n) ≡ cycles n
-unfolding firmwareCycles cycles
-cycles-valued zero = refl
-cycles-valued (suc n) = ap₂ (λ (c : Call) (cs : List Call). c ∷ put thePacket 1 ∷ close ∷ cs) begin-valued (cycles-valued n)
-
-start-accepted : startRefused (replicate composerLength 0) thePid 0 ≡ 0
-unfolding startRefused firstOf
-start-accepted = refl
-
-tuned-accepted : receiverRefused (replicate receiverLength 0) thePid 0 ≡ 0
-unfolding receiverRefused firstOf
+tuned-accepted : receiverRefused (replicate receiverLength 0) thePid plainKind ≡ 0
+unfolding receiverRefused firstOf kindNumber
 tuned-accepted = refl
 
-abbrev theRun : RunOfCalls thePid 0
-theRun = record { state = replicate composerLength 0; accepted = start-accepted; calls = firmwareCycles 18; lent = cycles-lent 18 }
+abbrev theRun : RunOfCalls thePid plainKind
+theRun = runOf Kind.Plain (replicate 18 theSetting) (each-taken 18)
 
-plain : kindOf 0 ≡ Kind.Plain
-unfolding kindOf
-plain = refl
+plain : kindOf plainKind ≡ Kind.Plain
+plain = kind-back Kind.Plain
 
-run-frames : map (λ f. f .frame) (framesClosed theRun) ≡ [] ++ (map (λ s. s .frame) sent ++ [])
-run-frames =
-    run-alike thePid 0 theRun .0 ∙ ap₂ (λ (k : Kind) (cs : List Call). framesOf (started k thePid) cs) plain (cycles-valued 18)
-    ∙ frames-are ∙ sym (append-nil (map (λ s. s .frame) sent) ∙ sent-frames)
+the-frames : map (λ f. f .frame) (framesClosed theRun) ≡ [] ++ (map (λ s. s .frame) sent ++ [])
+the-frames =
+    run-frames Kind.Plain (replicate 18 theSetting) (each-taken 18) ∙ sym (ap (λ (ks : List Work). map framed (headed ks)) (works-are Kind.Plain (replicate 18 theSetting) (each-taken 18)))
+    ∙ sym (hold Kind.Plain thePid eighteen refl (cycles-typed (each-taken 18))) ∙ frames-are ∙ sym (append-nil (map (λ s. s .frame) sent) ∙ sent-frames)
 
 abbrev receiverZeros : List ℕ
 receiverZeros = replicate receiverLength 0
 
-abbrev theAsk : FreshAndAsked thePid 0 1 (arriving sent)
+abbrev theAsk : FreshAndAsked thePid plainKind 1 (arriving sent)
 theAsk =
     record {
       state = receiverZeros;
@@ -438,20 +436,20 @@ theAsk =
       from = asked .from;
       to = asked .to;
       buffers = λ n. zeros;
-      room = always-room thePid 0 1 receiverZeros zeros (λ n. zeros) (arriving sent) tuned-accepted (asked .store-long) (λ n. asked .room);
+      room = always-room thePid plainKind 1 receiverZeros zeros (λ n. zeros) (arriving sent) tuned-accepted (asked .store-long) (λ n. asked .room);
     }
 
 -- what comes out of it is mixed
 given-mixed : handsOut theAsk ≡ mixed ++ []
 given-mixed =
-    given-out (kindOf 0) thePid 1 zeros zeros asked (tunedTo receiverZeros thePid 0 zeros) (freshWith (kindOf 0) thePid zeros)
-    (tuned-fresh receiverZeros thePid 0 zeros tuned-accepted (asked .store-long)) (λ n. zeros) (arriving sent) (theAsk .room)
+    given-out (kindOf plainKind) thePid 1 zeros zeros asked (tunedTo receiverZeros thePid plainKind zeros) (freshWith (kindOf plainKind) thePid zeros)
+    (tuned-fresh receiverZeros thePid plainKind zeros tuned-accepted (asked .store-long)) (λ n. zeros) (arriving sent) (theAsk .room)
     ∙ ap (λ (k : Kind). handedOut 1 zeros (freshWith k thePid zeros) (arriving sent)) plain ∙ comes
 
 pub sixteen-fail : SixteenFail
 sixteen-fail promise =
-    let one : OneRun thePid 0 (map (λ s. s .frame) sent) = record { run = theRun; earlier = []; later = []; consecutive = run-frames } in
-    let lost : LostOrSpoiled 16 thePid 0 sent = record { may-happen = subst (λ (k : Kind). Each (MayHappen k thePid) sent) (sym plain) may-happen; in-a-row = in-a-row } in
-    let e = promise thePid 0 1 sent one lost theAsk ∙ ap (λ (k : Kind). wanted k thePid 1 sent) plain ∙ nothing-wanted in
+    let one : OneRun thePid plainKind (map (λ s. s .frame) sent) = record { run = theRun; earlier = []; later = []; consecutive = the-frames } in
+    let lost : LostOrSpoiled 16 thePid plainKind sent = record { may-happen = subst (λ (k : Kind). Each (MayHappen k thePid) sent) (sym plain) may-happen; in-a-row = in-a-row } in
+    let e = promise thePid plainKind 1 sent one lost theAsk ∙ ap (λ (k : Kind). wanted k thePid 1 sent) plain ∙ nothing-wanted in
     let l : length mixed ≡ 0 = ap length (sym (append-nil mixed) ∙ sym given-mixed ∙ e) in
     omega (arith, l, mixed-long)
