@@ -29,7 +29,7 @@ slot-first m g h l =
     let e : length (take frameLength g) ≡ frameLength = length-take-le frameLength g l in
     sym (slot-front m (take frameLength g) (drop frameLength g) (omega (arith, h, e))) ∙ ap (slot m) (take-append-drop frameLength g)
 
-slot-later : (m : ℕ) (g : List ℕ) → slot m (drop frameLength g) ≡ slot (m + framePackets) g
+pub slot-later : (m : ℕ) (g : List ℕ) → slot m (drop frameLength g) ≡ slot (m + framePackets) g
 unfolding slot
 slot-later m g =
     let e : frameLength + packetLength * m ≡ packetLength * (m + framePackets) = omega arith in

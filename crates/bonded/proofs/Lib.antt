@@ -1,3 +1,4 @@
 pub mod Kept
 pub mod Alike
 pub mod Demands
+pub mod Witness

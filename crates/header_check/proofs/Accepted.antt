@@ -17,7 +17,7 @@ use Rattle.setting.specs.Setting.{privateBytes, auxiliaryBytes}
 use Rattle.setting.specs.Refusal.{NoneHolds, none, more}
 use Rattle.setting.specs.Rules.{pidAllowed, absentChecks, absentOf, widthChecks, bondingChecks, bondingOf, ruleChecks}
 use Rattle.setting.proofs.Fields.{some-fit}
-use Rattle.setting.proofs.Refusals.{numbered, none-first, none-at, none-append, none-behind}
+use Rattle.setting.proofs.Refusals.{none-before, numbered, none-first, none-at, none-append, none-behind}
 use Rattle.header_layout.specs.Rows.{place, rowAt}
 use Rattle.header_layout.specs.Layout.{syncByte, tsmfSync, Field, table, layout, rowWith}
 use Rattle.header_layout.specs.Header.{headerLength, row, values, value, reading, callChecks, packetChecks}
@@ -42,6 +42,7 @@ pub record Shown (kind : Kind) (pid : ℕ) (p : List ℕ) : Type 0 where
   pub payload : value kind p Field.payload ≡ 1
   pub tsmf : value kind p Field.tsmf-sync ≡ tsmfSync
   pub register : registerOf (drop 4 p) ≡ 0
+  pub packet : NoneHolds (packetChecks pid p)
   pub rules : NoneHolds (ruleChecks kind (reading kind p))
 
 pub shown : (kind : Kind) (pid : ℕ) (p : List ℕ) → readRefusal kind pid p ≡ 0 → Shown kind pid p
@@ -57,6 +58,7 @@ shown kind pid p e =
       payload = eqb-true _ _ (marks .1);
       tsmf = eqb-true _ _ (not-false _ (none-at h 5));
       register = eqb-true _ _ (not-false _ (none-at h 6));
+      packet = none-before (packetChecks pid p) (ruleChecks kind (reading kind p)) (none-behind (callChecks pid (length p)) h);
       rules = none-behind (packetChecks pid p) (none-behind (callChecks pid (length p)) h);
     }
   where

@@ -1,5 +1,5 @@
 pub mod Cycles
-mod Carried
+pub mod Carried
 pub mod Composed
 pub mod Values
 mod Filled

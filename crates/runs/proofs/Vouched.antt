@@ -94,7 +94,7 @@ pub record GoodFrame (kind : Kind) (pid n : ℕ) (f : List ℕ) : Type 0 where
   pub long : length f ≡ frameLength
   pub fit : (i : ℕ) → i < lastSlot → unfit pid (slot i (drop packetLength f)) ≡ false
 
-accepted-reading : (kind : Kind) (pid : ℕ) (p : List ℕ) (s : Setting) → readOf kind pid p ≡ record { refusal = 0; setting = s }
+pub accepted-reading : (kind : Kind) (pid : ℕ) (p : List ℕ) (s : Setting) → readOf kind pid p ≡ record { refusal = 0; setting = s }
     → (readRefusal kind pid p ≡ 0) × (reading kind p ≡ s)
 unfolding readOf
 accepted-reading kind pid p s e =
