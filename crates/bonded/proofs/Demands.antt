@@ -7,10 +7,8 @@ use native.Mathlib.Omega.{arith}
 use lib.ListN.{length, getD, take, drop, take-append-drop}
 use lib.Seq.{drop-drop, drop-at, take-at}
 use Rattle.setting.specs.declared.Kind.{Kind}
-use Rattle.setting.specs.Rules.{pidAllowed}
 use Rattle.slices.specs.Slices.{Among, here, there}
 use Rattle.packet.specs.Packets.{packetLength, frameLength, slot, unfit}
-use Rattle.receiver.specs.Store.{storeLength}
 use Rattle.runs.specs.Runs.{Each, none, more}
 use Rattle.runs.specs.Losses.{arriving}
 use Rattle.runs.specs.Firmware.{tunedTo}

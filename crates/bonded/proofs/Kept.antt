@@ -8,7 +8,6 @@ use borrow.Author.Tests.{lt-ltb}
 use lib.ListN.{length, take, drop, replicate, length-drop, drop-of-length-le, take-append-drop}
 use Rattle.setting.specs.declared.Kind.{Kind}
 use Rattle.counters.specs.Counters.{lastSlot}
-use Rattle.setting.specs.Rules.{pidAllowed}
 use Rattle.header_layout.specs.Header.{reading}
 use Rattle.packet.specs.Packets.{packetLength, slot, unfit}
 use Rattle.receiver.specs.declared.Stage.{Stage}
@@ -16,20 +15,21 @@ use Rattle.receiver.specs.declared.Event.{Event}
 use Rattle.receiver.specs.declared.Row.{Row}
 use Rattle.receiver.specs.Store.{storeLength}
 use Rattle.receiver.specs.Table.{makesReady, good, broken, other, row, openRow, rowOf}
-use Rattle.receiver.specs.Receiving.{Receiver, receiveOf}
+use Rattle.receiver.specs.Receiving.{receiveOf}
 use Rattle.receiver.proofs.Sorts.{not-good}
 use Rattle.runs.specs.Runs.{Each, none, more}
-use Rattle.runs.specs.Losses.{headerArrives, packetsArrive, arriving, Reception, freshWith, afterPacket}
+use Rattle.runs.specs.Losses.{headerArrives, packetsArrive, arriving}
+use Rattle.runs.proofs.Reception.{Reception, freshWith, afterPacket}
 use Rattle.runs.specs.Demands.{whole, headerAlone}
 use Rattle.runs.proofs.Table.{Opens, Set, event-is, row-opens, bad-row, bad-set, stored-stage, Plain, joined, afterAll, StoredAll, stored-all}
 use Rattle.runs.proofs.Vouched.{GoodFrame, good-event, good-set, good-store, good-opens, step-one, vouched-row}
 use Rattle.runs.proofs.Lost.{arrive-plain, arrive-entire, Counted, no-more, and-then}
-use Rattle.runs.proofs.Values.{waiting-set, waiting-stage}
+use Rattle.runs.proofs.Values.{waiting-stage}
 use Rattle.runs.proofs.Tuned.{Tuned, tuned-heard, codable, says-ready}
 use Rattle.receiver.proofs.OnBytes.{calls-on-bytes}
 use Rattle.receiver.specs.Bytes.{eventNumber}
 use Rattle.receiver.specs.Calls.{receiveEvent}
-use Rattle.runs.specs.Firmware.{Demultiplexer, heard, saysReady}
+use Rattle.runs.specs.Firmware.{Demultiplexer, heard}
 use Rattle.bonded.specs.Carriers.{opensFrame, framesKept}
 
 -- ---- over a receiver's state as a value

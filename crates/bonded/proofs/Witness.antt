@@ -1,13 +1,12 @@
 -- A group that the calls compose: one carrier, two super frames of three frames in a row, stream 1 in slot 1. Assumes nothing.
-use Prim.Native.Nat.{ℕ, zero, suc, _+_, _*_, _/_, _%_, _^_, _≤_, _<_}
-use mathlib.Core.Path.{_≡_, refl, sym, ap, ap₂, subst, _∙_}
-use mathlib.Core.Bool.{Bool, true, false, cond, not, _&&_, _||_}
-use mathlib.Core.List.{List, [], _∷_, _++_, map, flatten, append-nil, append-assoc}
+use Prim.Native.Nat.{ℕ, zero, suc, _+_, _*_, _≤_, _<_}
+use mathlib.Core.Path.{_≡_, refl, sym, ap, subst, _∙_}
+use mathlib.Core.Bool.{true, false, not}
+use mathlib.Core.List.{List, [], _∷_, _++_, map, flatten, append-nil}
 use native.Mathlib.Omega.{arith}
-use lib.Dec.{eqb}
-use lib.ListN.{length, getD, take, drop, replicate, length-append, length-replicate}
-use lib.Seq.{drop-at, take-at}
-use Rattle.slices.specs.Slices.{anyBelow, someAtLeast, Among, here, there}
+use lib.ListN.{length, getD, replicate, length-append, length-replicate}
+use lib.Seq.{drop-at}
+use Rattle.slices.specs.Slices.{anyBelow, someAtLeast, Among}
 use Rattle.slices.proofs.Any.{any-found}
 use Rattle.setting.specs.declared.Kind.{Kind}
 use Rattle.setting.specs.declared.Setting.{Setting}
@@ -15,36 +14,35 @@ use Rattle.setting.specs.declared.Announced.{Announced}
 use Rattle.setting.specs.Announcing.{announced}
 use Rattle.setting.specs.Setting.{blank}
 use Rattle.setting.specs.Refusal.{firstOf, NoneHolds, none, more}
-use Rattle.setting.specs.Rules.{pidAllowed, someUnavailable, pairTwice, absentChecks, widthChecks, bondingChecks, ruleChecks}
+use Rattle.setting.specs.Rules.{someUnavailable, pairTwice, absentChecks, widthChecks, bondingChecks, ruleChecks}
 use Rattle.setting.proofs.Refusals.{none-append}
 use Rattle.setting_bytes.specs.Words.{wordBytes}
 use Rattle.setting_bytes.specs.Kinds.{kindNumber}
 use Rattle.setting_bytes.specs.Settings.{announcedBytes, settingBytes}
 use Rattle.counters.specs.Counters.{available}
 use Rattle.header_layout.specs.Header.{reading, packetChecks}
-use Rattle.header_check.specs.Checking.{readRefusal}
 use Rattle.header_check.proofs.Accepted.{shown}
 use Rattle.packet.specs.Packets.{packetLength, frameLength, slot, unfit}
-use Rattle.composer.specs.Composing.{saying, counterBehind, versionBehind}
+use Rattle.composer.specs.Composing.{saying}
 use Rattle.receiver.specs.Store.{storeLength}
 use Rattle.receiver.specs.Bytes.{receiverLength}
 use Rattle.receiver.specs.Calls.{startRefused}
 use Rattle.runs.specs.Runs.{Each, none, more}
 use Rattle.runs.specs.Demands.{framesClosed}
 use Rattle.runs.proofs.Carried.{slot-first, slot-next}
-use Rattle.runs.specs.Work.{Work, added, carries as fills, taken, numbersFilled, said as saidBy, headedBehind, headed, frameOf}
+use Rattle.runs.specs.Work.{Work, numbersFilled, said as saidBy, headedBehind, headed, frameOf}
 use Rattle.runs.proofs.Composed.{Good, header-read, frame-length}
 use Rattle.runs.proofs.Vouched.{accepted-reading}
-use Rattle.runs.proofs.Cycles.{thePid, thePacket, packet-long, fit-packet, plan, oneSlot, Takes, one-takes, workOf, runOf, run-frames, run-good}
+use Rattle.runs.proofs.Cycles.{thePid, thePacket, packet-long, fit-packet, oneSlot, Takes, one-takes, workOf, runOf, run-frames, run-good}
 use Rattle.bond_places.specs.Order.{framePackets}
 use Rattle.bond_group.specs.declared.Bond.{Bond}
-use Rattle.bond_group.specs.Group.{framesIn, packetsIn, said, names, numberUpTo, numberOf, carries, bondedSlot, bonded, order}
+use Rattle.bond_group.specs.Group.{framesIn, said, names, numberUpTo, numberOf, carries, bondedSlot, bonded, order}
 use Rattle.bond_group.specs.Standing.{shownBy, before, isLast, isEnd, nextCarrier, nextPosition, standingChecks, callChecks, headerChecks, headersChecks, groupChecks, someCarries}
 use Rattle.bond.specs.Demands.{WellFormed, Fitting}
 use Rattle.bond.proofs.Placed.{slot-front}
 use Rattle.bond.proofs.Demands.{order-holds}
-use Rattle.bonded.specs.Carriers.{extended, Carrier, superAt, groupAt}
-use Rattle.bonded.specs.Demands.{Bonded, Witness}
+use Rattle.bonded.specs.Carriers.{extended, Carrier, groupAt}
+use Rattle.bonded.specs.Demands.{Witness}
 use Rattle.bonded.proofs.Alike.{slot-later}
 
 -- ---- the settings

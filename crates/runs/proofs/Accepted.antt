@@ -25,13 +25,14 @@ use Rattle.receiver.proofs.Coding.{receiver-back}
 use Rattle.receiver.proofs.OnBytes.{calls-on-bytes as receiver-on-bytes}
 use Rattle.runs.specs.Runs.{Each, none, more, Run, started, after}
 use Rattle.runs.specs.Work.{Work, noWork, workAfter}
-use Rattle.runs.specs.Losses.{Reception, freshWith, afterPacket}
+use Rattle.runs.proofs.Reception.{Reception, freshWith, afterPacket}
 use Rattle.runs.specs.Firmware.{FirmwareCall, OfBytes, Multiplexer, startedAs, afterCall, afterCalls, Demultiplexer, tunedTo, heard, heardAll, readyBytes}
 use Rattle.runs.specs.Demands.{RunOfCalls}
 use Rattle.runs.specs.Accepted.{reached, BeginsAccepted, PutsAccepted, ClosesAccepted, Reached, reachedBy, ReceivesAccepted, HandOutsAccepted}
 use Rattle.runs.proofs.Table.{Set, accepted}
 use Rattle.runs.proofs.Vouched.{Fits, not-refused}
-use Rattle.runs.proofs.Made.{valued, Alike, alike-after}
+use Rattle.runs.specs.Composed.{valued}
+use Rattle.runs.proofs.Made.{Alike, alike-after}
 use Rattle.runs.proofs.Tuned.{Tuned, codable, tuned-heard, before-is}
 use Rattle.runs.proofs.InOrder.{InOrder, fresh-order, order-after, begin-passes, put-passes, close-passes}
 use Rattle.runs.proofs.Demands.{started-alike, run-allowed, tuned-fresh}

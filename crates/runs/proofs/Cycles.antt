@@ -28,7 +28,7 @@ use Rattle.runs.proofs.Carried.{length-slots}
 use Rattle.runs.proofs.Held.{begun-run, put-run, begun-work, put-work, Opened, Sound, sound-after, begin-none, put-none, close-one}
 use Rattle.runs.proofs.InOrder.{InOrder, fresh-order, order-after, begin-passes, put-passes, close-passes}
 use Rattle.runs.proofs.Composed.{sound-start, Good, hold, each-good}
-use Rattle.runs.proofs.Made.{valued}
+use Rattle.runs.specs.Composed.{valued}
 use Rattle.runs.proofs.Demands.{run-alike}
 use Rattle.runs.specs.Firmware.{FirmwareCall, begins, puts, closes, OfBytes}
 use Rattle.runs.specs.Demands.{RunOfCalls, framesClosed}

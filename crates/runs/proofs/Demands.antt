@@ -23,7 +23,8 @@ use Rattle.receiver.specs.Bytes.{receiverLength}
 use Rattle.receiver.specs.Calls.{startRefused as receiverRefused, startState as receiverStart}
 use Rattle.runs.specs.Runs.{Each, none, more, OfTypes, started, framesOf}
 use Rattle.runs.specs.Work.{noWork}
-use Rattle.runs.specs.Losses.{Sent, MayHappen, arriving, freshWith, handedOut, numbersIn, wanted}
+use Rattle.runs.specs.Losses.{Sent, MayHappen, arriving, numbersIn, wanted}
+use Rattle.runs.proofs.Reception.{freshWith, handedOut}
 use Rattle.runs.specs.Firmware.{FirmwareCall, OfBytes, startedAs, Closed, tunedTo}
 use Rattle.runs.specs.Demands.{RunOfCalls, framesClosed, FreshAndAsked, handsOut, AlwaysRoom, DemandThree, whole, headerAlone, PacketForPacket, placedIn, RunForRun}
 use Rattle.setting_bytes.proofs.Typed.{blank-types}
@@ -32,7 +33,8 @@ use Rattle.runs.proofs.Lost.{InRow, end, here}
 use Rattle.runs.proofs.Composed.{sound-start}
 use Rattle.runs.proofs.Values.{From, stretch, in-row, waiting-set, stretch-comes-out, first-of, each-rest, map-append}
 use Rattle.runs.proofs.Tuned.{Tuned, given-out, room-always}
-use Rattle.runs.proofs.Made.{valued, valued-typed, Alike, TrueTo, frames-alike}
+use Rattle.runs.specs.Composed.{valued, FramesAlike}
+use Rattle.runs.proofs.Made.{valued-typed, Alike, TrueTo, frames-alike}
 
 -- ---- the starts
 
@@ -106,6 +108,9 @@ module _ (pid kind : ℕ) (run : RunOfCalls pid kind) where
       (tuned-fresh (a .state) pid kind (a .store) (a .accepted) (a .store-long)) (a .buffers) (arriving sent) (a .room)
       ∙ stretch-comes-out (kindOf kind) pid (map valued (run .calls)) run-allowed (each-valued (run .calls) (run .lent)) before after sent (sym (run-alike .0) ∙ q) h row
       r (a .store) (a .store) asked
+
+pub frames-same : FramesAlike
+frames-same pid kind run = run-alike pid kind run .0
 
 -- ---- demand 3
 

@@ -1,3 +1,4 @@
+pub mod Reception
 pub mod Cycles
 pub mod Carried
 pub mod Composed

@@ -16,7 +16,8 @@ use Rattle.receiver.specs.declared.Stage.{Stage}
 use Rattle.receiver.specs.Store.{storeLength, numbered}
 use Rattle.receiver.proofs.Sorts.{not-good}
 use Rattle.runs.specs.Runs.{Each, none, more}
-use Rattle.runs.specs.Losses.{Fate, kept, lost, spoiled, isKept, Sent, MayHappen, Refused, headerArrives, packetsArrive, arriving, Reception, afterPacket, handedOut, numbersIn, entire, wanted}
+use Rattle.runs.specs.Losses.{Fate, kept, lost, spoiled, isKept, Sent, MayHappen, Refused, headerArrives, packetsArrive, arriving, numbersIn, entire, wanted}
+use Rattle.runs.proofs.Reception.{Reception, afterPacket, handedOut}
 use Rattle.runs.proofs.Table.{Asked, Opens, open-at, ready-at, Set, Follows, dropped, goes-on, Plain, joined, afterAll, StoredAll, stored-all, Bad, bad-all, same-opens}
 use Rattle.runs.proofs.Vouched.{GoodFrame, good-set, good-opens, good-numbers, Owes, nothing, something, vouches}
 

@@ -1,47 +1,41 @@
 -- The bytes that firmware's calls leave go along with the composer's state as a value, call by call. Assumes nothing.
-use Prim.Native.Nat.{ℕ, _+_, _*_, _%_, _^_, _≤_, _<_}
+use Prim.Native.Nat.{ℕ, _+_, _*_, _%_, _≤_}
 use mathlib.Core.Path.{_≡_, refl, sym, ap, ap₂, subst, _∙_}
 use mathlib.Core.Bool.{Bool, true, false, cond, and-false, false≢true}
 use mathlib.Core.List.{List, [], _∷_, _++_, map, append-nil}
 use native.Mathlib.Omega.{arith}
 use native.Mathlib.Decide.{ℕ-discrete}
 use borrow.Author.Tests.{eq-eqb, ne-eqb}
-use lib.Dec.{eqb, lit<}
+use lib.Dec.{eqb}
 use lib.ListN.{length, take, drop, length-append}
 use lib.Seq.{take-nil, length-take-le}
 use Rattle.setting.specs.declared.Kind.{Kind}
 use Rattle.setting.specs.declared.Setting.{Setting}
-use Rattle.setting.specs.Setting.{OfItsTypes}
 use Rattle.setting.specs.Refusal.{firstOf, leaves}
 use Rattle.setting.specs.Rules.{pidAllowed}
 use Rattle.counters.specs.Counters.{firstStream}
 use Rattle.bits.specs.Fields.{Fit}
-use Rattle.setting_bytes.specs.Settings.{settingLength, settingBytes, settingOf}
+use Rattle.setting_bytes.specs.Settings.{settingLength, settingOf}
 use Rattle.setting_bytes.proofs.Same.{setting-same}
 use Rattle.packet.specs.Packets.{packetLength}
 use Rattle.composer.specs.Slots.{placedBy}
 use Rattle.composer.proofs.Slots.{placed-within}
-use Rattle.composer.specs.Composing.{Composer, closed, closedWith, answer, beginRefusal, beginOf, begunFrame, putRefusal, putOf, putFrame, closeRefusal, closeOf, closedFrame, versionBehind}
+use Rattle.composer.specs.Composing.{Composer, closed, closedWith, answer, beginRefusal, beginOf, begunFrame, putOf, closeOf, closedFrame, versionBehind}
 use Rattle.composer.specs.States.{composerLength, composerBytes, OfItsTypes as StateOfItsTypes}
 use Rattle.composer.specs.Calls.{beginRefused, beginState, beginMemory, putRefused, putPlaced, putState, putMemory, closeRefused, closeState, closeMemory}
 use Rattle.composer.proofs.OnBytes.{calls-on-bytes}
 use Rattle.receiver.specs.Store.{numbered, slotsFor}
-use Rattle.runs.specs.Runs.{Call, begin, put, close, Each, none, more, OfTypes, Run, refusalOf, after, closedBy, framesOf}
+use Rattle.runs.specs.Runs.{begin, put, close, Each, none, more, OfTypes, Run, refusalOf, after, closedBy, framesOf}
 use Rattle.runs.specs.Work.{Work, added, workAfter, said, frameOf}
 use Rattle.runs.specs.Losses.{numbersIn}
 use Rattle.runs.specs.Firmware.{FirmwareCall, begins, puts, closes, OfBytes, Multiplexer, answered, putFront, afterCall, Closed, closedIn, closedFrames}
+use Rattle.runs.specs.Composed.{valued}
 use Rattle.setting_bytes.proofs.Typed.{setting-typed}
 use Rattle.runs.proofs.Filled.{marksFilled}
 use Rattle.runs.proofs.Placed.{front-more}
-use Rattle.runs.proofs.Held.{refused-same, refused-work, begun-run, put-run, closed-run, begun-work, put-work, closed-work, put-facts, close-facts, Opened, Sound, sound-after, Done, done, closed-as, refused-none, begin-none, put-none, close-one}
+use Rattle.runs.proofs.Held.{refused-same, refused-work, closed-run, begun-work, put-work, closed-work, put-facts, close-facts, Sound, sound-after, done, closed-as}
 use Rattle.runs.proofs.Composed.{said-good, version-behind}
 use Rattle.runs.proofs.Values.{placed-in-frame, map-append}
-
--- the call over values that a call of firmware's comes to. A setting of another length is refused, as a buffer without bytes is
-abbrev pub valued : FirmwareCall → Call
-valued (begins setting frame) = begin (cond (eqb (length setting) settingLength) frame []) (settingOf setting)
-valued (puts stream r) = put stream r
-valued closes = close
 
 pub valued-typed : (c : FirmwareCall) → OfBytes c → OfTypes (valued c)
 valued-typed (begins setting frame) f = setting-typed setting f

@@ -34,7 +34,8 @@ use Rattle.receiver.proofs.Store.{length-numbered}
 use Rattle.runs.specs.Runs.{Call, Each, none, more, started, framesOf}
 use Rattle.runs.specs.Work.{Work, numbersFilled, said, headedBehind, headed, frameOf, added, taken as Wtaken}
 use Rattle.runs.specs.Composed.{headedBy}
-use Rattle.runs.specs.Losses.{kept, lost, isKept, Sent, MayHappen, InARowAtMost, headerArrives, packetsArrive, arriving, Reception, afterPacket, freshWith, handedOut, entire, wanted}
+use Rattle.runs.specs.Losses.{kept, lost, isKept, Sent, MayHappen, InARowAtMost, headerArrives, packetsArrive, arriving, entire, wanted}
+use Rattle.runs.proofs.Reception.{Reception, afterPacket, freshWith, handedOut}
 use Rattle.runs.specs.Firmware.{tunedTo}
 use Rattle.runs.specs.Demands.{RunOfCalls, framesClosed, OneRun, LostOrSpoiled, FreshAndAsked, handsOut, SixteenFail, headerAlone}
 use Rattle.runs.proofs.Composed.{Good, header-read, hold, each-good}

@@ -29,7 +29,7 @@ use Rattle.receiver.specs.Arriving.{sortOf, storeAfter}
 use Rattle.receiver.specs.Receiving.{Receiver, moved, receiverAfter, receiverChecks, receiveRefusal, rowFor, receiveOf, receiveStore}
 use Rattle.receiver.proofs.Sorts.{not-good}
 use Rattle.runs.specs.Runs.{Each, none, more}
-use Rattle.runs.specs.Losses.{Reception, afterPacket, handed, handedOut}
+use Rattle.runs.proofs.Reception.{Reception, afterPacket, handed, handedOut}
 
 -- ---- a state that is in range
 

@@ -30,7 +30,7 @@ use Rattle.receiver.specs.Bytes.{eventNumber, receiverBytes, receiverOf, Codabl
 use Rattle.receiver.specs.Calls.{receiveEvent, receiveState, receiveMemory, handOutPackets, handOutMemory}
 use Rattle.receiver.proofs.Coding.{receiver-back}
 use Rattle.receiver.proofs.OnBytes.{numbers-said, calls-on-bytes}
-use Rattle.runs.specs.Losses.{Reception, afterPacket, handed, handedOut}
+use Rattle.runs.proofs.Reception.{Reception, afterPacket, handed, handedOut}
 use Rattle.runs.specs.Firmware.{Demultiplexer, heard, saysReady, given, givenOut, readyBytes, WithRoom}
 use Rattle.runs.proofs.Table.{Asked, Set, event-is, after-is, bad-set}
 use Rattle.runs.proofs.Vouched.{for-at-most, GoodHeader, good-set, Fits, fits-all, handed-is}

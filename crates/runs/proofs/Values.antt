@@ -27,7 +27,8 @@ use Rattle.receiver.specs.Store.{storeLength, numbered, slotsFor}
 use Rattle.receiver.specs.Receiving.{waiting}
 use Rattle.runs.specs.Runs.{Call, Each, none, more, OfTypes, started, framesOf}
 use Rattle.runs.specs.Work.{Work, noWork, worksOf, slotsFilled, said, headedBehind, headed, frameOf}
-use Rattle.runs.specs.Losses.{isKept, Sent, MayHappen, InARowAtMost, arriving, Reception, freshWith, handedOut, numbersIn, wanted}
+use Rattle.runs.specs.Losses.{isKept, Sent, MayHappen, InARowAtMost, arriving, numbersIn, wanted}
+use Rattle.runs.proofs.Reception.{Reception, freshWith, handedOut}
 use Rattle.runs.proofs.Held.{Done}
 use Rattle.runs.proofs.Composed.{Good, said-good, version-behind, header-read, front-placed, frame-length, packet-fit, works-done, hold}
 use Rattle.runs.proofs.Table.{Asked, Set, waits}

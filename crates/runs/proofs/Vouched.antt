@@ -29,7 +29,7 @@ use Rattle.receiver.specs.Table.{makesReady, Sort, good, broken, other, counter
 use Rattle.receiver.specs.Arriving.{sortOf, storeAfter}
 use Rattle.receiver.specs.Receiving.{renumbered, receiverAfter, rowFor, receiveOf, handOutRefusal, handOutOf, handOutBuffer}
 use Rattle.receiver.proofs.Store.{length-numbered}
-use Rattle.runs.specs.Losses.{Reception, afterPacket, handed, handedOut}
+use Rattle.runs.proofs.Reception.{Reception, afterPacket, handed, handedOut}
 use Rattle.runs.proofs.Table.{Asked, Opens, open-at, ready-at, InRange, waits, opens, Set, state-none, event-is, after-is, row-opens}
 
 -- ---- hand out

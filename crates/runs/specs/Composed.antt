@@ -1,8 +1,9 @@
 -- What is promised of the frames that a run closes, whatever its calls. The proofs stand apart.
 use Prim.Native.Nat.{ℕ, _*_, _≤_}
 use mathlib.Core.Path.{_≡_}
-use mathlib.Core.Bool.{true, false}
-use mathlib.Core.List.{List, map}
+use mathlib.Core.Bool.{true, false, cond}
+use mathlib.Core.List.{List, [], map}
+use lib.Dec.{eqb}
 use lib.ListN.{length, take}
 use Rattle.setting.specs.declared.Kind.{Kind}
 use Rattle.setting.specs.declared.Setting.{Setting}
@@ -11,8 +12,28 @@ use Rattle.setting.specs.Rules.{pidAllowed}
 use Rattle.header_read.specs.Reader.{readOf}
 use Rattle.packet.specs.Packets.{packetLength, frameLength, slot, unfit}
 use Rattle.receiver.specs.Store.{numbered, slotsFor}
-use Rattle.runs.specs.Runs.{Call, Each, OfTypes, started, framesOf}
+use Rattle.setting_bytes.specs.Kinds.{kindOf}
+use Rattle.setting_bytes.specs.Settings.{settingLength, settingOf}
+use Rattle.runs.specs.Runs.{Call, begin, put, close, Each, OfTypes, started, framesOf}
+use Rattle.runs.specs.Firmware.{FirmwareCall, begins, puts, closes}
+use Rattle.runs.specs.Demands.{RunOfCalls, framesClosed}
 use Rattle.runs.specs.Work.{Work, noWork, worksOf, slotsFilled, headed, frameOf}
+
+-- ---- from bytes to values
+
+-- the call over values that a call of firmware's comes to. A setting of another length is refused, as a buffer without bytes is
+abbrev pub valued : FirmwareCall → Call
+valued (begins setting frame) = begin (cond (eqb (length setting) settingLength) frame []) (settingOf setting)
+valued (puts stream r) = put stream r
+valued closes = close
+
+-- the frames that firmware's calls close are those that the calls over values close: so what follows is said of them
+abbrev pub FramesAlike : Type 0
+FramesAlike =
+    (pid kind : ℕ) (run : RunOfCalls pid kind)
+    → map (λ f. f .frame) (framesClosed run) ≡ framesOf (started (kindOf kind) pid) (map valued (run .calls))
+
+-- ---- the frames
 
 -- the works of a run's closed frames, each with what its header says: the first has counter 0 and version 0
 abbrev pub headedBy : Kind → ℕ → List Call → List (Setting × Work)

@@ -1,5 +1,5 @@
--- What happens to a run's frames on the way, and what a receiver then hands out.
-use Prim.Native.Nat.{ℕ, _*_, _≤_}
+-- What happens to a run's frames on the way, and what a receiver is then to hand out.
+use Prim.Native.Nat.{ℕ, _≤_}
 use mathlib.Core.Path.{_≡_}
 use mathlib.Core.Bool.{Bool, true, false, cond, _&&_}
 use mathlib.Core.List.{List, [], _∷_, _++_}
@@ -10,8 +10,6 @@ use Rattle.header_check.specs.Checking.{readRefusal}
 use Rattle.header_read.specs.Reader.{readOf}
 use Rattle.packet.specs.Packets.{packetLength, slot}
 use Rattle.receiver.specs.Store.{numbered}
-use Rattle.receiver.specs.Table.{makesReady}
-use Rattle.receiver.specs.Receiving.{Receiver, waiting, receiveOf, receiveStore, handOutOf, handOutBuffer}
 use Rattle.runs.specs.Runs.{Each}
 
 -- ---- on the way
@@ -63,32 +61,6 @@ unfoldable pub arriving : List Sent → List (List ℕ)
 arriving [] = []
 arriving (s ∷ ss) =
     headerArrives (s .fate) (slot 0 (s .frame)) ++ (packetsArrive (s .arrived) (drop packetLength (s .frame)) ++ arriving ss)
-
--- ---- at the receiver
-
--- a receiver with its store
-pub record Reception : Type 0 where
-  pub state : Receiver
-  pub store : List ℕ
-
-abbrev pub freshWith : Kind → ℕ → List ℕ → Reception
-freshWith kind pid store = record { state = waiting kind pid; store = store }
-
-unfoldable pub afterPacket : Reception → List ℕ → Reception
-afterPacket w p =
-    record { state = receiveOf (w .state) p (length (w .store)) .state; store = receiveStore (w .state) p (w .store) }
-
--- the bytes that hand out gives for number r, with this buffer
-unfoldable pub handed : ℕ → List ℕ → Reception → List ℕ
-handed r out w =
-    take (packetLength * handOutOf (w .state) r (length (w .store)) (length out) .packets) (handOutBuffer (w .state) r (w .store) out)
-
--- all that comes out under number r, where it is asked for once at every frame that a packet made ready
-unfoldable pub handedOut : ℕ → List ℕ → Reception → List (List ℕ) → List ℕ
-handedOut r out w [] = []
-handedOut r out w (p ∷ ps) =
-    cond (makesReady (receiveOf (w .state) p (length (w .store)) .event)) (handed r out (afterPacket w p)) []
-    ++ handedOut r out (afterPacket w p) ps
 
 -- ---- what is wanted
 
