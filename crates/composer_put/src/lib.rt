@@ -37,7 +37,7 @@ pub fn put<'a>(
     let empty = slots::empty_slots(
         &state[PLAN..PLAN + SLOTS],
         &state[FILLED..COMPOSER_BYTES],
-        r.0,
+        r,
     );
     *refusal = checks::put_refusal(state, stream, r, empty, frame.len());
     if *refusal != 0 {
