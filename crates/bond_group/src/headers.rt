@@ -2,6 +2,7 @@
 use crate::Bond;
 use counters::FramePosition;
 use counters::RelativeNumber;
+use counters::RelativeNumberAnswer;
 use counters::SLOTS;
 use counters::STREAMS;
 use header_check::Checked;
@@ -14,7 +15,7 @@ ghost use mathlib.Core.Bool.{true};
 ghost use Prim.Native.Nat.{_≤_, _%_};
 ghost use lib.ListN.{length};
 ghost use lib.Count.{ones};
-ghost use Rattle.counters.specs.Counters.{firstSlot, lastSlot, lastPosition, lastCarrier};
+ghost use Rattle.counters.specs.Counters.{firstSlot, lastSlot, lastStream, lastPosition, lastCarrier};
 ghost use Rattle.slot_bits.specs.Bits.{slotsAsBits};
 ghost use Rattle.setting.specs.declared.Setting.{Setting};
 ghost use Rattle.setting.specs.Setting.{blank};
@@ -60,6 +61,7 @@ pub struct Planned {
 // The stream's relative number in a header, or 0 if the header does not carry it. The contract says so for every setting with these parts.
 fn number_of(heard: Checked, b: Bond) -> u8
     ensures { λ r. ⌜ ((s : Setting) → heard ≡ partsOf 0 s → r ≡ numberOf b s) ⌝ }
+    ensures { λ r. ⌜ r ≤ lastStream ⌝ }
 {
     let ts_id = heard.ts_id;
     let original_network_id = heard.original_network_id;
@@ -81,14 +83,14 @@ fn number_of(heard: Checked, b: Bond) -> u8
 
 // The slots with number r as bits, slot i in bit i; no slot if r is 0. The loop never stops early, so that the compiler can compare many
 // slots at a time.
-fn marks_of(numbers: &[u8], r: u8) -> u64
+fn marks_of(numbers: &[u8], r: RelativeNumber) -> u64
     requires { ⌜ length (now numbers) ≡ lastSlot ⌝ }
-    ensures { λ t. ⌜ t ≡ slotsAsBits (passing (hasNumber (now (numbers .entry)) r) firstSlot lastSlot) ⌝ }
+    ensures { λ t. ⌜ t ≡ slotsAsBits (passing (hasNumber (now (numbers .entry)) (r .0)) firstSlot lastSlot) ⌝ }
 {
     let mut marks = [false; SLOTS];
     let mut i = 0;
     while i < SLOTS {
-        marks[i] = (r != 0) & (numbers[i] == r);
+        marks[i] = (r.0 != 0) & (numbers[i] == r.0);
         i += 1;
     }
     slot_bits::slots_as_bits(&marks)
@@ -104,11 +106,16 @@ fn bonded_by(heard: Checked, b: Bond) -> Bonded
     ensures { λ r. ⌜ ((s : Setting) → heard ≡ partsOf 0 s → (r .«is_carried» ≡ carries b s) × (r .marks ≡ marks b s)) ⌝ }
     ensures { λ r. ⌜ ones (r .marks) ≤ framePackets ⌝ }
 {
-    let number = number_of(heard, b);
+    let RelativeNumberAnswer::Is(r) = RelativeNumber::new(number_of(heard, b)) else {
+        return Bonded {
+            is_carried: false,
+            marks: 0,
+        };
+    };
     let numbers = heard.relative_ts_number;
-    let marks = marks_of(&numbers, number);
+    let marks = marks_of(&numbers, r);
     Bonded {
-        is_carried: number != 0,
+        is_carried: true,
         marks,
     }
 }

@@ -2,6 +2,7 @@
 use crate::slots;
 use composer::AVAILABILITY;
 use counters::RelativeNumber;
+use counters::RelativeNumberAnswer;
 use packet::FRAME_BYTES;
 use packet::PACKET_BYTES;
 ghost use mathlib.Core.Path.{_≡_};
@@ -53,15 +54,12 @@ pub(crate) fn put_refusal(
     if refused != 0 {
         return refused;
     }
-    if r.0 < RelativeNumber::FIRST {
+    let RelativeNumberAnswer::Is(number) = RelativeNumber::new(r.0) else {
         return 17;
-    }
-    if RelativeNumber::LAST < r.0 {
-        return 17;
-    }
+    };
     let not_open = composer_checks::open_refusal(state);
     if not_open != 0 {
         return not_open;
     }
-    stream_refusal(state, stream, r, empty)
+    stream_refusal(state, stream, number, empty)
 }

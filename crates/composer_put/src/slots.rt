@@ -1,7 +1,9 @@
 // The slots of a frame: slot i is the 188 bytes at 188 × i. A set of slots is a number, slot i in bit i. A byte of 1 marks a filled slot.
+use counters::RelativeNumber;
 use counters::SLOTS;
+use counters::Slot;
 use packet::PACKET_BYTES;
-ghost use Prim.Native.Nat.{_/_, min};
+ghost use Prim.Native.Nat.{_*_, _/_, min};
 ghost use mathlib.Core.Path.{_≡_};
 ghost use mathlib.Core.Bool.{Bool, false, _||_};
 ghost use mathlib.Core.List.{List, _∷_, map, zipWith};
@@ -16,14 +18,14 @@ ghost use Rattle.slot_bits.specs.Bits.{slotsAsBits};
 
 // The still empty slots planned for stream r, as bits. The loop never stops early, so that the compiler can compare many slots at a
 // time.
-pub(crate) fn empty_slots(plan: &[u8], filled: &[u8], r: u8) -> u64
+pub(crate) fn empty_slots(plan: &[u8], filled: &[u8], r: RelativeNumber) -> u64
     requires { ⌜ (length (now plan) ≡ lastSlot) × (length (now filled) ≡ lastSlot) ⌝ }
-    ensures { λ t. ⌜ t ≡ slotsAsBits (emptyFor r (now (plan .entry)) (marksOf (now (filled .entry)))) ⌝ }
+    ensures { λ t. ⌜ t ≡ slotsAsBits (emptyFor (r .0) (now (plan .entry)) (marksOf (now (filled .entry)))) ⌝ }
 {
     let mut marks = [false; SLOTS];
     let mut i = 0;
     while i < SLOTS {
-        marks[i] = (plan[i] == r) & (filled[i] != 1);
+        marks[i] = (plan[i] == r.0) & (filled[i] != 1);
         i += 1;
     }
     slot_bits::slots_as_bits(&marks)
@@ -39,6 +41,13 @@ pub(crate) fn packets_for(slots: u64, bytes: usize) -> usize
         return packets;
     }
     empty
+}
+
+// Where a slot's packet starts in the frame.
+fn start_of(slot: Slot) -> usize
+    ensures { λ t. ⌜ t ≡ packetLength * slot .0 ⌝ }
+{
+    PACKET_BYTES * slot.0 as usize
 }
 
 // Copies the stream's packets into the slots, in rising order, until slots or packets run out; marks these slots filled, and hands
@@ -60,15 +69,15 @@ pub(crate) fn place<'a>(
     let mut rest = slots;
     let mut at = 0;
     while (rest != 0) & (PACKET_BYTES <= stream.len() - at) {
-        let slot = u64::trailing_zeros(rest);
-        filled[slot as usize - 1] = 1;
-        let to = PACKET_BYTES * slot as usize;
+        let slot = Slot(u64::trailing_zeros(rest) as u8);
+        filled[slot.0 as usize - 1] = 1;
+        let to = start_of(slot);
         slices::copy(
             &mut frame[to..to + PACKET_BYTES],
             &stream[at..at + PACKET_BYTES],
         );
         at += PACKET_BYTES;
-        rest -= 1u64 << slot;
+        rest -= 1u64 << (slot.0 as u32);
     }
     &stream[at..]
 }

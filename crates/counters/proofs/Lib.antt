@@ -1,4 +1,4 @@
 mod Checked
 mod Streams
 pub mod Within
-mod Numbers
+pub mod Numbers

@@ -1,8 +1,10 @@
--- The number on paper of what a checked constructor answers: one law for the three of them. Assumes nothing.
+-- The number on paper of what a checked constructor answers, one law for the three of them; and what the answer tells of the number that it
+-- was asked about. Assumes nothing.
 use Prim.Native.Nat.{ℕ}
-use mathlib.Core.Path.{_≡_, refl}
-use mathlib.Core.Bool.{Bool, true, false, cond}
+use mathlib.Core.Path.{_≡_, refl, sym, ap}
+use mathlib.Core.Bool.{Bool, true, false, cond, true≢false}
 use lib.Dec.{eqb}
+use Rattle.counters.specs.declared.RelativeNumber.{RelativeNumber}
 use Rattle.counters.specs.declared.SlotAnswer.{SlotAnswer}
 use Rattle.counters.specs.declared.RelativeNumberAnswer.{RelativeNumberAnswer}
 use Rattle.counters.specs.declared.FramePositionAnswer.{FramePositionAnswer}
@@ -40,6 +42,36 @@ relative (RelativeNumberAnswer.Refused k) = k
 pub relative-is : (first last n : ℕ) → relative (relativeNumberAnswer (checked first last n)) ≡ checked first last n .0
 unfolding relative relativeNumberAnswer
 relative-is = answered (λ v. RelativeNumberAnswer.Is (record { 0 = v })) (λ k. RelativeNumberAnswer.Refused k) relative (λ v. refl) (λ k. refl)
+
+-- whether it is one, and the number itself
+unfoldable isValue : RelativeNumberAnswer → Bool
+isValue (RelativeNumberAnswer.Is v) = true
+isValue (RelativeNumberAnswer.Refused k) = false
+
+unfoldable value : RelativeNumberAnswer → ℕ
+value (RelativeNumberAnswer.Is v) = v .0
+value (RelativeNumberAnswer.Refused k) = 0
+
+inside-by : (n : ℕ) (b : Bool) {v : RelativeNumber} → RelativeNumberAnswer.Is v ≡ relativeNumberAnswer (on n b) → (b ≡ true) × (v .0 ≡ n)
+unfolding relativeNumberAnswer isValue value
+inside-by n true e = (refl, ap value e)
+inside-by n false e = absurd (true≢false (ap isValue e))
+
+outside-by : (n : ℕ) (b : Bool) {k : ℕ} → RelativeNumberAnswer.Refused k ≡ relativeNumberAnswer (on n b) → (b ≡ false) × (k ≡ 17)
+unfolding relativeNumberAnswer relative isValue
+outside-by n true e = absurd (true≢false (sym (ap isValue e)))
+outside-by n false e = (refl, ap relative e)
+
+-- a number that was answered lies inside and is the one asked about; one that was refused lies outside, and 17 was said
+pub relative-inside : (first last n : ℕ) {v : RelativeNumber} → RelativeNumberAnswer.Is v ≡ relativeNumberAnswer (checked first last n)
+    → (within first last n ≡ true) × (v .0 ≡ n)
+unfolding checked
+relative-inside first last n e = inside-by n (within first last n) e
+
+pub relative-outside : (first last n : ℕ) {k : ℕ} → RelativeNumberAnswer.Refused k ≡ relativeNumberAnswer (checked first last n)
+    → (within first last n ≡ false) × (k ≡ 17)
+unfolding checked
+relative-outside first last n e = outside-by n (within first last n) e
 
 -- a frame position
 unfoldable pub position : FramePositionAnswer → ℕ

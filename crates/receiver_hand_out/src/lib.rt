@@ -2,6 +2,7 @@
 mod numbered;
 
 use counters::RelativeNumber;
+use counters::RelativeNumberAnswer;
 use receiver::BEFORE;
 use receiver::RECEIVER_BYTES;
 use receiver::STAGE;
@@ -23,12 +24,9 @@ fn ready_refusal(state: &[u8], r: RelativeNumber, store: usize) -> u8
     if refusal != 0 {
         return refusal;
     }
-    if r.0 < RelativeNumber::FIRST {
+    let RelativeNumberAnswer::Is(_) = RelativeNumber::new(r.0) else {
         return 17;
-    }
-    if RelativeNumber::LAST < r.0 {
-        return 17;
-    }
+    };
     if state[STAGE] != 2 {
         return 16;
     }
@@ -48,12 +46,13 @@ pub extern "C" fn niranbok_receiver_hand_out(
     ensures { λ _. ⌜ now (packets .exit) ≡ handOutPackets (now (state .entry)) r (now (store .entry)) (now (out .entry)) ⌝ }
     ensures { λ _. ⌜ now (out .exit) ≡ handOutMemory (now (state .entry)) r (now (store .entry)) (now (out .entry)) ⌝ }
 {
-    let refusal = ready_refusal(state, RelativeNumber(r), store.len());
+    let number = RelativeNumber(r);
+    let refusal = ready_refusal(state, number, store.len());
     if refusal != 0 {
         *packets = 0;
         return refusal;
     }
-    let handed = numbered::hand_out(out, store, &state[BEFORE..RECEIVER_BYTES], r);
+    let handed = numbered::hand_out(out, store, &state[BEFORE..RECEIVER_BYTES], number);
     *packets = handed.packets;
     handed.refusal
 }

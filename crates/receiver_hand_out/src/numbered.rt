@@ -1,4 +1,5 @@
 // The slots with one number: marked sixteen at a time, counted, and their packets one behind the other.
+use counters::RelativeNumber;
 use packet::PACKET_BYTES;
 use receiver::HandedOut;
 ghost use mathlib.Core.Path.{_≡_};
@@ -14,27 +15,27 @@ ghost use Rattle.receiver.specs.Store.{storeLength, numbered, slotsFor};
 ghost use Rattle.receiver_hand_out.specs.Halves.{halvesOf, marked};
 
 // The halves of `word` that are r, each as the highest bit of its half: that of y is set where the half of x is not 0, and no carry leaves a half.
-fn marks(word: u64, r: u8) -> u64
-    requires { ⌜ r ≤ 15 ⌝ }
-    ensures { λ t. ⌜ halvesOf t ≡ marked r (halvesOf word) ⌝ }
+fn marks(word: u64, r: RelativeNumber) -> u64
+    requires { ⌜ r .0 ≤ 15 ⌝ }
+    ensures { λ t. ⌜ halvesOf t ≡ marked (r .0) (halvesOf word) ⌝ }
 {
-    let x = word ^ (bits::wide(r) * 0x1111_1111_1111_1111);
+    let x = word ^ (bits::wide(r.0) * 0x1111_1111_1111_1111);
     let y = ((x & 0x7777_7777_7777_7777) + 0x7777_7777_7777_7777) | x;
     (y & 0x8888_8888_8888_8888) ^ 0x8888_8888_8888_8888
 }
 
 // The slots with number r among the sixteen whose numbers stand from byte `at` on.
-fn marks_at(numbers: &[u8], at: usize, r: u8) -> u64
-    requires { ⌜ (length (now numbers) ≡ packedLength) × (at + 8 ≤ packedLength) × (r ≤ 15) ⌝ }
-    ensures { λ t. ⌜ halvesOf t ≡ marked r (take 16 (drop (2 * at) (unpacked (now (numbers .entry))))) ⌝ }
+fn marks_at(numbers: &[u8], at: usize, r: RelativeNumber) -> u64
+    requires { ⌜ (length (now numbers) ≡ packedLength) × (at + 8 ≤ packedLength) × (r .0 ≤ 15) ⌝ }
+    ensures { λ t. ⌜ halvesOf t ≡ marked (r .0) (take 16 (drop (2 * at) (unpacked (now (numbers .entry))))) ⌝ }
 {
     marks(bits::long(&numbers[at..at + 8]), r)
 }
 
 // Those among the last four slots, in the low halves.
-fn last_marks(numbers: &[u8], r: u8) -> u64
-    requires { ⌜ (length (now numbers) ≡ packedLength) × (r ≤ 15) ⌝ }
-    ensures { λ t. ⌜ halvesOf t ≡ replicate 12 0 ++ marked r (take 4 (drop 48 (unpacked (now (numbers .entry))))) ⌝ }
+fn last_marks(numbers: &[u8], r: RelativeNumber) -> u64
+    requires { ⌜ (length (now numbers) ≡ packedLength) × (r .0 ≤ 15) ⌝ }
+    ensures { λ t. ⌜ halvesOf t ≡ replicate 12 0 ++ marked (r .0) (take 4 (drop 48 (unpacked (now (numbers .entry))))) ⌝ }
 {
     marks(bits::long(&numbers[24..26]), r) % 0x1_0000
 }
@@ -58,10 +59,10 @@ fn copy_marked(out: &mut [u8], from: usize, store: &[u8], first: usize, marks: u
     let mut at = from;
     while rest != 0 {
         let zeros = u64::leading_zeros(rest);
-        let slot = PACKET_BYTES * (first + (zeros / 4) as usize);
+        let start = PACKET_BYTES * (first + (zeros / 4) as usize);
         slices::copy(
             &mut out[at..at + PACKET_BYTES],
-            &store[slot..slot + PACKET_BYTES],
+            &store[start..start + PACKET_BYTES],
         );
         at += PACKET_BYTES;
         rest -= 0x8000_0000_0000_0000 >> zeros;
@@ -71,10 +72,10 @@ fn copy_marked(out: &mut [u8], from: usize, store: &[u8], first: usize, marks: u
 
 // 15: room for fewer packets than have number r; else copies those, in slot order, to the front of `out`. The last four slots
 // are the last of sixteen.
-pub(crate) fn hand_out(out: &mut [u8], store: &[u8], numbers: &[u8], r: u8) -> HandedOut
-    requires { ⌜ (length (now numbers) ≡ packedLength) × (length (now store) ≡ storeLength) × (r ≤ 15) ⌝ }
-    ensures { λ t. ⌜ t ≡ cond (ltb (length (now (out .entry))) (packetLength * slotsFor r (unpacked (now (numbers .entry))))) (record { refusal = 15; packets = 0 }) (record { refusal = 0; packets = slotsFor r (unpacked (now (numbers .entry))) }) ⌝ }
-    ensures { λ _. ⌜ now (out .exit) ≡ cond (ltb (length (now (out .entry))) (packetLength * slotsFor r (unpacked (now (numbers .entry))))) (now (out .entry)) (over 0 (numbered r (unpacked (now (numbers .entry))) (now (store .entry))) (now (out .entry))) ⌝ }
+pub(crate) fn hand_out(out: &mut [u8], store: &[u8], numbers: &[u8], r: RelativeNumber) -> HandedOut
+    requires { ⌜ (length (now numbers) ≡ packedLength) × (length (now store) ≡ storeLength) × (r .0 ≤ 15) ⌝ }
+    ensures { λ t. ⌜ t ≡ cond (ltb (length (now (out .entry))) (packetLength * slotsFor (r .0) (unpacked (now (numbers .entry))))) (record { refusal = 15; packets = 0 }) (record { refusal = 0; packets = slotsFor (r .0) (unpacked (now (numbers .entry))) }) ⌝ }
+    ensures { λ _. ⌜ now (out .exit) ≡ cond (ltb (length (now (out .entry))) (packetLength * slotsFor (r .0) (unpacked (now (numbers .entry))))) (now (out .entry)) (over 0 (numbered (r .0) (unpacked (now (numbers .entry))) (now (store .entry))) (now (out .entry))) ⌝ }
 {
     let a = marks_at(numbers, 0, r);
     let b = marks_at(numbers, 8, r);

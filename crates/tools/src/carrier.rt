@@ -5,6 +5,7 @@ use crate::input;
 use crate::says;
 use crate::tally;
 use crate::tally::Tally;
+use counters::FramePosition;
 use counters::SLOTS;
 use packet::FRAME_BYTES;
 use packet::PACKET_BYTES;
@@ -15,7 +16,7 @@ use setting::limits;
 ghost use mathlib.Core.Path.{_≡_};
 ghost use Prim.Native.Nat.{_*_, _+_, _≤_, _<_};
 ghost use lib.ListN.{length};
-ghost use Rattle.counters.specs.Counters.{lastSlot};
+ghost use Rattle.counters.specs.Counters.{lastPosition, lastSlot};
 ghost use Rattle.packet.specs.Packets.{frameLength, packetLength};
 ghost use Rattle.receiver.specs.Bytes.{receiverLength};
 ghost use Rattle.tools.specs.Sizes.{partLength};
@@ -72,14 +73,14 @@ fn super_of(place: u64, frames: u8) -> u64 {
     place / 4
 }
 
-// The frame's position in its super frame, from 0.
-fn position_of(place: u64, frames: u8) -> u8
-    ensures { λ r. ⌜ r < 4 ⌝ }
+// A frame's position in its super frame.
+fn position_of(place: u64, frames: u8) -> FramePosition
+    ensures { λ r. ⌜ (1 ≤ r .0) × (r .0 ≤ lastPosition) ⌝ }
 {
     if frames == limits::FEWEST_FRAMES {
-        return (place % 3) as u8;
+        return FramePosition((place % 3) as u8 + FramePosition::FIRST);
     }
-    (place % 4) as u8
+    FramePosition((place % 4) as u8 + FramePosition::FIRST)
 }
 
 // How many frames the wanted super frame has, or 0 if not all of them came whole.
@@ -155,11 +156,11 @@ fn with_header(c: Carrier, packet: &[u8], pid: u16) -> Carrier {
 }
 
 // Copies a frame that became ready to its position in the super frame.
-fn put_frame(part: &mut [u8], position: u8, frame: &[u8])
+fn put_frame(part: &mut [u8], position: FramePosition, frame: &[u8])
     requires { ⌜ (length (now part) ≡ partLength) × (length (now frame) ≡ frameLength) ⌝ }
-    requires { ⌜ position < 4 ⌝ }
+    requires { ⌜ (1 ≤ position .0) × (position .0 ≤ lastPosition) ⌝ }
 {
-    let at = SUPER_AT + FRAME_BYTES * position as usize;
+    let at = SUPER_AT + FRAME_BYTES * (position.0 - FramePosition::FIRST) as usize;
     slices::copy(&mut part[at..at + FRAME_BYTES], frame);
 }
 
@@ -173,7 +174,7 @@ fn keep(c: Carrier, want: u64, part: &mut [u8], frame: &[u8]) -> Carrier
     let position = position_of(c.place, c.frames);
     put_frame(part, position, frame);
     let mut next = c;
-    next.have = c.have | (1u8 << (position as u32));
+    next.have = c.have | (1u8 << ((position.0 - FramePosition::FIRST) as u32));
     next
 }
 

@@ -3,9 +3,11 @@ use crate::arguments;
 use crate::arguments::Number;
 use crate::input;
 use crate::says;
+use crate::settings;
 use crate::tally;
 use crate::tally::Tally;
 use counters::RelativeNumber;
+use counters::RelativeNumberAnswer;
 use counters::SLOTS;
 use counters::STREAMS;
 use libc::STDIN_FILENO;
@@ -34,32 +36,11 @@ fn usage() {
     );
 }
 
-// The stream that was asked for: by its number, or, if that is 0, by its identifiers.
-struct Choice {
-    number: u8,
-    ts_id: u16,
-    network_id: u16,
-}
-
-fn no_choice() -> Choice {
-    Choice {
-        number: 0,
-        ts_id: 0,
-        network_id: 0,
-    }
-}
-
-// The choice, and whether it is good.
-struct Chosen {
-    good: bool,
-    choice: Choice,
-}
-
-fn not_chosen() -> Chosen {
-    Chosen {
-        good: false,
-        choice: no_choice(),
-    }
+// Which stream: by its number, or by its identifiers; or none was chosen.
+enum Choice {
+    Number(RelativeNumber),
+    Pair(u16, u16),
+    None,
 }
 
 // Where the ':' stands, or the length if there is none.
@@ -76,39 +57,42 @@ fn colon(text: &[u8]) -> usize
     i
 }
 
-fn choose_pair(ts_id: &[u8], network_id: &[u8]) -> Chosen {
+fn choose_pair(ts_id: &[u8], network_id: &[u8]) -> Choice {
     let Number::Is(ts) = arguments::within(ts_id, 0, 65535) else {
         says::range(b"TS_ID", 0, 65535, 17);
-        return not_chosen();
+        return Choice::None;
     };
     let Number::Is(network) = arguments::within(network_id, 0, 65535) else {
         says::range(b"NETWORK_ID", 0, 65535, 17);
-        return not_chosen();
+        return Choice::None;
     };
-    let choice = Choice {
-        number: 0,
-        ts_id: arguments::low(ts),
-        network_id: arguments::low(network),
-    };
-    Chosen { good: true, choice }
+    Choice::Pair(arguments::low(ts), arguments::low(network))
 }
 
-fn choose_number(text: &[u8]) -> Chosen {
-    let first = RelativeNumber::FIRST as u32;
-    let last = RelativeNumber::LAST as u32;
-    let Number::Is(n) = arguments::within(text, first, last) else {
-        says::range(b"STREAM", first, last, 17);
-        return not_chosen();
+// A text as a stream's number.
+fn number_of(text: &[u8]) -> RelativeNumberAnswer {
+    let Number::Is(n) = arguments::within(text, 0, 255) else {
+        return RelativeNumberAnswer::Refused(17);
     };
-    let choice = Choice {
-        number: (n % 16) as u8,
-        ts_id: 0,
-        network_id: 0,
-    };
-    Chosen { good: true, choice }
+    RelativeNumber::new((n % 256) as u8)
 }
 
-fn choose(text: &[u8]) -> Chosen {
+fn choose_number(text: &[u8]) -> Choice {
+    match number_of(text) {
+        RelativeNumberAnswer::Is(r) => Choice::Number(r),
+        RelativeNumberAnswer::Refused(refusal) => {
+            says::range(
+                b"STREAM",
+                RelativeNumber::FIRST as u32,
+                RelativeNumber::LAST as u32,
+                refusal,
+            );
+            Choice::None
+        }
+    }
+}
+
+fn choose(text: &[u8]) -> Choice {
     let at = colon(text);
     if at < text.len() {
         return choose_pair(&text[0..at], &text[at + 1..]);
@@ -116,57 +100,68 @@ fn choose(text: &[u8]) -> Chosen {
     choose_number(text)
 }
 
-fn chosen_at(i: usize) -> Chosen {
+fn chosen_at(i: usize) -> Choice {
     let mut word = io::buffer();
     let n = arguments::word(i, &mut word);
     choose(&word[0..n])
 }
 
-// Whether stream k + 1 of the setting is the one with these identifiers.
-fn is_stream(s: Setting, k: usize, ts_id: u16, network_id: u16) -> bool
-    requires { ⌜ k < lastStream ⌝ }
+// Whether stream r of the setting is the one with these identifiers.
+fn is_stream(s: Setting, r: RelativeNumber, ts_id: u16, network_id: u16) -> bool
+    requires { ⌜ (1 ≤ r .0) × (r .0 ≤ lastStream) ⌝ }
 {
-    if !RelativeNumber((k + 1) as u8).is_available(s.availability) {
+    if !r.is_available(s.availability) {
         return false;
     }
+    let i = (r.0 - RelativeNumber::FIRST) as usize;
     let ts = s.ts_id;
-    if ts[k] != ts_id {
+    if ts[i] != ts_id {
         return false;
     }
     let networks = s.original_network_id;
-    networks[k] == network_id
+    networks[i] == network_id
 }
 
-// The number that a header gives the stream with these identifiers, or 0 if it carries no such stream.
-pub(crate) fn number_in(s: Setting, ts_id: u16, network_id: u16) -> u8 {
+// The number by which a header knows a stream, if it does.
+enum Known {
+    As(RelativeNumber),
+    Not,
+}
+
+// The number that a header gives the stream with these identifiers.
+fn number_in(s: Setting, ts_id: u16, network_id: u16) -> Known {
     let mut k = 0;
     while k < STREAMS {
-        if is_stream(s, k, ts_id, network_id) {
-            return (k + 1) as u8;
+        let r = settings::stream_at(k);
+        if is_stream(s, r, ts_id, network_id) {
+            return Known::As(r);
         }
         k += 1;
     }
-    0
+    Known::Not
 }
 
 // The stream's number in the open frame, and what happened so far.
 struct Link {
-    number: u8,
+    number: Known,
     tally: Tally,
     // Whether standard output still takes what is written.
     taken: bool,
 }
 
 // The stream's number in the frame that the packet opened. If it opened none, the number stays.
-fn number_after(event: u8, packet: &[u8], pid: u16, choice: Choice, number: u8) -> u8 {
-    if choice.number != 0 {
-        return choice.number;
+fn number_after(event: u8, packet: &[u8], pid: u16, choice: Choice, number: Known) -> Known {
+    match choice {
+        Choice::Number(r) => Known::As(r),
+        Choice::Pair(ts_id, network_id) => {
+            if !tally::opens(event) {
+                return number;
+            }
+            let said = header_codec::read(packet, pid, Kind::Plain).setting;
+            number_in(said, ts_id, network_id)
+        }
+        Choice::None => Known::Not,
     }
-    if !tally::opens(event) {
-        return number;
-    }
-    let said = header_codec::read(packet, pid, Kind::Plain).setting;
-    number_in(said, choice.ts_id, choice.network_id)
 }
 
 // Writes the packets that were handed out.
@@ -185,10 +180,13 @@ fn write_packets(out: &[u8], packets: usize) -> bool
 
 // Hands out the stream's packets of a frame that just became ready. Answers how many there are, or more than a frame can have if standard
 // output did not take them.
-fn hand_out(state: &[u8], store: &[u8], number: u8) -> usize {
+fn hand_out(state: &[u8], store: &[u8], number: Known) -> usize {
+    let Known::As(r) = number else {
+        return 0;
+    };
     let mut out = [0u8; STORE_BYTES];
     let mut packets = 0usize;
-    receiver_hand_out::niranbok_receiver_hand_out(state, store, &mut out, number, &mut packets);
+    receiver_hand_out::niranbok_receiver_hand_out(state, store, &mut out, r.0, &mut packets);
     if write_packets(&out, packets) {
         return packets;
     }
@@ -196,7 +194,8 @@ fn hand_out(state: &[u8], store: &[u8], number: u8) -> usize {
 }
 
 fn after_ready(link: Link, state: &[u8], store: &[u8]) -> Link {
-    let packets = hand_out(state, store, link.number);
+    let number = link.number;
+    let packets = hand_out(state, store, number);
     let before = link.tally;
     let mut next = link;
     if SLOTS < packets {
@@ -227,14 +226,19 @@ fn take(
     let mut event = events::NOTHING;
     receiver_receive::niranbok_receiver_receive(state, packet, store, &mut event);
     let before = link.tally;
+    let number = link.number;
     let counted = Link {
-        number: link.number,
+        number,
         tally: tally::with_event(before, event),
         taken: link.taken,
     };
-    let mut next = after_event(counted, event, state, store);
-    next.number = number_after(event, packet, pid, choice, next.number);
-    next
+    let next = after_event(counted, event, state, store);
+    let after = next.tally;
+    Link {
+        number: number_after(event, packet, pid, choice, number),
+        tally: after,
+        taken: next.taken,
+    }
 }
 
 // Takes the packets of a block, one after another.
@@ -263,7 +267,7 @@ fn take_block(
 
 fn start() -> Link {
     Link {
-        number: 0,
+        number: Known::Not,
         tally: tally::none(),
         taken: true,
     }
@@ -311,11 +315,11 @@ fn demux(fd: i32, pid: u16, choice: Choice) {
 }
 
 fn run_chosen(fd: i32, pid: u16, i: usize) {
-    let chosen = chosen_at(i);
-    if chosen.good {
-        let choice = chosen.choice;
-        demux(fd, pid, choice);
+    let choice = chosen_at(i);
+    if let Choice::None = choice {
+        return;
     }
+    demux(fd, pid, choice);
 }
 
 // The input: the file that argument i names, or standard input if there is no such argument.

@@ -7,6 +7,7 @@ use crate::says;
 use crate::settings;
 use bond_group::Bond;
 use counters::FramePosition;
+use counters::RelativeNumber;
 use counters::SLOTS;
 use packet::FRAME_BYTES;
 use packet::PACKET_BYTES;
@@ -16,7 +17,7 @@ use setting::limits;
 ghost use mathlib.Core.Path.{_≡_};
 ghost use Prim.Native.Nat.{_≤_, _<_};
 ghost use lib.ListN.{length};
-ghost use Rattle.counters.specs.Counters.{lastCarrier, lastSlot};
+ghost use Rattle.counters.specs.Counters.{lastCarrier, lastPosition, lastSlot};
 ghost use Rattle.tools.specs.Sizes.{groupLength};
 
 // A bond and the id of its group.
@@ -36,30 +37,31 @@ fn plan_of(slots: u8) -> [u8; SLOTS]
     plan::numbers(&shares)
 }
 
-// The continuity counter of frame f, from 0, of the super frame with this number. The run's first header has counter 0.
-fn counter(number: u64, frames: u8, f: u8) -> u8
-    requires { ⌜ f < 4 ⌝ }
+// The counter of a frame in the super frame with this number: the run's first header has 0.
+fn counter(number: u64, frames: u8, position: FramePosition) -> u8
+    requires { ⌜ (1 ≤ position .0) × (position .0 ≤ lastPosition) ⌝ }
 {
     let n = (number % 16) as u8;
+    let before = position.0 - FramePosition::FIRST;
     if frames == limits::FEWEST_FRAMES {
-        return (n * 3 + f) % 16;
+        return (n * 3 + before) % 16;
     }
-    (n * 4 + f) % 16
+    (n * 4 + before) % 16
 }
 
-// The setting of frame f, from 0, of carrier c in the super frame with this number.
-fn setting_of(b: Bonded, c: u8, frames: u8, f: u8, number: u64) -> Setting
-    requires { ⌜ f < 4 ⌝ }
+// The setting of a carrier's frame in the super frame with this number.
+fn setting_of(b: Bonded, c: u8, frames: u8, position: FramePosition, number: u64) -> Setting
+    requires { ⌜ (1 ≤ position .0) × (position .0 ≤ lastPosition) ⌝ }
 {
     let bond = b.bond;
-    let mut s = settings::with_stream(Setting::blank(), 1, bond.ts_id, bond.original_network_id);
-    s.continuity_counter = counter(number, frames, f);
+    let r = RelativeNumber(RelativeNumber::FIRST);
+    let mut s = settings::with_stream(Setting::blank(), r, bond.ts_id, bond.original_network_id);
+    s.continuity_counter = counter(number, frames, position);
     s.frame_type = limits::LAST_FRAME_TYPE;
     s.group_id = b.group_id;
     s.number_of_carriers = bond.carriers;
     s.carrier_sequence = c;
     s.number_of_frames = frames;
-    let position = FramePosition(f + 1);
     s.frame_position = position;
     s
 }
@@ -70,13 +72,13 @@ fn write_header(
     b: Bonded,
     c: u8,
     frames: u8,
-    f: u8,
+    position: FramePosition,
     number: u64,
     slots: u8,
 ) -> bool
-    requires { ⌜ f < 4 ⌝ }
+    requires { ⌜ (1 ≤ position .0) × (position .0 ≤ lastPosition) ⌝ }
 {
-    let mut s = setting_of(b, c, frames, f, number);
+    let mut s = setting_of(b, c, frames, position, number);
     let numbers = plan_of(slots);
     s.relative_ts_number = numbers;
     let bond = b.bond;
@@ -106,18 +108,19 @@ fn write_super(
             return true;
         }
         let from = carriers::at_most(at + FRAME_BYTES * f as usize, GROUP_BYTES - PACKET_BYTES);
+        let next = f + 1;
         if !write_header(
             &mut group[from..from + PACKET_BYTES],
             b,
             c,
             frames,
-            f,
+            FramePosition(next),
             number,
             slots,
         ) {
             return false;
         }
-        f += 1;
+        f = next;
     }
     true
 }

@@ -8,6 +8,7 @@ use crate::plan::SHARES;
 use crate::says;
 use crate::settings;
 use composer::COMPOSER_BYTES;
+use counters::RelativeNumber;
 use counters::SLOTS;
 use counters::STREAMS;
 use counters::Slot;
@@ -42,13 +43,13 @@ struct Given {
 }
 
 // Says that a field of stream r is out of range.
-fn out_of_range(r: u8, field: &[u8], first: u32, last: u32) {
-    says::about(b"stream ", r as u64);
+fn out_of_range(r: RelativeNumber, field: &[u8], first: u32, last: u32) {
+    says::about(b"stream ", r.0 as u64);
     says::range(field, first, last, 17);
 }
 
 // Argument i, the number of slots of stream r. If it is out of range, says so and answers 0.
-fn slots_at(i: usize, r: u8) -> u32 {
+fn slots_at(i: usize, r: RelativeNumber) -> u32 {
     let first = Slot::FIRST as u32;
     let last = Slot::LAST as u32;
     let Number::Is(n) = arguments::number_at(i, first, last) else {
@@ -58,10 +59,10 @@ fn slots_at(i: usize, r: u8) -> u32 {
     n
 }
 
-fn with_slots(given: Given, r: u8, n: u32, ts_id: u32, network_id: u32) -> Given
-    requires { ⌜ (1 ≤ r) × (r ≤ lastStream) ⌝ }
+fn with_slots(given: Given, r: RelativeNumber, n: u32, ts_id: u32, network_id: u32) -> Given
+    requires { ⌜ (1 ≤ r .0) × (r .0 ≤ lastStream) ⌝ }
 {
-    let at = r as usize;
+    let at = r.0 as usize;
     let mut slots = given.slots;
     slots[at] = n;
     let before = given.setting;
@@ -89,8 +90,8 @@ fn not_good(given: Given) -> Given {
 }
 
 // Adds stream r, whose arguments start at argument i.
-fn with_words(given: Given, i: usize, r: u8) -> Given
-    requires { ⌜ (1 ≤ r) × (r ≤ lastStream) ⌝ }
+fn with_words(given: Given, i: usize, r: RelativeNumber) -> Given
+    requires { ⌜ (1 ≤ r .0) × (r .0 ≤ lastStream) ⌝ }
     requires { ⌜ i ≤ 1000 ⌝ }
 {
     let n = slots_at(i, r);
@@ -115,7 +116,8 @@ fn read_streams(first: usize, streams: usize) -> Given
     };
     let mut k = 0;
     while k < streams {
-        given = with_words(given, first + WORDS * k, (k + 1) as u8);
+        let r = settings::stream_at(k);
+        given = with_words(given, first + WORDS * k, r);
         k += 1;
     }
     given
@@ -175,7 +177,7 @@ struct Filled {
 }
 
 // Reads as many packets as there are slots, or all that are left. Answers the bytes of the whole packets.
-fn read_packets(fd: i32, bytes: &mut [u8], slots: u32, r: u8) -> usize
+fn read_packets(fd: i32, bytes: &mut [u8], slots: u32, r: RelativeNumber) -> usize
     requires { ⌜ length (now bytes) ≡ storeLength ⌝ }
     ensures { λ t. ⌜ Counts t (now (bytes .exit)) ⌝ }
 {
@@ -183,23 +185,25 @@ fn read_packets(fd: i32, bytes: &mut [u8], slots: u32, r: u8) -> usize
     let got = input::read_block(fd, &mut bytes[0..PACKET_BYTES * most]);
     let tail = got % PACKET_BYTES;
     if tail != 0 {
-        says::about(b"stream ", r as u64);
+        says::about(b"stream ", r.0 as u64);
     }
     input::say_part(tail);
     got - tail
 }
 
+// No more packets were read than there are slots: so none are handed back.
 fn put_packets(
     filled: Filled,
     state: &mut [u8],
     frame: &mut [u8],
     packets: &[u8],
-    r: u8,
+    r: RelativeNumber,
 ) -> Filled {
+    let mut refusal = 0u8;
     let mut placed = 0usize;
-    let refusal = composer_put::niranbok_composer_put(state, frame, packets, r, &mut placed);
+    composer_put::put(state, frame, packets, r, &mut refusal, &mut placed);
     if refusal != 0 {
-        says::about(b"stream ", r as u64);
+        says::about(b"stream ", r.0 as u64);
         says::refusal(b"input", refusal);
     }
     Filled {
@@ -214,7 +218,7 @@ fn put_stream(
     frame: &mut [u8],
     fd: i32,
     slots: u32,
-    r: u8,
+    r: RelativeNumber,
 ) -> Filled {
     let mut bytes = [0u8; STORE_BYTES];
     let n = read_packets(fd, &mut bytes, slots, r);
@@ -232,7 +236,8 @@ fn fill(state: &mut [u8], frame: &mut [u8], fds: &[i32], slots: &[u32], streams:
     };
     let mut k = 0;
     while k < streams {
-        filled = put_stream(filled, state, frame, fds[k], slots[k + 1], (k + 1) as u8);
+        let r = settings::stream_at(k);
+        filled = put_stream(filled, state, frame, fds[k], slots[k + 1], r);
         if filled.refusal != 0 {
             return filled;
         }

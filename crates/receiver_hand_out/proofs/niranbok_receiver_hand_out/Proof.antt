@@ -50,7 +50,7 @@ hand-out-requires c κs =
     let w = receiverOf (a .state .now) in (
       length-take-le packedLength (drop beforeAt (a .state .now)) (rw length-drop (omega (arith, accepted k .0))),
       handed-store w (a .r) _ (accepted k .1),
-      handed-number w (a .r) (length (a .store .now)) (accepted k .1),
+      omega (arith, handed-number w (a .r) (length (a .store .now)) (accepted k .1)),
     )
 
 same-length : tie.Need-same-length

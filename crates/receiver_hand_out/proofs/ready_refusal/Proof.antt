@@ -8,7 +8,7 @@ use borrow.Author.Needs.{needs}
 use borrow.Author.Tests.{eq-eqb, ne-eqb}
 use lib.ListN.{length, drop}
 use Rattle.counters.specs.Counters.{firstStream, lastStream, within}
-use Rattle.counters.proofs.Within.{under, past, between}
+use Rattle.counters.proofs.Numbers.{relative-inside, relative-outside}
 use Rattle.setting.specs.Refusal.{Check, firstOf}
 use Rattle.setting.proofs.Refusals.{answers, passed, onward, at-once}
 use Rattle.receiver.specs.Table.{isReady}
@@ -29,8 +29,9 @@ start₁ c = c .before .before
 abbrev start₂ : tie.Else2 → tie.Start
 start₂ c = start₁ (c .before .before)
 
-abbrev start₄ : tie.Else4 → tie.Start
-start₄ c = start₂ (c .before .before .before .before)
+-- from the place where the number was answered
+abbrev state-passed : tie.After-enum-told → tie.Else2
+state-passed c = c .before .before .before
 
 -- the state, the refusal of the whole, and the checks behind the state's
 abbrev of : tie.Start → Receiver
@@ -58,10 +59,10 @@ past₂ c =
     ∙ past₁ (c .before .before)
     ∙ onward (last (start₂ c)) (receiver-none (of (start₂ c)) (accepted c .1))
 
-past₄ : (c : tie.Else4) → all (start₄ c) ≡ firstOf (drop 1 (last (start₄ c)))
-past₄ c =
-    past₂ (c .before .before .before .before)
-    ∙ passed 17 _ (ap not (between firstStream lastStream _ (c .before .before .if3 .left) (c .if4 .left)))
+past-number : (c : tie.After-enum-told) → all (start₂ (state-passed c)) ≡ firstOf (drop 1 (last (start₂ (state-passed c))))
+past-number c =
+    let inside = relative-inside firstStream lastStream _ (sym (c .enum-told .given .1) ∙ c .before .before .new .ensures) in
+    past₂ (state-passed c) ∙ passed 17 _ (ap not (inside .0))
 
 returns : tie.Need-returns
 unfolding readyChecks
@@ -80,28 +81,36 @@ returns-2 c =
     state-first (s .args .state .now) _ _ (state .state-refusal .ensures) (c .if2 .taken)
     (λ z. past₁ (state .before) ∙ at-once (receiverChecks (of s)) (last s) z)
 
+new-requires : tie.Need-new-requires
+new-requires c κs = search needs
+
+enum-told : tie.Need-enum-told
+enum-told c = search needs
+
+enum-told-2 : tie.Need-enum-told-2
+enum-told-2 c = search needs
+
 returns-3 : tie.Need-returns-3
-returns-3 c = sym (past₂ (c .before .before) ∙ answers 17 _ (ap not (under firstStream lastStream _ (c .if3 .taken))))
+returns-3 c =
+    let told = c .before .before in
+    let outside = relative-outside firstStream lastStream _ (sym (c .enum-told2 .given .1) ∙ told .new .ensures) in
+    sym (past₂ (told .before) ∙ answers 17 _ (ap not (outside .0)))
+
+shared-slice-read-if3 : tie.Need-shared-slice-read-if3
+shared-slice-read-if3 c = omega (arith, accepted (state-passed (c .before)) .0)
 
 returns-4 : tie.Need-returns-4
 returns-4 c =
-    sym (past₂ (c .before .before .before .before) ∙ answers 17 _ (ap not (past firstStream lastStream _ (c .before .before .if3 .left) (c .if4 .taken))))
-
-shared-slice-read-if5 : tie.Need-shared-slice-read-if5
-shared-slice-read-if5 c = omega (arith, accepted (c .before .before .before .before .before) .0)
+    let number = c .before .before in
+    let state = state-passed number in
+    sym (past-number number ∙ answers 16 _ (ap not (not-ready (start₂ state .args .state .now) (accepted state .1) (c .if3 .taken))))
 
 returns-5 : tie.Need-returns-5
+unfolding firstOf
 returns-5 c =
     let number = c .before .before in
-    let state = number .before .before .before .before in
-    sym (past₄ number ∙ answers 16 _ (ap not (not-ready (start₄ number .args .state .now) (accepted state .1) (c .if5 .taken))))
-
-returns-6 : tie.Need-returns-6
-unfolding firstOf
-returns-6 c =
-    let number = c .before .before in
-    let state = number .before .before .before .before in
-    sym (past₄ number ∙ passed 16 [] (ap not (is-ready (start₄ number .args .state .now) (accepted state .1) (c .if5 .left))))
+    let state = state-passed number in
+    sym (past-number number ∙ passed 16 [] (ap not (is-ready (start₂ state .args .state .now) (accepted state .1) (c .if3 .left))))
 
 pub ready-refusal-spec : {M : Type 1} → statement M
 ready-refusal-spec =
@@ -110,8 +119,10 @@ ready-refusal-spec =
     returns
     state-refusal-requires
     returns-2
+    new-requires
+    enum-told
+    enum-told-2
     returns-3
+    shared-slice-read-if3
     returns-4
-    shared-slice-read-if5
-    returns-5
-    returns-6)
+    returns-5)

@@ -32,7 +32,7 @@ asked numbers r i inside =
     passing-at (hasNumber numbers r) firstSlot lastSlot i inside ∙ rw (ne-eqb (firstSlot + i) 0 no-header, index)
 
 abbrev Inv-loop : tie.InvT-loop
-Inv-loop numbers r marks₀ i₀ marks i = (i ≤ lastSlot) × (length marks ≡ lastSlot) × Marking (made numbers r) marks i
+Inv-loop numbers r marks₀ i₀ marks i = (i ≤ lastSlot) × (length marks ≡ lastSlot) × Marking (made numbers (r .0)) marks i
 
 abbrev μ-loop : tie.MeasureT-loop
 μ-loop numbers r marks₀ i₀ marks i = lastSlot - i
@@ -54,12 +54,12 @@ loop-less c = search needs
 
 loop-again : tie.Need-loop-again Inv-loop μ-loop
 loop-again c =
-    let t = c .before .before in
+    let t = c .before .before .before .before in
     let a = t .before .before .args in
     let inside : t .loop .i < lastSlot = omega arith in (
       omega arith,
       simp length-set (t .loop .inv .1),
-      marking-more (made (a .numbers .now) (a .r)) (made-long (a .numbers .now) (a .r)) (t .loop .inv .2) inside (asked (a .numbers .now) (a .r) (t .loop .i) inside),
+      marking-more (made (a .numbers .now) (a .r .0)) (made-long (a .numbers .now) (a .r .0)) (t .loop .inv .2) inside (asked (a .numbers .now) (a .r .0) (t .loop .i) inside),
     )
 
 slots-as-bits-requires : tie.Need-slots-as-bits-requires Inv-loop μ-loop
@@ -69,7 +69,7 @@ returns : tie.Need-returns Inv-loop μ-loop
 returns c =
     let t = c .before .before .before in
     let a = t .before .before .args in
-    c .slots-as-bits .ensures ∙ ap slotsAsBits (marking-all (made (a .numbers .now) (a .r)) (made-long (a .numbers .now) (a .r)) (t .loop .inv .2) (omega arith))
+    c .slots-as-bits .ensures ∙ ap slotsAsBits (marking-all (made (a .numbers .now) (a .r .0)) (made-long (a .numbers .now) (a .r .0)) (t .loop .inv .2) (omega arith))
 
 pub marks-of-spec : {M : Type 1} → statement M
 marks-of-spec =

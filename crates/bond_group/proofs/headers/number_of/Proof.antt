@@ -38,14 +38,14 @@ module _ (b : Bond) (s : Setting) (k : ℕ) where
       up ∙ ap (λ (t : Bool). cond t (k + 1) (numberUpTo b s k)) named
 
 abbrev Inv-loop : tie.InvT-loop
-Inv-loop heard b ts-id original-network-id number₀ k₀ number k = (k ≤ lastStream) × ((s : Setting) → heard ≡ partsOf 0 s → number ≡ numberUpTo b s k)
+Inv-loop heard b ts-id original-network-id number₀ k₀ number k = (k ≤ lastStream) × ((s : Setting) → heard ≡ partsOf 0 s → number ≡ numberUpTo b s k) × (number ≤ lastStream)
 
 abbrev μ-loop : tie.MeasureT-loop
 μ-loop heard b ts-id original-network-id number₀ k₀ number k = lastStream - k
 
 loop-holds : tie.Need-loop-holds Inv-loop μ-loop
 unfolding numberUpTo
-loop-holds c = (omega arith, λ s e. refl)
+loop-holds c = (omega arith, λ s e. refl, omega arith)
 
 mul-if1 : tie.Need-mul-if1 Inv-loop μ-loop
 mul-if1 c = search needs
@@ -87,6 +87,7 @@ loop-again c =
           (⊎-elim (λ w. w .3 ∙ held s e ∙ sym (turn (a .b) s k (a .heard) e (eq-eqb _ _ (w .0 .taken)) (ne-eqb _ _ (w .2 .left)) refl))
           (λ w. w .1 ∙ held s e ∙ sym (turn (a .b) s k (a .heard) e (ne-eqb _ _ (w .0 .left)) refl refl))))
           (c .if1 .came),
+      ⊎-elim (λ w. omega (arith, w .5)) (⊎-elim (λ w. omega (arith, w .5)) (⊎-elim (λ w. omega (arith, w .3)) (λ w. omega (arith, w .1)))) (c .if1 .came),
     )
 
 returns : tie.Need-returns Inv-loop μ-loop
@@ -94,7 +95,7 @@ unfolding numberOf
 returns c =
     let k = c .before in
     let all : k .loop .k ≡ lastStream = omega arith in
-    λ s e. k .loop .inv .1 s e ∙ ap (numberUpTo (k .before .before .before .args .b) s) all
+    (λ s e. k .loop .inv .1 s e ∙ ap (numberUpTo (k .before .before .before .args .b) s) all, k .loop .inv .2)
 
 pub number-of-spec : {M : Type 1} → statement M
 number-of-spec =

@@ -22,27 +22,27 @@ abbrev empty : ℕ → List ℕ → List ℕ → List Bool
 empty r plan filled = emptyFor r plan (marksOf filled)
 
 abbrev Inv-loop : tie.InvT-loop
-Inv-loop plan filled r marks₀ i₀ marks i = (i ≤ lastSlot) × (length marks ≡ lastSlot) × Marking (empty r plan filled) marks i
+Inv-loop plan filled r marks₀ i₀ marks i = (i ≤ lastSlot) × (length marks ≡ lastSlot) × Marking (empty (r .0) plan filled) marks i
 
 abbrev μ-loop : tie.MeasureT-loop
 μ-loop plan filled r marks₀ i₀ marks i = lastSlot - i
 
 module _ (c : tie.Start Inv-loop μ-loop) where
   abbrev made : List Bool
-  made = empty (c .args .r) (c .args .plan .now) (c .args .filled .now)
+  made = empty (c .args .r .0) (c .args .plan .now) (c .args .filled .now)
 
   marks-long : length (marksOf (c .args .filled .now)) ≡ lastSlot
   marks-long = length-map (c .args .filled .now) (λ (n : ℕ). eqb n 1) ∙ c .pre .1
 
   made-long : length made ≡ lastSlot
-  made-long = length-empty (c .args .r) (c .args .plan .now) (marksOf (c .args .filled .now)) (c .pre .0 ∙ sym marks-long) ∙ c .pre .0
+  made-long = length-empty (c .args .r .0) (c .args .plan .now) (marksOf (c .args .filled .now)) (c .pre .0 ∙ sym marks-long) ∙ c .pre .0
 
   -- slot i + 1 as it is asked
-  asked : (i : ℕ) → i < lastSlot → getD made i false ≡ eqb (getD (c .args .plan .now) i 0) (c .args .r) && not (eqb (getD (c .args .filled .now) i 0) 1)
+  asked : (i : ℕ) → i < lastSlot → getD made i false ≡ eqb (getD (c .args .plan .now) i 0) (c .args .r .0) && not (eqb (getD (c .args .filled .now) i 0) 1)
   asked i inside =
       let a = c .args in
-      empty-at (a .r) (a .plan .now) (marksOf (a .filled .now)) i (omega (arith, c .pre .0)) (omega (arith, marks-long))
-      ∙ ap (λ (m : Bool). eqb (getD (a .plan .now) i 0) (a .r) && not m) (mark-at (a .filled .now) i)
+      empty-at (a .r .0) (a .plan .now) (marksOf (a .filled .now)) i (omega (arith, c .pre .0)) (omega (arith, marks-long))
+      ∙ ap (λ (m : Bool). eqb (getD (a .plan .now) i 0) (a .r .0) && not m) (mark-at (a .filled .now) i)
 
 loop-holds : tie.Need-loop-holds Inv-loop μ-loop
 loop-holds c = (omega arith, omega arith, marking-none _)
@@ -64,7 +64,7 @@ loop-less c = search needs
 
 loop-again : tie.Need-loop-again Inv-loop μ-loop
 loop-again c =
-    let t = c .before .before .before in
+    let t = c .before .before .before .before in
     let start = t .before .before .before in
     let inside : t .loop .i < lastSlot = omega arith in
     (omega arith, simp length-set (t .loop .inv .1), marking-more (made start) (made-long start) (t .loop .inv .2) inside (asked start (t .loop .i) inside))

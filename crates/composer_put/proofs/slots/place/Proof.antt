@@ -68,15 +68,17 @@ module _ (c : tie.In-loop Inv-loop μ-loop) where
   bit : 1 * 2 ^ slot % 2 ^ 64 ≡ 2 ^ slot
   bit = shl-exact 1 slot 64 (omega arith) (omega (arith, inside)) ∙ one-mul (2 ^ slot)
 
--- the packet that was copied
-taken : (c : tie.After-copy Inv-loop μ-loop) → c .copy .last .0 ≡ take packetLength (now (c .before .before .before))
+-- the packet that was copied, to where the slot starts
+taken : (c : tie.After-copy Inv-loop μ-loop) → c .copy .last .0 ≡ take packetLength (now (c .before .before .before .before .before))
 taken c =
-    let t = c .before .before .before in
+    let call = c .before .before .before in
+    let t = call .before .before in
     let k = t .before in
-    let from = packetLength * slot t in
+    let from = call .start-of .result in
     let stream = start k .args .stream .now in
     let left = room t in
     let next = inside t in
+    let at = call .start-of .ensures in
     let there : from + packetLength - from ≡ packetLength = omega arith in
     let here : k .loop .at + packetLength - k .loop .at ≡ packetLength = omega arith in
     c .copy .ensures
@@ -108,34 +110,36 @@ loop-holds c =
 sub-loop : tie.Need-sub-loop Inv-loop μ-loop
 sub-loop c = search needs
 
-cast-filled : tie.Need-cast-filled Inv-loop μ-loop
-cast-filled c =
+cast-slot : tie.Need-cast-t15 Inv-loop μ-loop
+cast-slot c =
     let next = inside c in
     search needs
 
+cast-filled : tie.Need-cast-filled Inv-loop μ-loop
+cast-filled c = search needs
+
 sub-filled : tie.Need-sub-filled Inv-loop μ-loop
 sub-filled c =
-    let next = inside c in
+    let next = inside (c .before) in
     search needs
 
 slice-write-filled : tie.Need-slice-write-filled Inv-loop μ-loop
 slice-write-filled c =
-    let next = inside c in
+    let next = inside (c .before) in
     search needs
 
-cast-to : tie.Need-cast-to Inv-loop μ-loop
-cast-to c =
-    let next = inside c in
-    search needs
+start-of-requires : tie.Need-start-of-requires Inv-loop μ-loop
+start-of-requires c κs = search needs
 
-mul-to : tie.Need-mul-to Inv-loop μ-loop
-mul-to c =
-    let next = inside c in
-    search needs
+-- the slot lies in the frame
+frame-long : (c : tie.After-start-of Inv-loop μ-loop) → c .start-of .result + packetLength ≤ length (c .before .before .before .loop .frame)
+frame-long c =
+    let next = inside (c .before .before) in
+    omega (arith, c .start-of .ensures, c .before .before .before .loop .inv .1)
 
 add-copy : tie.Need-add-copy Inv-loop μ-loop
 add-copy c =
-    let next = inside c in
+    let fits = frame-long c in
     search needs
 
 sub-copy : tie.Need-sub-copy Inv-loop μ-loop
@@ -146,12 +150,12 @@ part-copy-start c = search needs
 
 part-copy-end : tie.Need-part-copy-end Inv-loop μ-loop
 part-copy-end c =
-    let next = inside c in
+    let fits = frame-long c in
     search needs
 
 add-copy-2 : tie.Need-add-copy-2 Inv-loop μ-loop
 add-copy-2 c =
-    let left = room (c .before) in
+    let left = room (c .before .before .before) in
     search needs
 
 sub-copy-2 : tie.Need-sub-copy-2 Inv-loop μ-loop
@@ -162,41 +166,47 @@ part-copy-start-2 c = search needs
 
 part-copy-end-2 : tie.Need-part-copy-end-2 Inv-loop μ-loop
 part-copy-end-2 c =
-    let left = room (c .before) in
+    let left = room (c .before .before .before) in
     search needs
 
 copy-requires : tie.Need-copy-requires Inv-loop μ-loop
 copy-requires c κs = search needs
 
+-- from the place behind the copy to the loop's test
+abbrev turn : tie.After-struct-known2 Inv-loop μ-loop → tie.In-loop Inv-loop μ-loop
+turn c = c .before .before .before .before .before .before .before .before
+
 add-at : tie.Need-add-at Inv-loop μ-loop
 add-at c =
-    let left = room (c .before .before .before .before .before) in
+    let left = room (c .before .before .before .before .before .before .before) in
     search needs
 
 cast-rest : tie.Need-cast-rest Inv-loop μ-loop
-cast-rest c =
-    let next = inside (c .before .before .before .before .before) in
-    search needs
+cast-rest c = search needs
+
+cast-rest-2 : tie.Need-cast-rest-2 Inv-loop μ-loop
+cast-rest-2 c = search needs
 
 shl-rest : tie.Need-shl-rest Inv-loop μ-loop
 shl-rest c =
-    let next = inside (c .before .before .before .before .before) in
+    let next = inside (turn c) in
     omega arith
 
 sub-rest : tie.Need-sub-rest Inv-loop μ-loop
 sub-rest c =
-    let t = c .before .before .before .before .before in
+    let t = turn c in
     omega (arith, bit t, inside t)
 
 loop-less : tie.Need-loop-less Inv-loop μ-loop
 loop-less c =
-    let t = c .before .before .before .before .before in
+    let t = turn c in
     omega (arith, bit t, inside t, pow-pos (slot t))
 
 loop-again : tie.Need-loop-again Inv-loop μ-loop
 loop-again c =
-    let copy = c .before .before in
-    let t = copy .before .before .before in
+    let copy = c .before .before .before in
+    let call = copy .before .before .before in
+    let t = turn c in
     let k = t .before in
     let of = k .loop .inv .4 in
     let from = packetLength * slot t in
@@ -204,7 +214,7 @@ loop-again c =
     let left = room t in
     let long = ap length (taken copy) ∙ length-take-le packetLength (now t) (room-now t) in
     let lent : from + packetLength - from ≡ packetLength = omega arith in
-    rw (bit t, ← (drop-drop packetLength (k .loop .at) (start k .args .stream .now))) (
+    rw (call .start-of .ensures, bit t, ← (drop-drop packetLength (k .loop .at) (start k .args .stream .now))) (
       omega arith,
       same-len-mid from (from + packetLength - from) (k .loop .frame) (copy .copy .last .0) (long ∙ sym (mid-len from (from + packetLength) (k .loop .frame) (omega arith) ∙ lent)) ∙ k .loop .inv .1,
       length-set (k .loop .filled) (slot t - 1) 1 ∙ k .loop .inv .2,
@@ -250,11 +260,11 @@ place-spec =
     μ-loop
     loop-holds
     sub-loop
+    cast-slot
     cast-filled
     sub-filled
     slice-write-filled
-    cast-to
-    mul-to
+    start-of-requires
     add-copy
     sub-copy
     part-copy-start
@@ -266,6 +276,7 @@ place-spec =
     copy-requires
     add-at
     cast-rest
+    cast-rest-2
     shl-rest
     sub-rest
     loop-less

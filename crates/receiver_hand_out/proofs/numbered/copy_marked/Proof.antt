@@ -83,20 +83,20 @@ loop-holds c =
     let l = length-halves (c .before .before .args .marks) in
     (0, omega arith, refl, handing-none _ _ _ _ _ (rw length-drop (omega arith)) (omega arith), sym (joined-halves (c .before .before .args .marks) (omega arith)))
 
-cast-slot : tie.Need-cast-slot Inv-loop μ-loop
-cast-slot c =
+cast-start : tie.Need-cast-start Inv-loop μ-loop
+cast-start c =
     let z = zeros-are c in
     let next = inside c in
     search needs
 
-add-slot : tie.Need-add-slot Inv-loop μ-loop
-add-slot c =
+add-start : tie.Need-add-start Inv-loop μ-loop
+add-start c =
     let z = zeros-are c in
     let next = inside c in
     search needs
 
-mul-slot : tie.Need-mul-slot Inv-loop μ-loop
-mul-slot c =
+mul-start : tie.Need-mul-start Inv-loop μ-loop
+mul-start c =
     let z = zeros-are c in
     let next = inside c in
     search needs
@@ -193,9 +193,9 @@ copy-marked-spec =
     Inv-loop
     μ-loop
     loop-holds
-    cast-slot
-    add-slot
-    mul-slot
+    cast-start
+    add-start
+    mul-start
     add-copy
     sub-copy
     part-copy-start

@@ -26,26 +26,26 @@ long : (c : tie.After-last-marks) → length (ns c) ≡ lastSlot
 long c = length-unpacked (start c .args .numbers .now)
 
 -- what the words say
-says₁ : (c : tie.After-last-marks) → Says (start c .args .r) (c .before .before .before .marks-at .result) (take 16 (ns c)) 0
+says₁ : (c : tie.After-last-marks) → Says (start c .args .r .0) (c .before .before .before .marks-at .result) (take 16 (ns c)) 0
 says₁ c = says _ _ (c .before .before .before .marks-at .ensures)
 
-says₂ : (c : tie.After-last-marks) → Says (start c .args .r) (c .before .before .marks-at2 .result) (take 16 (drop 16 (ns c))) 0
+says₂ : (c : tie.After-last-marks) → Says (start c .args .r .0) (c .before .before .marks-at2 .result) (take 16 (drop 16 (ns c))) 0
 says₂ c = says _ _ (c .before .before .marks-at2 .ensures)
 
-says₃ : (c : tie.After-last-marks) → Says (start c .args .r) (c .before .marks-at3 .result) (take 16 (drop 32 (ns c))) 0
+says₃ : (c : tie.After-last-marks) → Says (start c .args .r .0) (c .before .marks-at3 .result) (take 16 (drop 32 (ns c))) 0
 says₃ c = says _ _ (c .before .marks-at3 .ensures)
 
-says₄ : (c : tie.After-last-marks) → Says (start c .args .r) (c .last-marks .result) (take 4 (drop 48 (ns c))) 12
+says₄ : (c : tie.After-last-marks) → Says (start c .args .r .0) (c .last-marks .result) (take 4 (drop 48 (ns c))) 12
 says₄ c = says-last _ _ (take 4 (drop 48 (ns c))) (c .last-marks .ensures)
 
 -- how many slots have the number
-counted : (c : tie.After-count) → c .count .result ≡ slotsFor (start (c .before) .args .r) (ns (c .before))
+counted : (c : tie.After-count) → c .count .result ≡ slotsFor (start (c .before) .args .r .0) (ns (c .before))
 counted c =
     let k = c .before in
-    let all = slots-all (start k .args .r) (ns k) (start k .args .store .now) (start k .args .out .now) (long k) (start k .pre .1) in
+    let all = slots-all (start k .args .r .0) (ns k) (start k .args .store .now) (start k .args .out .now) (long k) (start k .pre .1) in
     omega (arith, all, c .count .ensures .0, says₁ k .count, says₂ k .count, says₃ k .count, says₄ k .count)
 
-enough : (c : tie.Else1) → packetLength * slotsFor (start (c .before .before) .args .r) (ns (c .before .before)) ≤ length (start (c .before .before) .args .out .now)
+enough : (c : tie.Else1) → packetLength * slotsFor (start (c .before .before) .args .r .0) (ns (c .before .before)) ≤ length (start (c .before .before) .args .out .now)
 enough c =
     let n = counted (c .before) in
     omega (arith, c .if1 .left)
@@ -68,7 +68,7 @@ first c = c .before .before .before .before .before .before .before .before .bef
 
 -- what is copied
 abbrev Copied : tie.After-last-marks → List ℕ → ℕ → ℕ → Type 0
-Copied k = Gone (start k .args .r) (ns k) (start k .args .store .now) (start k .args .out .now) (long k) (start k .pre .1)
+Copied k = Gone (start k .args .r .0) (ns k) (start k .args .store .now) (start k .args .out .now) (long k) (start k .pre .1)
 
 copied₀ : (k : tie.After-last-marks) → Copied k (start k .args .out .now) 0 0
 copied₀ k = gone-none _ _ _ _ _ _
@@ -111,7 +111,7 @@ returns c =
     let k = c .before in
     let s = start (k .before) in
     let n = counted k in
-    let less = lt-ltb (length (s .args .out .now)) (packetLength * slotsFor (s .args .r) (ns (k .before))) (omega (arith, c .if1 .taken)) in
+    let less = lt-ltb (length (s .args .out .now)) (packetLength * slotsFor (s .args .r .0) (ns (k .before))) (omega (arith, c .if1 .taken)) in
     (rw less refl, rw less refl)
 
 copy-marked-requires : tie.Need-copy-marked-requires
@@ -152,7 +152,7 @@ returns-2 c =
     let g = c .before .before in
     let k = words₄ g in
     let s = start k in
-    let holds = le-ltb (length (s .args .out .now)) (packetLength * slotsFor (s .args .r) (ns k)) (enough (first g .before .before)) in
+    let holds = le-ltb (length (s .args .out .now)) (packetLength * slotsFor (s .args .r .0) (ns k)) (enough (first g .before .before)) in
     (rw (holds, counted (first g .before .before .before)) refl, rw holds (gone-all _ _ _ _ _ _ (copied₄ g)))
 
 pub hand-out-spec : {M : Type 1} → statement M

@@ -32,7 +32,7 @@ marks-requires c κs = search needs
 returns : tie.Need-returns
 returns c =
     let start = c .before .before .before .before in
-    let r = start .args .r in
+    let r = start .args .r .0 in
     let bs = start .args .numbers .now in
     only-low (c .marks .result)
     ∙ ap (λ (l : List ℕ). replicate 12 0 ++ l)

@@ -26,7 +26,7 @@ returns c =
     let a = c .before .args in
     let byte = c .wide .ensures .0 in
     ap (λ n. halvesOf (where-zero (bitXor (a .word) (n * rep 1 16)) (rep 7 16) (rep 8 16))) byte
-    ∙ marks-of (a .word) (a .r) (omega arith) (omega arith)
+    ∙ marks-of (a .word) (a .r .0) (omega arith) (omega arith)
 
 pub marks-spec : {M : Type 1} → statement M
 marks-spec = tie.close (tie.spec wide-requires mul-x add-y returns)

@@ -34,7 +34,7 @@ returns c =
     let at = start .args .at in
     let bs = start .args .numbers .now in
     c .marks .ensures
-    ∙ ap (marked (start .args .r))
+    ∙ ap (marked (start .args .r .0))
     (ap (cut 4 16) (bitsOf-part 8 (omega arith) bs at (omega arith) (c .before .long .ensures)) ∙ unpacked-part at 8 bs (start .pre .1) (start .pre .0))
 
 pub marks-at-spec : {M : Type 1} → statement M

@@ -13,14 +13,11 @@ abbrev μ-loop : tie.MeasureT-loop
 loop-holds : tie.Need-loop-holds Inv-loop μ-loop
 loop-holds c = tt
 
+stream-at-requires : tie.Need-stream-at-requires Inv-loop μ-loop
+stream-at-requires c κs = search needs
+
 is-stream-requires : tie.Need-is-stream-requires Inv-loop μ-loop
 is-stream-requires c κs = search needs
-
-add-result : tie.Need-add-result Inv-loop μ-loop
-add-result c = search needs
-
-cast-result : tie.Need-cast-result Inv-loop μ-loop
-cast-result c = search needs
 
 returns : tie.Need-returns Inv-loop μ-loop
 returns c = tt
@@ -44,9 +41,8 @@ number-in-spec =
     Inv-loop
     μ-loop
     loop-holds
+    stream-at-requires
     is-stream-requires
-    add-result
-    cast-result
     returns
     add-k
     loop-less

@@ -36,6 +36,9 @@ sub-at-most c = search needs
 at-most-requires : tie.Need-at-most-requires Inv-loop μ-loop
 at-most-requires c κs = search needs
 
+add-next : tie.Need-add-next Inv-loop μ-loop
+add-next c = search needs
+
 add-write-header : tie.Need-add-write-header Inv-loop μ-loop
 add-write-header c = search needs
 
@@ -56,9 +59,6 @@ same-length-2 c = search needs
 
 returns-2 : tie.Need-returns-2 Inv-loop μ-loop
 returns-2 c = tt
-
-add-f : tie.Need-add-f Inv-loop μ-loop
-add-f c = search needs
 
 loop-less : tie.Need-loop-less Inv-loop μ-loop
 loop-less c = search needs
@@ -86,6 +86,7 @@ write-super-spec =
     add-at-most
     sub-at-most
     at-most-requires
+    add-next
     add-write-header
     sub-write-header
     part-write-header-start
@@ -93,7 +94,6 @@ write-super-spec =
     write-header-requires
     same-length-2
     returns-2
-    add-f
     loop-less
     loop-again
     same-length-3

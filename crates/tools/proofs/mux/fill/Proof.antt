@@ -15,6 +15,9 @@ abbrev μ-loop : tie.MeasureT-loop
 loop-holds : tie.Need-loop-holds Inv-loop μ-loop
 loop-holds c = (refl, refl)
 
+stream-at-requires : tie.Need-stream-at-requires Inv-loop μ-loop
+stream-at-requires c κs = search needs
+
 mul-put-stream : tie.Need-mul-put-stream Inv-loop μ-loop
 mul-put-stream c = search needs
 
@@ -29,12 +32,6 @@ mul-put-stream-2 c = search needs
 
 shared-slice-read-put-stream : tie.Need-shared-slice-read-put-stream Inv-loop μ-loop
 shared-slice-read-put-stream c = search needs
-
-add-put-stream-2 : tie.Need-add-put-stream-2 Inv-loop μ-loop
-add-put-stream-2 c = search needs
-
-cast-put-stream : tie.Need-cast-put-stream Inv-loop μ-loop
-cast-put-stream c = search needs
 
 put-stream-requires : tie.Need-put-stream-requires Inv-loop μ-loop
 put-stream-requires c κs = search needs
@@ -73,13 +70,12 @@ fill-spec =
     Inv-loop
     μ-loop
     loop-holds
+    stream-at-requires
     mul-put-stream
     shared-slice-copy-out-put-stream
     add-put-stream
     mul-put-stream-2
     shared-slice-read-put-stream
-    add-put-stream-2
-    cast-put-stream
     put-stream-requires
     same-length
     same-length-2

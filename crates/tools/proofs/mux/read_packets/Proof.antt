@@ -26,6 +26,9 @@ read-block-requires c κs = search needs
 slice-aggregate-about : tie.Need-slice-aggregate-about
 slice-aggregate-about c = search needs
 
+cast-about : tie.Need-cast-about
+cast-about c = search needs
+
 about-requires : tie.Need-about-requires
 about-requires c κs = search needs
 
@@ -52,6 +55,7 @@ read-packets-spec =
     part-read-block-end
     read-block-requires
     slice-aggregate-about
+    cast-about
     about-requires
     say-part-requires
     sub-result

@@ -16,17 +16,14 @@ blank-requires c κs = search needs
 loop-holds : tie.Need-loop-holds Inv-loop μ-loop
 loop-holds c = tt
 
+stream-at-requires : tie.Need-stream-at-requires Inv-loop μ-loop
+stream-at-requires c κs = search needs
+
 mul-with-words : tie.Need-mul-with-words Inv-loop μ-loop
 mul-with-words c = search needs
 
 add-with-words : tie.Need-add-with-words Inv-loop μ-loop
 add-with-words c = search needs
-
-add-with-words-2 : tie.Need-add-with-words-2 Inv-loop μ-loop
-add-with-words-2 c = search needs
-
-cast-with-words : tie.Need-cast-with-words Inv-loop μ-loop
-cast-with-words c = search needs
 
 with-words-requires : tie.Need-with-words-requires Inv-loop μ-loop
 with-words-requires c κs = search needs
@@ -51,10 +48,9 @@ read-streams-spec =
     μ-loop
     blank-requires
     loop-holds
+    stream-at-requires
     mul-with-words
     add-with-words
-    add-with-words-2
-    cast-with-words
     with-words-requires
     add-k
     loop-less

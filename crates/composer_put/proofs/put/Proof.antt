@@ -1,4 +1,4 @@
--- `niranbok_composer_put` meets its contract: the state that passed the checks changes in its marks alone. Assumes nothing.
+-- `put` meets its contract: the state that passed the checks changes in its marks alone, and the rest is what was not placed. Assumes nothing.
 use Prim.Native.Nat.{ℕ}
 use mathlib.Core.Path.{_≡_, refl, sym, ap, ap₂, _∙_}
 use mathlib.Core.Bool.{Bool, true}
@@ -24,23 +24,29 @@ use Rattle.slot_bits.specs.Bits.{slotsAsBits}
 use Rattle.composer.proofs.Slots.{length-empty}
 use Rattle.composer_put.proofs.Placed.{left-within, counted}
 use Rattle.composer_put.proofs.Passed.{PutPassed, put-passed}
-use Rattle.composer_put.proofs.niranbok_composer_put.Statement.{statement}
-use Rattle.composer_put.proofs.niranbok_composer_put.Tie as tie
+use Rattle.composer_put.proofs.put.Statement.{statement}
+use Rattle.composer_put.proofs.put.Tie as tie
 
 -- from the place behind the length, and behind the checks, to the function's start; and from that behind the placing to the checks
 abbrev start₁ : tie.Else1 → tie.Start
 start₁ c = c .before .before .before .before
 
+abbrev measured : tie.After-put-refusal → tie.Else1
+measured c = c .before .before .before .before .before .before
+
+abbrev asked : tie.Else2 → tie.After-put-refusal
+asked c = c .before .before
+
 abbrev start₂ : tie.Else2 → tie.Start
-start₂ c = start₁ (c .before .before .before .before .before .before .before)
+start₂ c = start₁ (measured (asked c))
 
 abbrev checked : tie.After-place → tie.Else2
 checked c = c .before .before .before .before .before
 
 -- behind the checks
 past : (c : tie.Else2)
-    → PutPassed (composerOf (start₂ c .args .state .now)) (start₂ c .args .r) (start₂ c .args .stream .now) (length (start₂ c .args .frame .now))
-past c = put-passed _ _ _ _ (sym (c .before .put-refusal .ensures) ∙ c .if2 .left)
+    → PutPassed (composerOf (start₂ c .args .state .now)) (start₂ c .args .r .0) (start₂ c .args .stream .now) (length (start₂ c .args .frame .now))
+past c = put-passed _ _ _ _ (sym (asked c .put-refusal .ensures) ∙ c .if2 .left)
 
 coded : (c : tie.Else2) → isCoded (start₂ c .args .state .now) ≡ true
 coded c = coded-by-counter (start₂ c .args .state .now) (past c .open-state .counter)
@@ -49,30 +55,30 @@ coded c = coded-by-counter (start₂ c .args .state .now) (past c .open-state .c
 abbrev empty : ℕ → List ℕ → List Bool
 empty r state = emptyFor r (part planAt lastSlot state) (marksOf (part filledAt lastSlot state))
 
-empty-long : (c : tie.Else2) → length (empty (start₂ c .args .r) (start₂ c .args .state .now)) ≡ lastSlot
+empty-long : (c : tie.Else2) → length (empty (start₂ c .args .r .0) (start₂ c .args .state .now)) ≡ lastSlot
 empty-long c =
     let state = start₂ c .args .state .now in
-    let long : length state ≡ composerLength = c .before .before .before .before .before .before .before .if1 .left in
+    let long : length state ≡ composerLength = measured (asked c) .if1 .left in
     let plan = length-part planAt lastSlot state (omega arith) in
     let marks = length-map (part filledAt lastSlot state) (λ (n : ℕ). eqb n 1) ∙ length-part filledAt lastSlot state (omega arith) in
-    length-empty (start₂ c .args .r) (part planAt lastSlot state) (marksOf (part filledAt lastSlot state)) (plan ∙ sym marks) ∙ plan
+    length-empty (start₂ c .args .r .0) (part planAt lastSlot state) (marksOf (part filledAt lastSlot state)) (plan ∙ sym marks) ∙ plan
 
 -- their bits
 bits : (c : tie.After-empty-slots)
-    → c .empty-slots .result ≡ slotsAsBits (empty (start₁ (c .before .before .before .before) .args .r) (start₁ (c .before .before .before .before) .args .state .now))
+    → c .empty-slots .result ≡ slotsAsBits (empty (start₁ (c .before .before .before .before) .args .r .0) (start₁ (c .before .before .before .before) .args .state .now))
 bits c = c .empty-slots .ensures
 
 -- what the placing leaves of the stream
 left : (c : tie.After-place)
     → now (c .place .result)
     ≡ restOf (start₂ (checked c) .args .stream .now)
-    (placedBy (start₂ (checked c) .args .r) (part planAt lastSlot (start₂ (checked c) .args .state .now)) (marksOf (part filledAt lastSlot (start₂ (checked c) .args .state .now))) (start₂ (checked c) .args .stream .now))
+    (placedBy (start₂ (checked c) .args .r .0) (part planAt lastSlot (start₂ (checked c) .args .state .now)) (marksOf (part filledAt lastSlot (start₂ (checked c) .args .state .now))) (start₂ (checked c) .args .stream .now))
 unfolding placedBy filledBy
-left c = c .place .ensures .0 _ (empty-long (checked c)) (bits (checked c .before .before .before))
+left c = c .place .ensures .0 _ (empty-long (checked c)) (bits (asked (checked c) .before .before))
 
 returns : tie.Need-returns
-unfolding putRefused putPlaced putState putMemory leaves
-returns c = rw (ne-eqb (length (c .before .before .before .before .args .state .now)) composerLength (c .if1 .taken)) (refl, (refl, (refl, refl)))
+unfolding putRefused putPlaced putState putMemory leaves restOf
+returns c = rw (ne-eqb (length (c .before .before .before .before .args .state .now)) composerLength (c .if1 .taken)) (refl, (refl, (refl, (refl, refl))))
 
 add-empty-slots : tie.Need-add-empty-slots
 add-empty-slots c = search needs
@@ -105,10 +111,13 @@ same-length : tie.Need-same-length
 same-length c = search needs
 
 returns-2 : tie.Need-returns-2
+unfolding restOf
 returns-2 c =
-    let k = c .before .before .before .before .before .before .before in
+    let told = c .before .before in
+    let k = measured told in
     let a = start₁ k .args in
-    put-refused (a .state .now) (a .r) (a .stream .now) (a .frame .now) (k .if1 .left) (c .before .put-refusal .ensures) (c .if2 .taken)
+    let kept = put-refused (a .state .now) (a .r .0) (a .stream .now) (a .frame .now) (k .if1 .left) (told .put-refusal .ensures) (c .if2 .taken) in
+    (ap (restOf (a .stream .now)) (kept .1 .0), kept)
 
 are-bytes-requires : tie.Need-are-bytes-requires
 are-bytes-requires c κs = search needs
@@ -126,8 +135,8 @@ place-requires : tie.Need-place-requires
 place-requires c κs =
     let k = c .before .before .before .before in
     let b = start₂ k .args .state .now in
-    let long = k .before .before .before .before .before .before .before .if1 .left in
-    ((past k .long, length-part filledAt lastSlot b (omega arith)), (marks-low b long (all-bytes b (c .before .before .are-bytes .ensures)) (coded k), (_, empty-long k, bits (k .before .before .before))))
+    let long = measured (asked k) .if1 .left in
+    ((past k .long, length-part filledAt lastSlot b (omega arith)), (marks-low b long (all-bytes b (c .before .before .are-bytes .ensures)) (coded k), (_, empty-long k, bits (asked k .before .before))))
 
 sub-placed : tie.Need-sub-placed
 sub-placed c =
@@ -147,19 +156,21 @@ returns-3 c =
     let k = checked p in
     let a = start₂ k .args in
     let b = a .state .now in
-    let long = k .before .before .before .before .before .before .before .if1 .left in
+    let long = measured (asked k) .if1 .left in
     let fit = all-bytes b (p .before .before .before .are-bytes .ensures) in
-    let slots = bits (k .before .before .before) in
-    put-done b (a .r) (a .stream .now) (a .frame .now) long (k .before .put-refusal .ensures) (k .if2 .left)
-    (counted _ _ _ _ (left p) ∙ sym (ap₂ (λ (n : List ℕ) (m : List Bool). placedBy (a .r) n m (a .stream .now)) (plan-there b long) (marks-there b)))
+    let slots = bits (asked k .before .before) in
+    let many = counted _ _ _ _ (left p) in
+    let done = put-done b (a .r .0) (a .stream .now) (a .frame .now) long (asked k .put-refusal .ensures) (k .if2 .left)
+    (many ∙ sym (ap₂ (λ (n : List ℕ) (m : List Bool). placedBy (a .r .0) n m (a .stream .now)) (plan-there b long) (marks-there b)))
     (put-end filledAt lastSlot b _ long ∙ ap (λ (l : List ℕ). take filledAt b ++ l) (p .place .ensures .1 .1 _ (empty-long k) slots)
     ∙ sym (marked-bytes b long fit (coded k) _
-    ∙ ap₂ (λ (n : List ℕ) (m : List Bool). take filledAt b ++ map markByte (marksAfter (a .r) n m (a .stream .now))) (plan-there b long) (marks-there b)))
+    ∙ ap₂ (λ (n : List ℕ) (m : List Bool). take filledAt b ++ map markByte (marksAfter (a .r .0) n m (a .stream .now))) (plan-there b long) (marks-there b)))
     (p .place .ensures .1 .0 _ (empty-long k) slots
-    ∙ sym (ap₂ (λ (n : List ℕ) (m : List Bool). frameAfter (a .r) n m (a .stream .now) (a .frame .now)) (plan-there b long) (marks-there b)))
+    ∙ sym (ap₂ (λ (n : List ℕ) (m : List Bool). frameAfter (a .r .0) n m (a .stream .now) (a .frame .now)) (plan-there b long) (marks-there b))) in
+    (left p ∙ ap (restOf (a .stream .now)) (sym many ∙ done .1 .0), (k .if2 .left ∙ done .0, done .1))
 
-pub niranbok-composer-put-spec : {M : Type 1} → statement M
-niranbok-composer-put-spec =
+pub put-spec : {M : Type 1} → statement M
+put-spec =
     tie.close
     (tie.spec
     returns
