@@ -3,18 +3,11 @@ use Rattle.composer.specs.Composing.{Composer}
 use Prim.Native.Nat.{ℕ}
 use mathlib.Core.Path.{_≡_, refl}
 use mathlib.Core.List.{List, [], _∷_, _++_}
-use borrow.Author.Tests.{eq-eqb}
 use lib.ListN.{length}
 use Rattle.counters.specs.Counters.{lastSlot}
 use Rattle.setting_bytes.specs.Words.{wordBytes}
 use Rattle.setting_bytes.specs.Kinds.{kindNumber}
 use Rattle.setting_bytes.proofs.Parts.{Streams, Long}
-use Rattle.composer.specs.States.{composerLength, whole}
-
--- bytes of a state's length are taken as they are
-pub whole-same : (b : List ℕ) → length b ≡ composerLength → whole b ≡ b
-unfolding whole
-whole-same b l = rw (eq-eqb (length b) composerLength l) refl
 
 -- PID, kind, counter and version: the first five bytes
 abbrev pub frontBytes : Composer → List ℕ

@@ -4,7 +4,7 @@ use mathlib.Core.Path.{_≡_}
 use mathlib.Core.Bool.{Bool, cond, not, _&&_}
 use mathlib.Core.List.{List, [], _∷_, _++_, map}
 use lib.Dec.{eqb, ltb}
-use lib.ListN.{length, getD, replicate}
+use lib.ListN.{length, getD}
 use Rattle.slices.specs.Slices.{someAtLeast}
 use Rattle.counters.specs.Counters.{lastSlot, lastStream}
 use Rattle.setting.specs.Setting.{Array, OfItsTypes as SettingOfItsTypes}
@@ -107,7 +107,3 @@ composerOf b =
       setting = settingOf (part settingAt settingLength b);
       filled = marksOf (part filledAt lastSlot b);
     }
-
--- bytes of any other length than a state's count as zeros
-unfoldable pub whole : List ℕ → List ℕ
-whole b = cond (eqb (length b) composerLength) b (replicate composerLength 0)

@@ -4,14 +4,14 @@ ghost use mathlib.Core.Path.{_≡_};
 ghost use lib.ListN.{length};
 ghost use Rattle.setting.specs.Refusal.{firstOf};
 ghost use Rattle.setting.specs.Rules.{ruleChecks};
-ghost use Rattle.setting_bytes.specs.Settings.{settingOf};
+ghost use Rattle.setting_bytes.specs.Settings.{settingLength, settingOf};
 ghost use Rattle.composer.specs.Composing.{openRuleChecks, inTurn, beginRefusal};
 ghost use Rattle.composer.specs.States.{composerLength, composerOf};
 
 // 8 to 11, of the open frame's setting, if a frame is open, and of the new one. The checks go number by number, so of two
 // refusals the smaller is the answer.
 fn both_rules_refusal(state: &[u8], setting: &[u8]) -> u8
-    requires { ⌜ length (now state) ≡ composerLength ⌝ }
+    requires { ⌜ (length (now state) ≡ composerLength) × (length (now setting) ≡ settingLength) ⌝ }
     ensures { λ r. ⌜ r ≡ firstOf (inTurn (openRuleChecks (composerOf (now (state .entry)))) (ruleChecks (composerOf (now (state .entry)) .kind) (settingOf (now (setting .entry))))) ⌝ }
 {
     let old = composer_checks::open_rule_refusal(state);
@@ -29,7 +29,7 @@ fn both_rules_refusal(state: &[u8], setting: &[u8]) -> u8
 }
 
 pub(crate) fn begin_refusal(state: &[u8], setting: &[u8], lent: usize) -> u8
-    requires { ⌜ length (now state) ≡ composerLength ⌝ }
+    requires { ⌜ (length (now state) ≡ composerLength) × (length (now setting) ≡ settingLength) ⌝ }
     ensures { λ r. ⌜ r ≡ beginRefusal (composerOf (now (state .entry))) (settingOf (now (setting .entry))) lent ⌝ }
 {
     if lent != FRAME_BYTES {

@@ -1,23 +1,18 @@
 -- What the checks of a state come to, asked of its bytes one after another. Assumes nothing.
 use Prim.Native.Nat.{ℕ, _≤_, _<_}
-use mathlib.Core.Path.{_≡_, refl, ap, _∙_}
+use mathlib.Core.Path.{_≡_, ap, _∙_}
 use mathlib.Core.Bool.{Bool, true, false, cond, not}
 use mathlib.Core.List.{List, _∷_, _++_}
-use borrow.Author.Tests.{le-leb, lt-leb, eq-eqb, ne-eqb}
+use borrow.Author.Tests.{le-leb, lt-leb}
 use lib.Dec.{leb}
-use lib.ListN.{length, getD, replicate}
+use lib.ListN.{getD}
 use Rattle.setting.specs.Refusal.{Check, firstOf}
 use Rattle.setting.proofs.Refusals.{answers, passed}
 use Rattle.setting.specs.Rules.{pidAllowed, widthChecks}
 use Rattle.setting.specs.Announcing.{announcedChecks}
 use Rattle.setting_bytes.specs.Words.{wordAt}
 use Rattle.composer.specs.Composing.{asked, stateChecks}
-use Rattle.composer.specs.States.{composerLength, isCoded, noCounter, composerOf, whole, counterAt, versionAt}
-
--- bytes of another length are zeros
-pub zeros : (b : List ℕ) → (length b ≡ composerLength → ⊥) → whole b ≡ replicate composerLength 0
-unfolding whole
-zeros b h = rw (ne-eqb (length b) composerLength h) refl
+use Rattle.composer.specs.States.{isCoded, noCounter, composerOf, counterAt, versionAt}
 
 module _ (b : List ℕ) where
   abbrev rows : ℕ

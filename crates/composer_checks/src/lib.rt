@@ -1,4 +1,4 @@
-// What every call checks of a composer's state, read straight from its 390 bytes. Bytes of any other length count as zeros.
+// What every call checks of a composer's state, read straight from its 390 bytes. Any other length is a 1.
 use composer::COMPOSER_BYTES;
 use composer::FILLED;
 use composer::LAST;
@@ -10,11 +10,11 @@ use setting::limits;
 ghost use mathlib.Core.Path.{_≡_};
 ghost use lib.ListN.{length};
 ghost use Rattle.counters.specs.Counters.{lastSlot};
-ghost use Rattle.setting.specs.Refusal.{firstOf};
+ghost use Rattle.setting.specs.Refusal.{firstOf, ofLength};
 ghost use Rattle.setting.specs.Rules.{widthChecks};
 ghost use Rattle.composer.specs.Slots.{someUnplanned};
 ghost use Rattle.composer.specs.Composing.{asked, stateChecks, openRuleChecks, markChecks, openChecks};
-ghost use Rattle.composer.specs.States.{composerLength, marksOf, isCoded, composerOf, whole};
+ghost use Rattle.composer.specs.States.{composerLength, marksOf, isCoded, composerOf};
 
 // Whether bytes code a state, whatever its numbers.
 fn is_coded(bytes: &[u8]) -> bool
@@ -66,20 +66,20 @@ fn long_state_refusal(bytes: &[u8]) -> u8
 
 // 2 and 17: the state's PID and numbers, and, while a frame is open, the fields of its setting.
 pub fn state_refusal(bytes: &[u8]) -> u8
-    ensures { λ r. ⌜ r ≡ firstOf (stateChecks (composerOf (whole (now (bytes .entry))))) ⌝ }
+    ensures { λ r. ⌜ r ≡ ofLength composerLength (length (now (bytes .entry))) (firstOf (stateChecks (composerOf (now (bytes .entry))))) ⌝ }
 {
     if bytes.len() != COMPOSER_BYTES {
-        return 2;
+        return 1;
     }
     long_state_refusal(bytes)
 }
 
 // 8 to 11: while a frame is open, the rules of its setting.
 pub fn open_rule_refusal(bytes: &[u8]) -> u8
-    ensures { λ r. ⌜ r ≡ firstOf (openRuleChecks (composerOf (whole (now (bytes .entry))))) ⌝ }
+    ensures { λ r. ⌜ r ≡ ofLength composerLength (length (now (bytes .entry))) (firstOf (openRuleChecks (composerOf (now (bytes .entry))))) ⌝ }
 {
     if bytes.len() != COMPOSER_BYTES {
-        return 0;
+        return 1;
     }
     if bytes[OPEN] != 1 {
         return 0;
@@ -104,10 +104,10 @@ fn has_unplanned(plan: &[u8], filled: &[u8]) -> bool
 
 // 17: a filled mark on a slot that is planned for no stream.
 pub fn mark_refusal(bytes: &[u8]) -> u8
-    ensures { λ r. ⌜ r ≡ firstOf (markChecks (composerOf (whole (now (bytes .entry))))) ⌝ }
+    ensures { λ r. ⌜ r ≡ ofLength composerLength (length (now (bytes .entry))) (firstOf (markChecks (composerOf (now (bytes .entry))))) ⌝ }
 {
     if bytes.len() != COMPOSER_BYTES {
-        return 0;
+        return 1;
     }
     if bytes[OPEN] != 1 {
         return 0;
@@ -120,10 +120,10 @@ pub fn mark_refusal(bytes: &[u8]) -> u8
 
 // 16, and the checks of an open frame.
 pub fn open_refusal(bytes: &[u8]) -> u8
-    ensures { λ r. ⌜ r ≡ firstOf (openChecks (composerOf (whole (now (bytes .entry))))) ⌝ }
+    ensures { λ r. ⌜ r ≡ ofLength composerLength (length (now (bytes .entry))) (firstOf (openChecks (composerOf (now (bytes .entry))))) ⌝ }
 {
     if bytes.len() != COMPOSER_BYTES {
-        return 16;
+        return 1;
     }
     if bytes[OPEN] != 1 {
         return 16;

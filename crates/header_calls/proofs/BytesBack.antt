@@ -36,7 +36,10 @@ bytes-back pid kind setting packet buffer m p l =
     let is : writeMemory packet pid kind setting ≡ written (kindOf kind) pid s packet = rw call in
     let long : length (written (kindOf kind) pid s packet) ≡ headerLength = rw (w .0) (length-header (kindOf kind) pid s) in
     let again = right-call pid kind (length (written (kindOf kind) pid s packet)) (length buffer) setting m long l in
-    let refusal : readRefused (written (kindOf kind) pid s packet) pid kind buffer ≡ 0 = rw (again, w .1) in
-    (rw (call, w .0) refl,
-    (ap (λ (x : List ℕ). readRefused x pid kind buffer) is ∙ refusal,
-    ap (λ (x : List ℕ). readMemory x pid kind buffer) is ∙ rw (refusal, w .1) (setting-same setting (m .long) (m .bytes))))
+    let refusal : readRefused (written (kindOf kind) pid s packet) pid kind buffer ≡ 0 = rw (again, w .1) in (
+      rw (call, w .0) refl,
+      (
+        ap (λ (x : List ℕ). readRefused x pid kind buffer) is ∙ refusal,
+        ap (λ (x : List ℕ). readMemory x pid kind buffer) is ∙ rw (refusal, w .1) (setting-same setting (m .long) (m .bytes)),
+      ),
+    )

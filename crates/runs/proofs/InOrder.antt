@@ -82,9 +82,10 @@ begun-obeys c s lent e =
     numbered-append (stateChecks c) behind (state-numbered c)
     (numbered-append (widthChecks (c .kind) s) (rules ++ markChecks c) (width-numbered (c .kind) s)
     (numbered-append rules (markChecks c) (in-turn-numbered (openRuleChecks c) (ruleChecks (c .kind) s) (open-rules-numbered c) (rules-numbered (c .kind) s)) (mark-numbered c))) in
-    let h = none-behind (stateChecks c) (none-drop (none-first (lengthCheck lent ∷ (stateChecks c ++ behind)) all-numbered e) 1) in
-    (none-before (widthChecks (c .kind) s) (rules ++ markChecks c) h,
-    in-turn-second (openRuleChecks c) (ruleChecks (c .kind) s) (none-before rules (markChecks c) (none-behind (widthChecks (c .kind) s) h)))
+    let h = none-behind (stateChecks c) (none-drop (none-first (lengthCheck lent ∷ (stateChecks c ++ behind)) all-numbered e) 1) in (
+      none-before (widthChecks (c .kind) s) (rules ++ markChecks c) h,
+      in-turn-second (openRuleChecks c) (ruleChecks (c .kind) s) (none-before rules (markChecks c) (none-behind (widthChecks (c .kind) s) h)),
+    )
 
 begin-facts : (w : Run) (buffer : List ℕ) (s : Setting) → refusalOf w (begin buffer s) ≡ 0
     → NoneHolds (widthChecks (w .state .kind) s) × NoneHolds (ruleChecks (w .state .kind) s)

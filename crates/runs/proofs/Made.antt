@@ -322,7 +322,8 @@ module _ (kind : Kind) (pid : ℕ) (allowed : pidAllowed pid ≡ true) where
   frames-alike m w k [] a none = (refl, none)
   frames-alike m w k (c ∷ cs) a (more f fs) =
       let test = ℕ-discrete (refusalOf w (valued c)) 0 in
-      let later = frames-alike (afterCall m c) (after w (valued c)) (workAfter w k (valued c)) cs (alike-after kind pid m w k c f a) fs in
-      (map-append (λ f. f .frame) (closedIn m c) (closedFrames (afterCall m c) cs)
-      ∙ ap₂ (λ (x y : List (List ℕ)). x ++ y) (closed-alike kind pid allowed m w k a c test) (later .0),
-      each-join (closed-true kind pid allowed m w k a c test) (later .1))
+      let later = frames-alike (afterCall m c) (after w (valued c)) (workAfter w k (valued c)) cs (alike-after kind pid m w k c f a) fs in (
+        map-append (λ f. f .frame) (closedIn m c) (closedFrames (afterCall m c) cs)
+            ∙ ap₂ (λ (x y : List (List ℕ)). x ++ y) (closed-alike kind pid allowed m w k a c test) (later .0),
+        each-join (closed-true kind pid allowed m w k a c test) (later .1),
+      )

@@ -206,7 +206,8 @@ unfolding WithRoom
 room-always kind pid r b w t buffers large [] = tt
 room-always kind pid r b w t buffers large (p ∷ ps) =
     let next = tuned-heard kind pid b w t p in
-    let most = for-at-most r (afterPacket w p .state .before) in
-    ((λ _. subst (λ (l : List ℕ). packetLength * slotsFor r l ≤ length (buffers 0)) (sym (before-is kind pid (heard b p) (afterPacket w p) next))
-    (omega (arith, most, next .set .before-long, large 0))),
-    room-always kind pid r (heard b p) (afterPacket w p) next (λ n. buffers (suc n)) (λ n. large (suc n)) ps)
+    let most = for-at-most r (afterPacket w p .state .before) in (
+      (λ _. subst (λ (l : List ℕ). packetLength * slotsFor r l ≤ length (buffers 0)) (sym (before-is kind pid (heard b p) (afterPacket w p) next))
+          (omega (arith, most, next .set .before-long, large 0))),
+      room-always kind pid r (heard b p) (afterPacket w p) next (λ n. buffers (suc n)) (λ n. large (suc n)) ps,
+    )

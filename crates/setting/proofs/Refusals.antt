@@ -6,9 +6,9 @@ use mathlib.Core.List.{List, [], _∷_, _++_}
 use native.Mathlib.Omega.{arith}
 use lib.Dec.{leb}
 use lib.ListN.{getD, drop}
-use borrow.Author.Tests.{leb-true, ne-eqb}
+use borrow.Author.Tests.{leb-true, ne-eqb, eq-eqb}
 use Rattle.slices.proofs.Any.{both}
-use Rattle.setting.specs.Refusal.{Check, firstOf, NoneHolds, none, more, leaves}
+use Rattle.setting.specs.Refusal.{Check, firstOf, NoneHolds, none, more, leaves, ofLength}
 
 -- ---- one check
 
@@ -25,6 +25,16 @@ passed n cs e = rw e
 -- the answer is that of the checks behind the first k, which do not hold
 abbrev pub Past : ℕ → List Check → Type 0
 Past k cs = firstOf cs ≡ firstOf (drop k cs)
+
+-- ---- a fixed length
+
+pub at-length : (fixed lent refusal : ℕ) → lent ≡ fixed → ofLength fixed lent refusal ≡ refusal
+unfolding ofLength
+at-length fixed lent refusal l = rw (eq-eqb lent fixed l)
+
+pub off-length : (fixed lent refusal : ℕ) → (lent ≡ fixed → ⊥) → ofLength fixed lent refusal ≡ 1
+unfolding ofLength
+off-length fixed lent refusal d = rw (ne-eqb lent fixed d)
 
 -- ---- none
 

@@ -19,6 +19,10 @@ pub data NoneHolds : List Check → Type 0 where
   none : NoneHolds []
   more : {n : ℕ} {b : Bool} {cs : List Check} → b ≡ false → NoneHolds cs → NoneHolds ((n, b) ∷ cs)
 
+-- what is answered of bytes that have to be of a fixed length: 1 for another length, else the refusal
+unfoldable pub ofLength : ℕ → ℕ → ℕ → ℕ
+ofLength fixed lent refusal = cond (eqb lent fixed) refusal 1
+
 -- what a call leaves of lent memory: something new where it is not refused, else what was there
 unfoldable pub leaves : ℕ → List ℕ → List ℕ → List ℕ
 leaves refusal new old = cond (eqb refusal 0) new old

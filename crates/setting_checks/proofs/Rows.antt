@@ -4,15 +4,15 @@ use mathlib.Core.Path.{_≡_, refl, ap, _∙_}
 use mathlib.Core.Bool.{not}
 use mathlib.Core.List.{List, [], _∷_, _++_}
 use native.Mathlib.Omega.{arith}
-use borrow.Author.Tests.{eq-eqb, ne-eqb}
+use borrow.Author.Tests.{eq-eqb}
 use lib.Dec.{leb, eqb}
 use lib.ListN.{length, getD, take, drop}
 use lib.Seq.{take-take, drop-drop, getD-take, getD-drop}
-use Rattle.slices.specs.Slices.{anyBelow, someAtLeast}
+use Rattle.slices.specs.Slices.{someAtLeast}
 use Rattle.counters.specs.Counters.{lastSlot, lastStream, within}
 use Rattle.setting.specs.declared.Kind.{Kind}
-use Rattle.setting.specs.Setting.{privateBytes, auxiliaryBytes, blank}
-use Rattle.setting.specs.Refusal.{Check, firstOf}
+use Rattle.setting.specs.Setting.{privateBytes, auxiliaryBytes}
+use Rattle.setting.specs.Refusal.{Check}
 use Rattle.setting.specs.Rules.{byKind, absentChecks, informationChecks, widthChecks, someUnavailable, pairTwice, bondingChecks, ruleChecks}
 use Rattle.setting.specs.Announcing.{announced, announcedChecks}
 use Rattle.setting_bytes.specs.Words.{wordAt, wordsOf}
@@ -44,11 +44,6 @@ pub announced-in : (b : List ℕ) → length b ≡ announcedLength
 unfolding announcedChecks announcedOf
 announced-in b whole = rw (eq-eqb (length b) announcedLength whole) refl
 
--- zeros fit
-pub announced-of-zeros : (b : List ℕ) → (length b ≡ announcedLength → ⊥) → firstOf (announcedChecks (announcedOf b)) ≡ 0
-unfolding firstOf announcedChecks announcedOf announced blank someAtLeast anyBelow
-announced-of-zeros b h = rw (ne-eqb (length b) announcedLength h)
-
 -- a setting: the rows behind what is announced, and all
 abbrev pub restIn : Kind → List ℕ → List Check
 restIn kind b =
@@ -63,11 +58,6 @@ widthsIn kind b =
 pub widths-in : (kind : Kind) (b : List ℕ) → length b ≡ settingLength → widthChecks kind (settingOf b) ≡ widthsIn kind b
 unfolding widthChecks settingOf announcedChecks
 widths-in kind b whole = rw (eq-eqb (length b) settingLength whole) refl
-
-pub widths-of-zeros : (kind : Kind) (b : List ℕ) → (length b ≡ settingLength → ⊥) → firstOf (widthChecks kind (settingOf b)) ≡ 0
-unfolding firstOf widthChecks absentChecks settingOf blank someAtLeast anyBelow
-widths-of-zeros Kind.Plain b h = rw (ne-eqb (length b) settingLength h)
-widths-of-zeros Kind.Extended b h = rw (ne-eqb (length b) settingLength h)
 
 -- ---- 8 to 11
 
@@ -95,9 +85,3 @@ rules-in kind b whole =
       part-of-part announcedAt tsIdAt (2 * lastStream) announcedLength b (omega arith),
       part-of-part announcedAt networkIdAt (2 * lastStream) announcedLength b (omega arith),
     ) refl
-
--- zeros have no frame type
-pub rules-of-zeros : (kind : Kind) (b : List ℕ) → (length b ≡ settingLength → ⊥) → firstOf (ruleChecks kind (settingOf b)) ≡ 8
-unfolding firstOf ruleChecks settingOf blank
-rules-of-zeros Kind.Plain b h = rw (ne-eqb (length b) settingLength h)
-rules-of-zeros Kind.Extended b h = rw (ne-eqb (length b) settingLength h)

@@ -19,10 +19,11 @@ use setting_bytes::SEQUENCE;
 use setting_bytes::SETTING_BYTES;
 use setting_bytes::TS_ID;
 ghost use mathlib.Core.Path.{_≡_};
-ghost use Rattle.setting.specs.Refusal.{firstOf};
+ghost use lib.ListN.{length};
+ghost use Rattle.setting.specs.Refusal.{firstOf, ofLength};
 ghost use Rattle.setting.specs.Rules.{widthChecks, ruleChecks};
 ghost use Rattle.setting.specs.Announcing.{announcedChecks};
-ghost use Rattle.setting_bytes.specs.Settings.{announcedOf, settingOf};
+ghost use Rattle.setting_bytes.specs.Settings.{announcedLength, settingLength, announcedOf, settingOf};
 
 // Where what is announced stands in a setting.
 const FRAME_TYPE: usize = ANNOUNCED + setting_bytes::FRAME_TYPE;
@@ -37,12 +38,12 @@ const NETWORK_IDS: usize = ANNOUNCED + ORIGINAL_NETWORK_ID;
 
 const STATUSES: usize = ANNOUNCED + RECEIVE_STATUS;
 
-// 17 of what a header announced. Bytes of another length than 80 count as zeros, which fit.
+// 17 of what a header announced, and 1 where it is not 80 bytes.
 pub fn announced_refusal(bytes: &[u8]) -> u8
-    ensures { λ r. ⌜ r ≡ firstOf (announcedChecks (announcedOf (now (bytes .entry)))) ⌝ }
+    ensures { λ r. ⌜ r ≡ ofLength announcedLength (length (now (bytes .entry))) (firstOf (announcedChecks (announcedOf (now (bytes .entry))))) ⌝ }
 {
     if bytes.len() != ANNOUNCED_BYTES {
-        return 0;
+        return 1;
     }
     setting_widths::information_refusal(
         bytes[0],
@@ -53,12 +54,12 @@ pub fn announced_refusal(bytes: &[u8]) -> u8
     )
 }
 
-// 17 of a setting. Bytes of another length than 252 count as zeros, which fit.
+// 17 of a setting, and 1 where it is not 252 bytes.
 pub fn width_refusal(kind: Kind, bytes: &[u8]) -> u8
-    ensures { λ r. ⌜ r ≡ firstOf (widthChecks kind (settingOf (now (bytes .entry)))) ⌝ }
+    ensures { λ r. ⌜ r ≡ ofLength settingLength (length (now (bytes .entry))) (firstOf (widthChecks kind (settingOf (now (bytes .entry))))) ⌝ }
 {
     if bytes.len() != SETTING_BYTES {
-        return 0;
+        return 1;
     }
     if limits::COUNTERS <= bytes[0] {
         return 17;
@@ -85,12 +86,12 @@ pub fn width_refusal(kind: Kind, bytes: &[u8]) -> u8
     )
 }
 
-// 8 to 11 of a setting. Bytes of another length than 252 count as zeros, which have no frame type.
+// 8 to 11 of a setting, and 1 where it is not 252 bytes.
 pub fn rule_refusal(kind: Kind, bytes: &[u8]) -> u8
-    ensures { λ r. ⌜ r ≡ firstOf (ruleChecks kind (settingOf (now (bytes .entry)))) ⌝ }
+    ensures { λ r. ⌜ r ≡ ofLength settingLength (length (now (bytes .entry))) (firstOf (ruleChecks kind (settingOf (now (bytes .entry))))) ⌝ }
 {
     if bytes.len() != SETTING_BYTES {
-        return 8;
+        return 1;
     }
     if !setting_rules::frame_type_allowed(kind, bytes[FRAME_TYPE]) {
         return 8;

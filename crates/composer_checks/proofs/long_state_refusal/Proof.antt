@@ -2,11 +2,16 @@ use mathlib.Core.Path.{_≡_, sym, ap, _∙_}
 use mathlib.Core.Bool.{true}
 use borrow.Author.Needs.{needs}
 use borrow.Author.Tests.{not-true, not-false}
-use Rattle.setting.proofs.Refusals.{onward, at-once}
+use native.Mathlib.Omega.{arith}
+use Rattle.setting_bytes.specs.Settings.{announcedLength}
+use Rattle.setting.specs.Announcing.{announcedChecks}
+use Rattle.setting.specs.Refusal.{firstOf}
+use Rattle.setting_bytes.proofs.Parts.{length-part}
+use Rattle.setting.proofs.Refusals.{onward, at-once, at-length}
 use Rattle.setting.specs.Rules.{pidAllowed}
 use Rattle.setting_bytes.specs.Words.{wordAt}
 use Rattle.composer.proofs.Refusals.{announced-none}
-use Rattle.composer.specs.States.{isCoded, composerOf}
+use Rattle.composer.specs.States.{isCoded, composerOf, lastAt}
 use Rattle.composer_checks.proofs.Rows.{at-pid, at-coding, at-counter, at-version, behind-numbers}
 use Rattle.composer_checks.proofs.long_state_refusal.Statement.{statement}
 use Rattle.composer_checks.proofs.long_state_refusal.Tie as tie
@@ -32,6 +37,13 @@ coded c = sym (c .before .is-coded .ensures) ∙ not-false _ (c .if2 .left)
 
 abbrev two : tie.Else4 → tie.Else2
 two c = c .before .before .before .before
+
+-- what the last header announced, as the state says it
+told : (c : tie.After-announced-refusal) → let b = start₁ (one (two (c .before .before))) .args .bytes .now in c .announced-refusal .result ≡ firstOf (announcedChecks (composerOf b .last))
+unfolding composerOf
+told c =
+    let s = start₁ (one (two (c .before .before))) in
+    c .announced-refusal .ensures ∙ at-length _ _ _ (length-part lastAt announcedLength (s .args .bytes .now) (omega (arith, s .pre)))
 
 shared-slice-read-word : tie.Need-shared-slice-read-word
 shared-slice-read-word c = search needs
@@ -88,7 +100,7 @@ returns-5 : tie.Need-returns-5
 unfolding composerOf
 returns-5 c =
     let k = two (c .before .before .before) in
-    let n = c .before .announced-refusal .ensures in
+    let n = told (c .before) in
     n ∙ sym (behind-numbers (start₁ (one k) .args .bytes .now) (pid (one k)) (coded k) (c .before .before .before .before .before .if3 .left) (c .before .before .before .if4 .left)
     ∙ at-once _ _ (λ z. c .if5 .taken (n ∙ z)))
 
@@ -100,7 +112,7 @@ unfolding composerOf
 returns-6 c =
     let four = c .before .before .before .before in
     let k = two four in
-    let n = c .before .before .announced-refusal .ensures in
+    let n = told (c .before .before) in
     c .open-width-refusal .ensures
     ∙ sym (behind-numbers (start₁ (one k) .args .bytes .now) (pid (one k)) (coded k) (four .before .before .if3 .left) (four .if4 .left)
     ∙ onward _ (announced-none _ (sym n ∙ c .before .if5 .left)))

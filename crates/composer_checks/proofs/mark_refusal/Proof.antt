@@ -1,16 +1,13 @@
-use mathlib.Core.Path.{_≡_, refl, sym, ap, _∙_}
+use mathlib.Core.Path.{_≡_, refl, sym, _∙_}
 use mathlib.Core.Bool.{Bool}
-use mathlib.Core.List.{List}
-use Prim.Native.Nat.{ℕ}
 use borrow.Author.Needs.{needs}
 use borrow.Author.Tests.{eq-eqb, ne-eqb}
+use Rattle.setting.proofs.Refusals.{at-length, off-length}
 use Rattle.setting.specs.Refusal.{firstOf}
 use Rattle.composer.specs.Slots.{someUnplanned}
 use Rattle.composer.specs.Composing.{markChecks}
 use Rattle.composer.specs.States.{composerOf}
-use Rattle.composer.proofs.Parts.{whole-same}
 use Rattle.composer.proofs.There.{plan-there}
-use Rattle.composer_checks.proofs.Rows.{zeros}
 use Rattle.composer_checks.proofs.mark_refusal.Statement.{statement}
 use Rattle.composer_checks.proofs.mark_refusal.Tie as tie
 
@@ -27,15 +24,17 @@ told c e =
     rw (plan-there b (c .before .before .before .before .before .if1 .left)) (sym (c .has-unplanned .ensures) ∙ e)
 
 returns : tie.Need-returns
-unfolding markChecks firstOf composerOf
-returns c = rw (zeros (c .before .before .args .bytes .now) (c .if1 .taken)) refl
+returns c = sym (off-length _ _ _ (c .if1 .taken))
 
 shared-slice-read-if2 : tie.Need-shared-slice-read-if2
 shared-slice-read-if2 c = search needs
 
 returns-2 : tie.Need-returns-2
 unfolding markChecks firstOf composerOf
-returns-2 c = rw (whole-same (c .before .before .before .before .args .bytes .now) (c .before .before .if1 .left), ne-eqb _ _ (c .if2 .taken)) refl
+returns-2 c =
+    let b = c .before .before .before .before .args .bytes .now in
+    let none : firstOf (markChecks (composerOf b)) ≡ 0 = rw (ne-eqb _ _ (c .if2 .taken)) refl in
+    sym (at-length _ _ _ (c .before .before .if1 .left) ∙ none)
 
 add-has-unplanned : tie.Need-add-has-unplanned
 add-has-unplanned c = search needs
@@ -65,13 +64,15 @@ returns-3 : tie.Need-returns-3
 unfolding markChecks firstOf composerOf
 returns-3 c =
     let two = c .before .before .before .before in
-    rw (whole-same (start (c .before) .args .bytes .now) (two .before .before .if1 .left), eq-eqb _ _ (two .if2 .left), told (c .before) (c .if3 .taken)) refl
+    let one : firstOf (markChecks (composerOf (start (c .before) .args .bytes .now))) ≡ 17 = rw (eq-eqb _ _ (two .if2 .left), told (c .before) (c .if3 .taken)) refl in
+    sym (at-length _ _ _ (two .before .before .if1 .left) ∙ one)
 
 returns-4 : tie.Need-returns-4
 unfolding markChecks firstOf composerOf
 returns-4 c =
     let two = c .before .before .before .before in
-    rw (whole-same (start (c .before) .args .bytes .now) (two .before .before .if1 .left), eq-eqb _ _ (two .if2 .left), told (c .before) (c .if3 .left)) refl
+    let none : firstOf (markChecks (composerOf (start (c .before) .args .bytes .now))) ≡ 0 = rw (eq-eqb _ _ (two .if2 .left), told (c .before) (c .if3 .left)) refl in
+    sym (at-length _ _ _ (two .before .before .if1 .left) ∙ none)
 
 pub mark-refusal-spec : {M : Type 1} → statement M
 mark-refusal-spec =

@@ -2,6 +2,9 @@ use Prim.Native.Nat.{ℕ}
 use mathlib.Core.Path.{sym, ap, _∙_}
 use borrow.Author.Needs.{needs}
 use borrow.Author.Tests.{eq-eqb, ne-eqb}
+use native.Mathlib.Omega.{arith}
+use Rattle.setting_bytes.proofs.Parts.{length-part}
+use Rattle.setting.proofs.Refusals.{at-length}
 use Rattle.setting.specs.declared.Kind.{Kind}
 use Rattle.setting.specs.Refusal.{firstOf}
 use Rattle.setting.specs.Rules.{widthChecks}
@@ -40,7 +43,8 @@ returns-2 : tie.Need-returns-2
 unfolding composerOf
 returns-2 c =
     let b = c .before .before .before .before .before .before .before .args .bytes .now in
-    c .width-refusal .ensures ∙ ap (λ (k : Kind). firstOf (widthChecks k (settingOf (part settingAt settingLength b)))) (c .before .before .kind-of .ensures)
+    c .width-refusal .ensures ∙ at-length _ _ _ (length-part settingAt settingLength b (omega (arith, c .before .before .before .before .before .before .before .pre)))
+    ∙ ap (λ (k : Kind). firstOf (widthChecks k (settingOf (part settingAt settingLength b)))) (c .before .before .kind-of .ensures)
     ∙ sym (asked-all _ (eq-eqb _ _ (c .before .before .before .before .if1 .left)))
 
 pub open-width-refusal-spec : {M : Type 1} → statement M

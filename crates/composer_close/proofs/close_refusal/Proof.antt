@@ -1,16 +1,14 @@
 -- `close_refusal` meets its contract. Assumes nothing.
-use Prim.Native.Nat.{ℕ}
 use mathlib.Core.Path.{_≡_, sym, ap, _∙_}
 use mathlib.Core.Bool.{not}
-use mathlib.Core.List.{List, _++_}
+use mathlib.Core.List.{_++_}
 use borrow.Author.Needs.{needs}
 use borrow.Author.Tests.{eq-eqb, ne-eqb}
 use Rattle.setting.specs.Refusal.{firstOf}
-use Rattle.setting.proofs.Refusals.{answers, passed, onward, at-once}
+use Rattle.setting.proofs.Refusals.{answers, passed, onward, at-once, at-length}
 use Rattle.composer.specs.Composing.{Composer, stateChecks, openChecks, closeRefusal}
 use Rattle.composer.proofs.Refusals.{state-none}
 use Rattle.composer.specs.States.{composerOf}
-use Rattle.composer.proofs.Parts.{whole-same}
 use Rattle.composer_close.proofs.close_refusal.Statement.{statement}
 use Rattle.composer_close.proofs.close_refusal.Tie as tie
 
@@ -28,7 +26,7 @@ past c = passed _ _ (ap not (eq-eqb _ _ (c .if1 .left)))
 stated : (c : tie.After-state-refusal) → c .state-refusal .result ≡ firstOf (stateChecks (run (start (c .before))))
 stated c =
     let s = start (c .before) in
-    c .state-refusal .ensures ∙ ap (λ (b : List ℕ). firstOf (stateChecks (composerOf b))) (whole-same (s .args .state .now) (s .pre))
+    c .state-refusal .ensures ∙ at-length _ _ _ (s .pre)
 
 returns : tie.Need-returns
 unfolding closeRefusal
@@ -51,7 +49,7 @@ returns-3 c =
     let s = start (c .before .before .before) in
     let n = stated (c .before .before) in
     c .open-refusal .ensures
-    ∙ ap (λ (b : List ℕ). firstOf (openChecks (composerOf b))) (whole-same (s .args .state .now) (s .pre))
+    ∙ at-length _ _ _ (s .pre)
     ∙ sym (past (c .before .before .before) ∙ onward (openChecks (run s)) (state-none (run s) (sym n ∙ c .before .if2 .left)))
 
 pub close-refusal-spec : {M : Type 1} → statement M

@@ -1,13 +1,14 @@
 -- `announced_refusal` meets its contract. Assumes nothing.
 use mathlib.Core.Path.{sym, ap, _∙_}
 use borrow.Author.Needs.{needs}
+use Rattle.setting.proofs.Refusals.{at-length, off-length}
 use Rattle.setting.specs.Refusal.{firstOf}
-use Rattle.setting_checks.proofs.Rows.{announced-in, announced-of-zeros}
+use Rattle.setting_checks.proofs.Rows.{announced-in}
 use Rattle.setting_checks.proofs.announced_refusal.Statement.{statement}
 use Rattle.setting_checks.proofs.announced_refusal.Tie as tie
 
 returns : tie.Need-returns
-returns c = sym (announced-of-zeros _ (c .if1 .taken))
+returns c = sym (off-length _ _ _ (c .if1 .taken))
 
 shared-slice-read-information-refusal : tie.Need-shared-slice-read-information-refusal
 shared-slice-read-information-refusal c = search needs
@@ -40,7 +41,10 @@ information-refusal-requires : tie.Need-information-refusal-requires
 information-refusal-requires c κs = search needs
 
 returns-2 : tie.Need-returns-2
-returns-2 c = c .information-refusal .ensures ∙ rw (c .before .before .before .word .ensures) (sym (ap firstOf (announced-in (c .before .before .before .before .before .before .before .before .before .before .args .bytes .now) (c .before .before .before .before .before .before .before .before .if1 .left))))
+returns-2 c =
+    let whole = c .before .before .before .before .before .before .before .before in
+    let b = whole .before .before .args .bytes .now in
+    c .information-refusal .ensures ∙ rw (c .before .before .before .word .ensures) (sym (ap firstOf (announced-in b (whole .if1 .left)))) ∙ sym (at-length _ _ _ (whole .if1 .left))
 
 pub announced-refusal-spec : {M : Type 1} → statement M
 announced-refusal-spec =

@@ -5,16 +5,16 @@ use mathlib.Core.Bool.{not}
 use mathlib.Core.List.{List}
 use native.Mathlib.Omega.{arith}
 use borrow.Author.Needs.{needs}
-use lib.ListN.{replicate}
+use lib.ListN.{replicate, length}
 use Rattle.counters.specs.Counters.{lastSlot, lastStream}
-use Rattle.setting.specs.Refusal.{Check, firstOf}
+use Rattle.setting.specs.Refusal.{Check, firstOf, ofLength}
 use Rattle.setting.specs.Rules.{someUnavailable, pairTwice, ruleChecks}
 use Rattle.setting_bytes.specs.Words.{wordAt, wordsOf}
-use Rattle.setting_bytes.specs.Settings.{part, availabilityAt, tsIdAt, networkIdAt, numbersAt, settingOf}
-use Rattle.setting.proofs.Refusals.{Past, answers, passed}
+use Rattle.setting_bytes.specs.Settings.{part, availabilityAt, tsIdAt, networkIdAt, numbersAt, settingOf, settingLength}
+use Rattle.setting.proofs.Refusals.{Past, answers, passed, at-length, off-length}
 use Rattle.setting_bytes.proofs.Numbers.{all-read}
 use Rattle.setting_bytes.proofs.Parts.{length-part}
-use Rattle.setting_checks.proofs.Rows.{inSetting, rulesIn, rules-in, rules-of-zeros}
+use Rattle.setting_checks.proofs.Rows.{inSetting, rulesIn, rules-in}
 use Rattle.setting_checks.proofs.rule_refusal.Statement.{statement}
 use Rattle.setting_checks.proofs.rule_refusal.Tie as tie
 
@@ -22,8 +22,8 @@ use Rattle.setting_checks.proofs.rule_refusal.Tie as tie
 abbrev rows : tie.Start → List Check
 rows c = rulesIn (c .args .kind) (c .args .bytes .now)
 
-told : (c : tie.Else1) → let s = c .before .before .args in firstOf (ruleChecks (s .kind) (settingOf (s .bytes .now))) ≡ firstOf (rows (c .before .before))
-told c = let s = c .before .before .args in ap firstOf (rules-in (s .kind) (s .bytes .now) (c .if1 .left))
+told : (c : tie.Else1) → let s = c .before .before .args in ofLength settingLength (length (s .bytes .now)) (firstOf (ruleChecks (s .kind) (settingOf (s .bytes .now)))) ≡ firstOf (rows (c .before .before))
+told c = let s = c .before .before .args in at-length _ _ _ (c .if1 .left) ∙ ap firstOf (rules-in (s .kind) (s .bytes .now) (c .if1 .left))
 
 past-1 : (c : tie.Else2) → Past 1 (rows (c .before .before .before .before .before))
 past-1 c = passed _ _ (ap not (sym (c .before .frame-type-allowed .ensures)) ∙ c .if2 .left)
@@ -49,7 +49,7 @@ past-3 : (c : tie.Else4) → Past 3 (rows (c .before .before .before .before .be
 past-3 c = past-2 (c .before .before .before .before .before .before .before .before .before .before .before .before) ∙ passed _ _ (sym (twice (c .before)) ∙ c .if4 .left)
 
 returns : tie.Need-returns
-returns c = sym (rules-of-zeros (c .before .before .args .kind) _ (c .if1 .taken))
+returns c = sym (off-length _ _ _ (c .if1 .taken))
 
 shared-slice-read-frame-type-allowed : tie.Need-shared-slice-read-frame-type-allowed
 shared-slice-read-frame-type-allowed c = search needs

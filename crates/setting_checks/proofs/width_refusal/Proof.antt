@@ -3,12 +3,15 @@ use mathlib.Core.Path.{_≡_, refl, sym, ap, _∙_}
 use mathlib.Core.List.{List}
 use borrow.Author.Needs.{needs}
 use borrow.Author.Tests.{le-leb, lt-leb}
-use Rattle.setting.specs.Refusal.{Check, firstOf}
+use lib.ListN.{length}
+use native.Mathlib.Omega.{arith}
+use Rattle.setting_bytes.proofs.Parts.{length-part}
+use Rattle.setting.specs.Refusal.{Check, firstOf, ofLength}
 use Rattle.setting.specs.Rules.{widthChecks}
 use Rattle.setting.specs.Announcing.{announcedChecks}
-use Rattle.setting_bytes.specs.Settings.{part, announcedLength, announcedOf, announcedAt, settingOf}
-use Rattle.setting.proofs.Refusals.{Past, answers, passed, none-first, onward, at-once}
-use Rattle.setting_checks.proofs.Rows.{restIn, widthsIn, widths-in, widths-of-zeros}
+use Rattle.setting_bytes.specs.Settings.{part, announcedLength, announcedOf, announcedAt, settingLength, settingOf}
+use Rattle.setting.proofs.Refusals.{Past, answers, passed, none-first, onward, at-once, at-length, off-length}
+use Rattle.setting_checks.proofs.Rows.{restIn, widthsIn, widths-in}
 use Rattle.setting_checks.proofs.width_refusal.Statement.{statement}
 use Rattle.setting_checks.proofs.width_refusal.Tie as tie
 
@@ -22,8 +25,8 @@ shown c = announcedChecks (announcedOf (part announcedAt announcedLength (c .arg
 abbrev rest : tie.Start → List Check
 rest c = restIn (c .args .kind) (c .args .bytes .now)
 
-told : (c : tie.Else1) → let s = c .before .before .args in firstOf (widthChecks (s .kind) (settingOf (s .bytes .now))) ≡ firstOf (rows (c .before .before))
-told c = let s = c .before .before .args in ap firstOf (widths-in (s .kind) (s .bytes .now) (c .if1 .left))
+told : (c : tie.Else1) → let s = c .before .before .args in ofLength settingLength (length (s .bytes .now)) (firstOf (widthChecks (s .kind) (settingOf (s .bytes .now)))) ≡ firstOf (rows (c .before .before))
+told c = let s = c .before .before .args in at-length _ _ _ (c .if1 .left) ∙ ap firstOf (widths-in (s .kind) (s .bytes .now) (c .if1 .left))
 
 past-1 : (c : tie.Else2) → Past 1 (rows (c .before .before .before .before))
 past-1 c = passed _ _ (lt-leb _ _ (c .if2 .left))
@@ -32,14 +35,17 @@ past-2 : (c : tie.Else3) → Past 2 (rows (c .before .before .before .before .be
 past-2 c = past-1 (c .before .before) ∙ passed _ _ (lt-leb _ _ (c .if3 .left))
 
 asked : (c : tie.After-announced-refusal) → c .announced-refusal .result ≡ firstOf (shown (c .before .before .before .before .before .before .before .before))
-asked c = c .announced-refusal .ensures
+asked c =
+    let b = c .before .before .before .before .before .before .before .before .args .bytes .now in
+    let long = c .before .before .before .before .before .before .if1 .left in
+    c .announced-refusal .ensures ∙ at-length _ _ _ (length-part announcedAt announcedLength b (omega (arith, long)))
 
 past-shown : (c : tie.Else4) → firstOf (rows (c .before .before .before .before .before .before .before .before .before)) ≡ firstOf (rest (c .before .before .before .before .before .before .before .before .before))
 unfolding announcedChecks
 past-shown c = past-2 (c .before .before .before) ∙ onward (rest (c .before .before .before .before .before .before .before .before .before)) (none-first (shown (c .before .before .before .before .before .before .before .before .before)) refl (sym (asked (c .before)) ∙ c .if4 .left))
 
 returns : tie.Need-returns
-returns c = sym (widths-of-zeros (c .before .before .args .kind) _ (c .if1 .taken))
+returns c = sym (off-length _ _ _ (c .if1 .taken))
 
 shared-slice-read-if2 : tie.Need-shared-slice-read-if2
 shared-slice-read-if2 c = search needs

@@ -8,13 +8,12 @@ use Rattle.setting.specs.declared.Kind.{Kind}
 use Rattle.setting.specs.declared.Setting.{Setting}
 use Rattle.setting.specs.Refusal.{Check, firstOf}
 use Rattle.setting.specs.Rules.{widthChecks, ruleChecks}
-use Rattle.setting.proofs.Refusals.{answers, passed, onward, at-once}
+use Rattle.setting.proofs.Refusals.{answers, passed, onward, at-once, at-length}
 use Rattle.setting.proofs.Checked.{width-none}
 use Rattle.composer.specs.Composing.{Composer, stateChecks, openRuleChecks, markChecks, inTurn, beginRefusal}
 use Rattle.composer.proofs.Refusals.{state-none}
 use Rattle.setting_bytes.specs.Settings.{settingOf}
 use Rattle.composer.specs.States.{composerOf}
-use Rattle.composer.proofs.Parts.{whole-same}
 use Rattle.composer.proofs.There.{kind-there}
 use Rattle.composer_begin.proofs.Turns.{both-rules-none}
 use Rattle.composer_begin.proofs.checks.begin_refusal.Statement.{statement}
@@ -59,12 +58,12 @@ marks c = markChecks (run c)
 -- what is asked of the bytes
 state-told : (c : tie.After-state-refusal) → c .state-refusal .result ≡ firstOf (states (start₁ (c .before)))
 state-told c =
-    c .state-refusal .ensures ∙ ap (λ (b : List ℕ). firstOf (stateChecks (composerOf b))) (whole-same (start₁ (c .before) .args .state .now) (start₁ (c .before) .pre))
+    c .state-refusal .ensures ∙ at-length _ _ _ (start₁ (c .before) .pre .0)
 
 width-told : (c : tie.After-width-refusal) → c .width-refusal .result ≡ firstOf (widths (start₂ (c .before .before .before)))
 width-told c =
     let start = start₂ (c .before .before .before) in
-    c .width-refusal .ensures ∙ ap (λ (k : Kind). firstOf (widthChecks k (new start))) (c .before .kind-of .ensures ∙ sym (kind-there (start .args .state .now)))
+    c .width-refusal .ensures ∙ at-length _ _ _ (start .pre .1) ∙ ap (λ (k : Kind). firstOf (widthChecks k (new start))) (c .before .kind-of .ensures ∙ sym (kind-there (start .args .state .now)))
 
 past₁ : (c : tie.Else1) → all (start₁ c) ≡ firstOf (states (start₁ c) ++ (widths (start₁ c) ++ (rules (start₁ c) ++ marks (start₁ c))))
 unfolding beginRefusal
@@ -128,7 +127,7 @@ mark-refusal-requires c κs = search needs
 returns-5 : tie.Need-returns-5
 returns-5 c =
     let start = start₄ (c .before) in
-    c .mark-refusal .ensures ∙ ap (λ (b : List ℕ). firstOf (markChecks (composerOf b))) (whole-same (start .args .state .now) (start .pre)) ∙ sym (past₄ (c .before))
+    c .mark-refusal .ensures ∙ at-length _ _ _ (start .pre .0) ∙ sym (past₄ (c .before))
 
 pub begin-refusal-spec : {M : Type 1} → statement M
 begin-refusal-spec =

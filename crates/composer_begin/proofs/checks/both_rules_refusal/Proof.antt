@@ -1,16 +1,14 @@
-use Prim.Native.Nat.{ℕ}
 use mathlib.Core.Path.{_≡_, sym, ap, ap₂, _∙_}
-use mathlib.Core.List.{List}
 use native.Mathlib.Omega.{arith}
 use borrow.Author.Needs.{needs}
 use borrow.Author.Tests.{eq-eqb, ne-eqb, lt-ltb, le-ltb}
+use Rattle.setting.proofs.Refusals.{at-length}
 use Rattle.setting.specs.declared.Kind.{Kind}
 use Rattle.setting.specs.Refusal.{firstOf}
 use Rattle.setting.specs.Rules.{ruleChecks}
 use Rattle.composer.specs.Composing.{inTurn, openRuleChecks}
 use Rattle.setting_bytes.specs.Settings.{settingOf}
 use Rattle.composer.specs.States.{composerOf}
-use Rattle.composer.proofs.Parts.{whole-same}
 use Rattle.composer.proofs.There.{kind-there}
 use Rattle.composer_begin.proofs.Turns.{lesser, in-turn, rules-rise}
 use Rattle.composer_begin.proofs.checks.both_rules_refusal.Statement.{statement}
@@ -30,8 +28,8 @@ both c =
     let run = composerOf b in
     let new = settingOf (start c .args .setting .now) in
     ap₂ lesser
-    (c .before .before .before .open-rule-refusal .ensures ∙ ap (λ (l : List ℕ). firstOf (openRuleChecks (composerOf l))) (whole-same b (start c .pre)))
-    (c .rule-refusal .ensures ∙ ap (λ (k : Kind). firstOf (ruleChecks k new)) (c .before .kind-of .ensures ∙ sym (kind-there b)))
+    (c .before .before .before .open-rule-refusal .ensures ∙ at-length _ _ _ (start c .pre .0))
+    (c .rule-refusal .ensures ∙ at-length _ _ _ (start c .pre .1) ∙ ap (λ (k : Kind). firstOf (ruleChecks k new)) (c .before .kind-of .ensures ∙ sym (kind-there b)))
     ∙ sym (in-turn (omega arith) (rules-rise (run .kind) (run .setting) new (run .is-open)))
 
 open-rule-refusal-requires : tie.Need-open-rule-refusal-requires

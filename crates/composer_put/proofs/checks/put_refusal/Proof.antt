@@ -7,14 +7,13 @@ use borrow.Author.Tests.{eq-eqb, ne-eqb}
 use Rattle.counters.specs.Counters.{firstStream, lastStream, lastSlot, within}
 use Rattle.counters.proofs.Numbers.{relative-inside, relative-outside}
 use Rattle.setting.specs.Refusal.{Check, firstOf}
-use Rattle.setting.proofs.Refusals.{answers, passed, onward, at-once}
+use Rattle.setting.proofs.Refusals.{at-length, answers, passed, onward, at-once}
 use Rattle.setting_bytes.specs.Settings.{part}
 use Rattle.composer.specs.Slots.{emptyFor}
 use Rattle.composer.specs.Composing.{stateChecks, openChecks, streamChecks, putRefusal}
 use Rattle.composer.proofs.Refusals.{state-none, open-none}
 use Rattle.composer.specs.States.{composerOf, marksOf, filledAt, planAt}
 use Rattle.slot_bits.specs.Bits.{slotsAsBits}
-use Rattle.composer.proofs.Parts.{whole-same}
 use Rattle.composer_put.proofs.checks.put_refusal.Statement.{statement}
 use Rattle.composer_put.proofs.checks.put_refusal.Tie as tie
 
@@ -54,11 +53,11 @@ numbers c = (17, not (within firstStream lastStream (c .args .r .0))) ∷ (opens
 -- what is asked of the state's bytes
 state-told : (c : tie.After-state-refusal) → c .state-refusal .result ≡ firstOf (states (start₂ (c .before)))
 state-told c =
-    c .state-refusal .ensures ∙ ap (λ (b : List ℕ). firstOf (stateChecks (composerOf b))) (whole-same (start₂ (c .before) .args .state .now) (start₂ (c .before) .pre .0))
+    c .state-refusal .ensures ∙ at-length _ _ _ (start₂ (c .before) .pre .0)
 
 open-told : (c : tie.After-open-refusal) → c .open-refusal .result ≡ firstOf (opens (number-start (c .before)))
 open-told c =
-    c .open-refusal .ensures ∙ ap (λ (b : List ℕ). firstOf (openChecks (composerOf b))) (whole-same (number-start (c .before) .args .state .now) (number-start (c .before) .pre .0))
+    c .open-refusal .ensures ∙ at-length _ _ _ (number-start (c .before) .pre .0)
 
 -- the number that was answered: it lies inside, and is the one that was given
 number-told : (c : tie.After-known-told)
