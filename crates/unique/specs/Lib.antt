@@ -1,0 +1,4 @@
+-- Two outcomes that a contract allows are equal.
+pub mod Outcomes
+pub mod Calls
+pub mod Functions
