@@ -76,24 +76,24 @@ module _ (c : Composer) (n : Long-state c) where
   -- the parts, where they stand
   last-part : part lastAt announcedLength (composerBytes c) ≡ a
   unfolding composerBytes
-  last-part = part-behind 5 0 80 (frontBytes c) (a ++ (o ++ (s ++ m))) (length-front c) ∙ part-first 80 a (o ++ (s ++ m)) a-long
+  last-part = part-behind lastAt 0 announcedLength (frontBytes c) (a ++ (o ++ (s ++ m))) (length-front c) ∙ part-first announcedLength a (o ++ (s ++ m)) a-long
 
   open-byte : getD (composerBytes c) openAt 0 ≡ markByte (c .is-open)
   unfolding composerBytes
-  open-byte = byte-behind lastAt announcedLength (frontBytes c) (a ++ (o ++ (s ++ m))) (length-front c) ∙ byte-behind 80 0 a (o ++ (s ++ m)) a-long
+  open-byte = byte-behind lastAt announcedLength (frontBytes c) (a ++ (o ++ (s ++ m))) (length-front c) ∙ byte-behind announcedLength 0 a (o ++ (s ++ m)) a-long
 
   setting-part : part settingAt settingLength (composerBytes c) ≡ s
   unfolding composerBytes
   setting-part =
-      part-behind 5 81 252 (frontBytes c) (a ++ (o ++ (s ++ m))) (length-front c) ∙ part-behind 80 1 252 a (o ++ (s ++ m)) a-long
-      ∙ part-behind 1 0 252 o (s ++ m) refl ∙ part-first 252 s m s-long
+      part-behind lastAt (announcedLength + 1) settingLength (frontBytes c) (a ++ (o ++ (s ++ m))) (length-front c) ∙ part-behind announcedLength 1 settingLength a (o ++ (s ++ m)) a-long
+      ∙ part-behind 1 0 settingLength o (s ++ m) refl ∙ part-first settingLength s m s-long
 
   marks-part : part filledAt lastSlot (composerBytes c) ≡ m
   unfolding composerBytes
   marks-part =
       let l = length-map (c .filled) markByte ∙ n .marks in
-      part-behind 5 333 52 (frontBytes c) (a ++ (o ++ (s ++ m))) (length-front c) ∙ part-behind 80 253 52 a (o ++ (s ++ m)) a-long
-      ∙ part-behind 1 252 52 o (s ++ m) refl ∙ part-behind 252 0 52 s m s-long ∙ take-all 52 m (omega arith)
+      part-behind lastAt (announcedLength + (1 + settingLength)) lastSlot (frontBytes c) (a ++ (o ++ (s ++ m))) (length-front c) ∙ part-behind announcedLength (1 + settingLength) lastSlot a (o ++ (s ++ m)) a-long
+      ∙ part-behind 1 settingLength lastSlot o (s ++ m) refl ∙ part-behind settingLength 0 lastSlot s m s-long ∙ take-all lastSlot m (omega arith)
 
   -- PID, kind, counter and version
   pid-word : wordAt 0 (composerBytes c) ≡ c .pid

@@ -7,6 +7,7 @@ use native.Mathlib.Omega.{arith}
 use borrow.Author.Tests.{eq-eqb}
 use lib.Dec.{eqb}
 use lib.ListN.{length, length-append, length-map}
+use Rattle.counters.specs.Counters.{lastSlot}
 use Rattle.setting.specs.Refusal.{leaves}
 use Rattle.setting_bytes.specs.Settings.{settingLength, announcedBytes, settingBytes, announcedLength}
 use Rattle.setting_bytes.proofs.Parts.{length-announced}
@@ -40,7 +41,7 @@ length-composer c t =
     let m = map markByte (c .filled) in
     let la : length a ≡ announcedLength = length-announced (c .last) (t .ts-id .0, t .network-id .0, t .statuses .0) in
     let ls : length s ≡ settingLength = length-setting (c .setting) (long (c .setting) (t .setting)) in
-    let lm : length m ≡ 52 = length-map (c .filled) markByte ∙ t .marks in
+    let lm : length m ≡ lastSlot = length-map (c .filled) markByte ∙ t .marks in
     rw (
       length-append (frontBytes c) (a ++ (markByte (c .is-open) ∷ [] ++ (s ++ m))),
       length-append a (markByte (c .is-open) ∷ [] ++ (s ++ m)),

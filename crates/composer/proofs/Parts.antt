@@ -8,12 +8,13 @@ use Rattle.counters.specs.Counters.{lastSlot}
 use Rattle.setting_bytes.specs.Words.{wordBytes}
 use Rattle.setting_bytes.specs.Kinds.{kindNumber}
 use Rattle.setting_bytes.proofs.Parts.{Streams, Long}
+use Rattle.composer.specs.States.{lastAt}
 
 -- PID, kind, counter and version: the first five bytes
 abbrev pub frontBytes : Composer → List ℕ
 frontBytes c = wordBytes (c .pid ∷ []) ++ (kindNumber (c .kind) ∷ c .counter ∷ c .version ∷ [])
 
-pub length-front : (c : Composer) → length (frontBytes c) ≡ 5
+pub length-front : (c : Composer) → length (frontBytes c) ≡ lastAt
 unfolding wordBytes
 length-front c = refl
 

@@ -24,7 +24,7 @@ module _ (b s : List ℕ) (long : length b ≡ composerLength) (ls : length s �
   still-long = front-length b _ _ filledAt before-marks (omega arith) ∙ long
 
   -- all of them
-  module _ (m : List ℕ) (lm : length m ≡ 52) where
+  module _ (m : List ℕ) (lm : length m ≡ lastSlot) where
     all-parts : Front b (take openAt b ++ (1 ∷ []) ++ s ++ m) (put filledAt lastSlot (put settingAt settingLength (set b openAt 1) s) m) composerLength
     all-parts = front-part b (take openAt b ++ (1 ∷ []) ++ s) (put settingAt settingLength (set b openAt 1) s) m filledAt lastSlot before-marks lm
 

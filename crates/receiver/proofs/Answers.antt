@@ -8,7 +8,7 @@ use native.Mathlib.Omega.{arith}
 use borrow.Author.Tests.{eq-eqb, ne-eqb, lt-ltb, le-ltb}
 use lib.ListN.{length, replicate}
 use Rattle.slices.specs.Slices.{copied}
-use Rattle.setting.specs.Refusal.{firstOf, none}
+use Rattle.setting.specs.Refusal.{ofLength, firstOf, none}
 use Rattle.setting.specs.Rules.{pidAllowed}
 use Rattle.setting.proofs.Refusals.{answers, passed, first-none, kept, written}
 use Rattle.setting_bytes.specs.Kinds.{isKind, kindOf}
@@ -73,7 +73,7 @@ module _ (state p store : List ℕ) where
       × ((event ≡ receiveEvent state p store) × ((after ≡ receiveState state p store) × (memory ≡ receiveMemory state p store)))
 
   pub receive-refused : {n : ℕ} → n ≡ lentRefusal state (receiveRefusal (receiverOf state) (length p) (length store)) → (n ≡ 0 → ⊥) → Receives n 0 state store
-  unfolding lentRefusal receiveRefused receiveEvent receiveState receiveMemory receiveOf receiveStore eventNumber
+  unfolding lentRefusal ofLength receiveRefused receiveEvent receiveState receiveMemory receiveOf receiveStore eventNumber
   receive-refused {n} e h = by-length (ℕ-discrete (length state) receiverLength)
     where
       by-length : Dec (length state ≡ receiverLength) → Receives n 0 state store
@@ -96,7 +96,7 @@ module _ (state p store : List ℕ) where
     pub receives : {event : ℕ} {after memory : List ℕ} → event ≡ eventNumber (receiveOf (receiverOf state) p (length store) .event)
         → after ≡ receiverBytes (receiveOf (receiverOf state) p (length store) .state) → memory ≡ receiveStore (receiverOf state) p store
         → Receives 0 event after memory
-    unfolding lentRefusal receiveRefused receiveEvent receiveState receiveMemory
+    unfolding lentRefusal ofLength receiveRefused receiveEvent receiveState receiveMemory
     receives v a m =
         let same = eq-eqb (length state) receiverLength l in
         let said : 0 ≡ receiveRefused state p store = rw same granted in
@@ -112,7 +112,7 @@ module _ (state : List ℕ) (r : ℕ) (store out : List ℕ) where
       × ((packets ≡ handOutPackets state r store out) × (buffer ≡ handOutMemory state r store out))
 
   pub hand-refused : {n : ℕ} → n ≡ lentRefusal state (handOutRefusal (receiverOf state) r (length store) (length out)) → (n ≡ 0 → ⊥) → Hands n 0 out
-  unfolding lentRefusal handOutRefused handOutPackets handOutMemory handOutOf handOutBuffer
+  unfolding lentRefusal ofLength handOutRefused handOutPackets handOutMemory handOutOf handOutBuffer
   hand-refused {n} e h = by-length (ℕ-discrete (length state) receiverLength)
     where
       by-length : Dec (length state ≡ receiverLength) → Hands n 0 out
@@ -126,7 +126,7 @@ module _ (state : List ℕ) (r : ℕ) (store out : List ℕ) where
 
   pub hands : length state ≡ receiverLength → {t : HandedOut} {buffer : List ℕ} → t ≡ handOutOf (receiverOf state) r (length store) (length out)
       → buffer ≡ handOutBuffer (receiverOf state) r store out → Hands (t .refusal) (t .packets) buffer
-  unfolding lentRefusal handOutRefused handOutPackets handOutMemory
+  unfolding lentRefusal ofLength handOutRefused handOutPackets handOutMemory
   hands l q b =
       let same = eq-eqb (length state) receiverLength l in
       (rw same (ap (λ (u : HandedOut). u .refusal) q), (rw same (ap (λ (u : HandedOut). u .packets) q), rw same b))

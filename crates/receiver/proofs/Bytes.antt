@@ -34,7 +34,7 @@ unfolding packed run bitsOf cut number
 zeros-packed = refl
 
 -- PID and kind as they stand are what they say
-front-same : (b : List ℕ) → 3 ≤ length b → Fit 8 b → isKind (getD b kindAt 0) ≡ true
+front-same : (b : List ℕ) → stageAt ≤ length b → Fit 8 b → isKind (getD b kindAt 0) ≡ true
     → wordBytes (wordAt 0 b ∷ []) ++ (kindNumber (kindOf (getD b kindAt 0)) ∷ []) ≡ take stageAt b
 unfolding wordBytes
 front-same [] h f k = absurd (omega arith)
@@ -80,14 +80,14 @@ unfolding over
 over-stage b stage = ap (λ (n : ℕ). take stageAt b ++ (stageBytes stage ++ drop (stageAt + n) b)) (stage-length stage)
 
 -- the front of bytes that a part behind the stage was written into
-pub front-kept : (b ys : List ℕ) → 3 ≤ length b → take stageAt (take numbersAt b ++ ys) ≡ take stageAt b
+pub front-kept : (b ys : List ℕ) → stageAt ≤ length b → take stageAt (take numbersAt b ++ ys) ≡ take stageAt b
 front-kept [] ys h = absurd (omega arith)
 front-kept (x ∷ []) ys h = absurd (omega arith)
 front-kept (x ∷ y ∷ []) ys h = absurd (omega arith)
 front-kept (x ∷ y ∷ z ∷ b) ys h = refl
 
 -- one packet more: the stage's number and that of the stored packets were written
-pub counted : (b : List ℕ) (n : ℕ) → 6 ≤ length b → set (set b stageAt 1) storedAt n ≡ take stageAt b ++ (1 ∷ getD b counterAt 0 ∷ n ∷ drop numbersAt b)
+pub counted : (b : List ℕ) (n : ℕ) → numbersAt ≤ length b → set (set b stageAt 1) storedAt n ≡ take stageAt b ++ (1 ∷ getD b counterAt 0 ∷ n ∷ drop numbersAt b)
 counted [] n h = absurd (omega arith)
 counted (x₀ ∷ []) n h = absurd (omega arith)
 counted (x₀ ∷ x₁ ∷ []) n h = absurd (omega arith)
@@ -97,7 +97,7 @@ counted (x₀ ∷ x₁ ∷ x₂ ∷ x₃ ∷ x₄ ∷ []) n h = absurd (omega ar
 counted (x₀ ∷ x₁ ∷ x₂ ∷ x₃ ∷ x₄ ∷ x₅ ∷ b) n h = refl
 
 -- nothing but zeros where the stage stands
-pub unstaged : (b : List ℕ) → 6 ≤ length b → getD b stageAt 0 ≡ 0 → getD b counterAt 0 ≡ 0 → getD b storedAt 0 ≡ 0 → b ≡ take stageAt b ++ (0 ∷ 0 ∷ 0 ∷ drop numbersAt b)
+pub unstaged : (b : List ℕ) → numbersAt ≤ length b → getD b stageAt 0 ≡ 0 → getD b counterAt 0 ≡ 0 → getD b storedAt 0 ≡ 0 → b ≡ take stageAt b ++ (0 ∷ 0 ∷ 0 ∷ drop numbersAt b)
 unstaged [] h e f g = absurd (omega arith)
 unstaged (x₀ ∷ []) h e f g = absurd (omega arith)
 unstaged (x₀ ∷ x₁ ∷ []) h e f g = absurd (omega arith)

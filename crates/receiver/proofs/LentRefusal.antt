@@ -8,16 +8,17 @@ use native.Mathlib.Omega.{arith}
 use borrow.Author.Tests.{eq-eqb, ne-eqb}
 use lib.Dec.{eqb}
 use lib.ListN.{length}
+use Rattle.setting.specs.Refusal.{ofLength}
 use Rattle.receiver.specs.Bytes.{receiverLength}
 use Rattle.receiver.specs.Calls.{lentRefusal}
 
 module _ (state : List ℕ) (refusal : ℕ) {n : ℕ} where
   pub own-refusal : length state ≡ receiverLength → n ≡ lentRefusal state refusal → n ≡ refusal
-  unfolding lentRefusal
+  unfolding lentRefusal ofLength
   own-refusal l e = rw (eq-eqb (length state) receiverLength l) at e
 
   pub other-refusal : (length state ≡ receiverLength → ⊥) → n ≡ lentRefusal state refusal → n ≡ 1
-  unfolding lentRefusal
+  unfolding lentRefusal ofLength
   other-refusal h e = rw (ne-eqb (length state) receiverLength h) at e
 
   pub lent-accepted : n ≡ lentRefusal state refusal → n ≡ 0 → (length state ≡ receiverLength) × (refusal ≡ 0)
@@ -29,7 +30,7 @@ module _ (state : List ℕ) (refusal : ℕ) {n : ℕ} where
 
 -- where something else has a wrong length, that of the state does not matter
 pub one-anyway : (state : List ℕ) (refusal : ℕ) → refusal ≡ 1 → 1 ≡ lentRefusal state refusal
-unfolding lentRefusal
+unfolding lentRefusal ofLength
 one-anyway state refusal e = sym (by-test (eqb (length state) receiverLength))
   where
     by-test : (t : Bool) → cond t refusal 1 ≡ 1

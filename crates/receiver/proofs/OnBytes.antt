@@ -9,7 +9,7 @@ use borrow.Author.Tests.{eq-eqb, ne-eqb}
 use lib.Dec.{eqb}
 use lib.ListN.{length, length-append}
 use Rattle.setting.specs.declared.Kind.{Kind}
-use Rattle.setting.specs.Refusal.{leaves}
+use Rattle.setting.specs.Refusal.{ofLength, leaves}
 use Rattle.setting.specs.Setting.{Array}
 use Rattle.setting_bytes.specs.Words.{wordBytes}
 use Rattle.counters.specs.Counters.{lastSlot}
@@ -62,7 +62,7 @@ module _ (c : Receiver) (h : Codable c) where
   there = eq-eqb (length b) receiverLength (length-receiver c)
 
   on-bytes : OnBytes c
-  unfolding receiveRefused receiveEvent receiveState receiveMemory handOutRefused handOutPackets handOutMemory lentRefusal receiveOf
+  unfolding receiveRefused receiveEvent receiveState receiveMemory handOutRefused handOutPackets handOutMemory lentRefusal ofLength receiveOf
   on-bytes =
       record {
         receives = λ p store. rw (there, receiver-back c h) (refl, (refl, (left receiverBytes (receiveRefusal c (length p) (length store)) (rowFor c p .event) _ c, refl)));

@@ -8,7 +8,7 @@ use borrow.Author.Tests.{eq-eqb, ne-eqb, lt-ltb, le-ltb}
 use lib.ListN.{length, getD, drop, length-drop}
 use lib.Seq.{length-take-le}
 use Rattle.slices.specs.Slices.{someAtLeast}
-use Rattle.setting.specs.Refusal.{firstOf, none, more}
+use Rattle.setting.specs.Refusal.{ofLength, firstOf, none, more}
 use Rattle.setting.specs.Rules.{pidAllowed}
 use Rattle.setting.proofs.Refusals.{answers, passed}
 use Rattle.setting_bytes.specs.Words.{wordAt}
@@ -25,12 +25,12 @@ use Rattle.receiver.proofs.ReceiverChecks.{none-more}
 
 module _ (b : List ℕ) where
   pub no-state : (length b ≡ receiverLength → ⊥) → 1 ≡ stateRefused b
-  unfolding stateRefused lentRefusal
+  unfolding stateRefused lentRefusal ofLength
   no-state h = rw (ne-eqb (length b) receiverLength h) refl
 
   module _ (l : length b ≡ receiverLength) where
     pub own : stateRefused b ≡ firstOf (receiverChecks (receiverOf b))
-    unfolding stateRefused lentRefusal
+    unfolding stateRefused lentRefusal ofLength
     own = rw (eq-eqb (length b) receiverLength l) refl
 
     -- a number of four bits is no number out of range: behind the PID it is the stage that may be refused

@@ -7,7 +7,7 @@ use native.Mathlib.Omega.{arith}
 use borrow.Author.Tests.{eq-eqb, ne-eqb}
 use lib.Dec.{eqb}
 use lib.ListN.{length, getD}
-use Rattle.setting.specs.Refusal.{firstOf}
+use Rattle.setting.specs.Refusal.{ofLength, firstOf}
 use Rattle.setting.specs.Rules.{pidAllowed}
 use Rattle.setting.proofs.Refusals.{passed, at-once}
 use Rattle.packet.specs.Packets.{packetLength}
@@ -71,7 +71,7 @@ module _ (c : Receiver) (p : pidAllowed (c .pid) ≡ true) (s : c .stage ≡ noS
         passed 1 _ (ap not (eq-eqb _ _ l)) ∙ at-once (receiverChecks c) _ (λ z. omega (arith, refused, z)) ∙ receiver-refused
 
 pub uncoded-refused : UncodedRefused
-unfolding receiveRefused handOutRefused lentRefusal receiverOf
+unfolding receiveRefused handOutRefused lentRefusal ofLength receiverOf
 uncoded-refused state store l p e m =
     let none = uncoded state e in (
       λ packet q. rw (eq-eqb _ _ l) (receive-refused (receiverOf state) p none (length store) m packet q),

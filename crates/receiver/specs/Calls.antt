@@ -4,7 +4,7 @@ use mathlib.Core.Bool.{cond, not}
 use mathlib.Core.List.{List, [], _∷_}
 use lib.Dec.{eqb}
 use lib.ListN.{length}
-use Rattle.setting.specs.Refusal.{firstOf, leaves}
+use Rattle.setting.specs.Refusal.{firstOf, ofLength, leaves}
 use Rattle.setting.specs.Rules.{pidAllowed}
 use Rattle.setting_bytes.specs.Kinds.{isKind, kindOf}
 use Rattle.receiver.specs.Receiving.{waiting, receiverChecks, receiveOf, receiveStore, handOutOf, handOutBuffer}
@@ -20,7 +20,7 @@ startState state pid kind = leaves (startRefused state pid kind) (receiverBytes 
 
 -- 1 for a state of another length, else this refusal
 unfoldable pub lentRefusal : List ℕ → ℕ → ℕ
-lentRefusal state refusal = cond (eqb (length state) receiverLength) refusal 1
+lentRefusal state refusal = ofLength receiverLength (length state) refusal
 
 -- what every call checks of a state: its length, its PID and its numbers
 unfoldable pub stateRefused : List ℕ → ℕ

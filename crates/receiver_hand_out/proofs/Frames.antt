@@ -9,7 +9,7 @@ use lib.ListN.{length}
 use Rattle.slices.specs.Slices.{over}
 use Rattle.slices.proofs.Any.{both}
 use Rattle.counters.specs.Counters.{firstStream, lastStream, within}
-use Rattle.setting.specs.Refusal.{Check, firstOf, NoneHolds, leaves}
+use Rattle.setting.specs.Refusal.{ofLength, Check, firstOf, NoneHolds, leaves}
 use Rattle.setting.proofs.Refusals.{none-first, none-at, none-behind, numbered-append, onward, at-once}
 use Rattle.packet.specs.Packets.{packetLength}
 use Rattle.receiver.specs.Table.{isReady}
@@ -63,7 +63,7 @@ module _ (c : Receiver) (r store : ℕ) where
 -- a refusal of the state is that of the call, where no check before it holds
 pub state-first : (b : List ℕ) (state all : ℕ) {n : ℕ} → n ≡ lentRefusal b state → (n ≡ 0 → ⊥)
     → ((state ≡ 0 → ⊥) → all ≡ state) → n ≡ lentRefusal b all
-unfolding lentRefusal
+unfolding lentRefusal ofLength
 state-first b state all {n} e h f = by-test (eqb (length b) receiverLength) e
   where
     by-test : (t : Bool) → n ≡ cond t state 1 → n ≡ cond t all 1

@@ -59,6 +59,11 @@ functions = record {
   composer-checks-mark-refusal = one (λ κs a x p i. (p i, _));
   composer-checks-open-refusal = one (λ κs a x p i. (p i, _));
   composer-start-start = one (λ κs a x p i. (record { refusal = p .0 i; state = p .1 i }, _));
+  composer-put-put = λ κs a x y p q. (
+    p .0 ∙ sym (q .0),
+    (λ i. (p .1 .1 .1 .0 i, (p .1 .1 .1 .1 i, (_, (_, (p .1 .0 i, (p .1 .1 .0 i, _)))))))
+        ∙ sym (λ i. (q .1 .1 .1 .0 i, (q .1 .1 .1 .1 i, (_, (_, (q .1 .0 i, (q .1 .1 .0 i, _))))))),
+  );
   -- frames received
   receiver-table-header-row = one (λ κs a x p i. (p i, _));
   receiver-table-broken-row = one (λ κs a x p i. (p i, _));
