@@ -116,7 +116,7 @@ extern "C" {
 #define NIRANBOK_CARRIERS_LAST 8
 
 /* Refusals, in the order in which a call asks. */
-#define NIRANBOK_REFUSED_LENGTH 1              /* what is lent has not the fixed length; a stream is no multiple of 188, a group none of 9,964 */
+#define NIRANBOK_REFUSED_LENGTH 1              /* what is lent is not of the fixed length; a stream is no multiple of 188, a group none of 9,964 */
 #define NIRANBOK_REFUSED_HEADER_PID 2          /* header PID outside 16 to 8,190 */
 #define NIRANBOK_REFUSED_OUT_OF_RANGE 17       /* a field, a kind, a number of a state, a stream, a carrier count out of range */
 #define NIRANBOK_REFUSED_NO_FRAME 16           /* put or close with no open frame, hand out with none ready */
@@ -203,7 +203,7 @@ uint8_t niranbok_header_write(uint8_t *packet, size_t packet_length, uint16_t pi
 uint8_t niranbok_header_read(const uint8_t *packet, size_t packet_length, uint16_t pid, uint8_t kind,
                              uint8_t *setting, size_t setting_length);
 
-/* Whether a packet may stand in a slot: 0; 1 if it has not 188 bytes; 12 if it lacks 0x47 or bears the
+/* Whether a packet may stand in a slot: 0; 1 if it is not 188 bytes long; 12 if it lacks 0x47 or bears the
  * header PID. Writes nothing. */
 uint8_t niranbok_place_refusal(const uint8_t *packet, size_t packet_length, uint16_t pid);
 
