@@ -32,8 +32,8 @@ UncodedRefused =
     × ((r : ℕ) (stream : List ℕ) → length stream % packetLength ≡ 0 → putRefused state r stream frame ≡ 17)
     × (closeRefused state frame ≡ 17)
 
--- On the bytes of a state and of a setting, each call answers and leaves what the composer's own call does. So what is promised of runs of
--- calls in terms of states also holds of bytes.
+-- On the bytes of a state and of a setting, each call answers and leaves what the definition over the state says. So what is promised of
+-- runs of calls in terms of states also holds of bytes.
 pub record OnBytes (c : Composer) : Type 0 where
   pub begins : (s : Setting) → SettingOfItsTypes s → (frame : List ℕ)
       → (beginRefused (composerBytes c) (settingBytes s) frame ≡ beginOf c s (length frame) .refusal)
@@ -49,7 +49,7 @@ pub record OnBytes (c : Composer) : Type 0 where
       × ((closeState (composerBytes c) frame ≡ composerBytes (closeOf c (length frame) .state))
       × (closeMemory (composerBytes c) frame ≡ closedFrame c frame))
 
--- And a state that has its types keeps them, so that the next call finds it again in the bytes.
+-- And the new state again has its types, so that the next call reads it back from the bytes.
 pub record TypesKept (c : Composer) : Type 0 where
   pub begun : (s : Setting) → SettingOfItsTypes s → (lent : ℕ) → OfItsTypes (beginOf c s lent .state)
   pub filled : (r : ℕ) (stream : List ℕ) (lent : ℕ) → OfItsTypes (putOf c r stream lent .state)

@@ -101,7 +101,7 @@ pub const SLOTS: usize = Slot::LAST as usize;
 
 pub const STREAMS: usize = RelativeNumber::LAST as usize;
 
-// How many contents the availability field has: there is a bit for each stream.
+// How many values the availability field has: there is a bit for each stream.
 pub const AVAILABILITIES: u16 = 1 << RelativeNumber::LAST;
 
 // How many of the fifteen streams are available: the ones of the field.

@@ -1,14 +1,14 @@
--- What the functions promise each other by which eight bytes at once enter a register.
+-- What the functions promise each other that enter eight bytes at once into a register.
 use Prim.Native.Nat.{ℕ, _+_, _/_, _%_, _^_, _≤_, _<_}
 use mathlib.Core.Path.{_≡_}
 use lib.Bits.{bitXor}
 use Rattle.crc.specs.Crc.{shifts}
 
--- 64 bits as a register: what stands above the low 32 is so many shifts on
+-- 64 bits as a register of 32: the high half goes 32 shifts on and is added to the low half
 unfoldable pub reduced : ℕ → ℕ
 reduced x = bitXor (shifts 32 (x / 2 ^ 32)) (x % 2 ^ 32)
 
--- e is the lowest k bits of v, n shifts on, with nothing reduced
+-- e is the lowest k bits of v after n shifts, before the bits above the low 32 are taken back into the register
 pub record Ahead (n k v e : ℕ) : Type 0 where
   pub bits : e < 2 ^ (32 + k)
   pub same : reduced e ≡ shifts n (v % 2 ^ k)

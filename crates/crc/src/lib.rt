@@ -8,7 +8,8 @@ ghost use Rattle.crc.specs.Words.{Ahead, Tabled, held, reduced};
 
 const POLY: u32 = 0x04C1_1DB7;
 
-// The register `x` after `n` shifts. Where `n` is known the compiler makes a table of its own of the loop, eight shifts a look.
+// The register `x` after `n` shifts. Where `n` is known, the compiler turns the loop into lookups in a table of its own, eight shifts at a
+// time.
 fn shifted(x: u32, n: u32) -> u32
     ensures { λ r. ⌜ r ≡ shifts n x ⌝ }
 {
@@ -112,8 +113,8 @@ fn left_by(r: u64, s: u64) -> u32
     shifted((u >> 32) as u32, 32) ^ (u % 0x1_0000_0000) as u32
 }
 
-// The register that `bytes` leave, eight a turn: `r` and `s` leave, from zero on, what the bytes so far do. Eight bytes go on over the next
-// eight, so that no turn waits for the one before it.
+// The register that `bytes` leave, eight bytes a turn. The sixteen bytes `r` and `s`, started from zero, leave the same register as all
+// bytes so far. Each turn carries eight bytes over to the next eight, so that no turn waits for the one before it.
 fn longs_in(bytes: &[u8]) -> u32
     requires { ⌜ (16 ≤ length (now bytes)) × (length (now bytes) % 8 ≡ 0) ⌝ }
     ensures { λ q. ⌜ q ≡ registerOf (now (bytes .entry)) ⌝ }

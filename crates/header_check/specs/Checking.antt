@@ -34,7 +34,7 @@ partsOf n s =
       «frame_position» = s .«frame_position»;
     }
 
--- with refusal 0 those that the packet says, with any other number zeros
+-- with refusal 0 the parts that the packet says, with any other number zeros
 unfoldable pub partsBeside : ℕ → Kind → List ℕ → Checked
 partsBeside n kind p = partsOf n (cond (eqb n 0) (reading kind p) blank)
 

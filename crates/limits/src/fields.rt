@@ -40,7 +40,7 @@ fn print_name(name: &[u8]) {
     io::write_all(STDOUT_FILENO, name);
 }
 
-// The refusals stand for values up to here; those above get another one (0: the field's bytes hold none above).
+// These refusals are for values up to here; a larger value gets another one (0: the field's bytes hold no larger value).
 fn print_end(up_to: u64, above: u64) {
     print_number(up_to);
     print_number(above);
@@ -59,7 +59,7 @@ fn print_both(name: &[u8], range: Range, held: u64) {
     print(name, range, range, held);
 }
 
-// A field of so many values, from 0 on, of which any other is a 17.
+// A field with so many values, from 0 on. Any other value is a 17.
 fn print_values(name: &[u8], values: u64, held: u64) {
     if 0 < values {
         let range = Range {
@@ -169,8 +169,8 @@ fn print_taken(name: &[u8], first: u64, last: u64) {
     print_both(name, range, BYTE);
 }
 
-// The numbers that calls take: a slot of a plan, a stream, the carriers of a group. A group has extended headers alone, so of plain ones
-// the last says nothing.
+// The numbers that calls take: a slot of a plan, a stream, the carriers of a group. A group has extended headers only, so carriers have no
+// range for plain ones.
 pub(crate) fn print_numbers() {
     print_taken(b"slot", Slot::FIRST as u64, Slot::LAST as u64);
     print_taken(

@@ -11,7 +11,7 @@ ghost use Rattle.listing.specs.Listing.{packetsIn, roomFor, listing, overFront}
 // The packets of a block, its bytes, and room for its lines. Input is read and output is written a block at a time.
 const BLOCK_PACKETS: usize = 174;
 
-const BLOCK_BYTES: usize = listing::PACKET_BYTES * BLOCK_PACKETS;
+const BLOCK_BYTES: usize = packet::PACKET_BYTES * BLOCK_PACKETS;
 
 const TEXT_BYTES: usize = listing::LINE_BYTES * (BLOCK_PACKETS + 1);
 

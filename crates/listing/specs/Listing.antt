@@ -10,15 +10,13 @@ use Rattle.setting.specs.Refusal.{Check, firstOf}
 use Rattle.counters.specs.Counters.{countAvailable}
 use Rattle.header_read.specs.declared.Reading.{Reading}
 use Rattle.header_read.specs.Reader.{readOf}
+use Rattle.packet.specs.Packets.{packetLength}
 use Rattle.listing.specs.declared.Listed.{Listed}
 use Rattle.listing.specs.Text.{space, lineFeed, decimal, field}
 
 -- the header PID of a recording that is listed
 abbrev pub listedPid : ℕ
 listedPid = 0x1FF0
-
-abbrev pub packetLength : ℕ
-packetLength = 188
 
 -- how many whole packets so many bytes are
 abbrev pub packetsIn : ℕ → ℕ

@@ -1,4 +1,5 @@
 // The listing of a recording of packets: for each packet a line that says what it is, read as a plain header.
+use packet::PACKET_BYTES;
 ghost use mathlib.Core.Path.{_≡_};
 ghost use lib.ListN.{length};
 ghost use Rattle.io.specs.Counts.{Counts};
@@ -7,9 +8,7 @@ ghost use Rattle.listing.specs.Listing.{listRefusal, listed, listedOver}
 mod lines;
 mod text;
 
-// The bytes of a packet, and the most that a line takes. A line for each packet and one more is room enough.
-pub const PACKET_BYTES: usize = 188;
-
+// The most bytes that a line takes. A line for each packet and one more is room enough.
 pub const LINE_BYTES: usize = 96;
 
 // The refusal's number and length 0, or refusal 0 and the length of the listing.

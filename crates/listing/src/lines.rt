@@ -1,7 +1,7 @@
 // The lines of a listing, put into a lent buffer.
-use crate::PACKET_BYTES;
 use crate::text::put_field;
 use crate::text::put_number;
+use packet::PACKET_BYTES;
 use setting::Kind;
 ghost use Prim.Native.Nat.{_+_, _≤_, _^_};
 ghost use lib.ListN.{length};

@@ -8,10 +8,11 @@ use Rattle.slices.specs.Slices.{anyBelow}
 use Rattle.counters.specs.Counters.{lastSlot}
 use Rattle.setting.specs.Refusal.{firstOf}
 use Rattle.header_layout.specs.Layout.{syncByte, Field}
-use Rattle.header_layout.specs.Header.{startValue}
+use Rattle.header_layout.specs.Header.{headerLength, startValue}
 
+-- 188 bytes: a header is a packet
 abbrev pub packetLength : ℕ
-packetLength = 188
+packetLength = headerLength
 
 -- the header and a packet for each slot: 9,964 bytes
 abbrev pub frameLength : ℕ

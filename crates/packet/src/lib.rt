@@ -1,10 +1,12 @@
 // Packets of 188 bytes: whether one may stand in a slot, and what is left of a stream of them.
 use counters::SLOTS;
+use header_layout::HEADER_LENGTH;
 ghost use mathlib.Core.Path.{_≡_};
 ghost use Rattle.packet.specs.Packets.{placeRefusal, someUnfitIn, restOf};
 ghost use lib.ListN.{length};
 
-pub const PACKET_BYTES: usize = 188;
+// A header is a packet.
+pub const PACKET_BYTES: usize = HEADER_LENGTH;
 
 pub const FRAME_BYTES: usize = PACKET_BYTES * (SLOTS + 1);
 

@@ -28,7 +28,8 @@ UncodedRefused =
     → ((p : List ℕ) → length p ≡ packetLength → receiveRefused state p store ≡ 17)
     × ((r : ℕ) (out : List ℕ) → handOutRefused state r store out ≡ 17)
 
--- On the bytes of a state each call answers and leaves what the receiver's own does: so what is said of states holds of the bytes.
+-- On the bytes of a state, each call answers and leaves what the definition over the state says. So what is promised in terms of states
+-- also holds of bytes.
 pub record OnBytes (c : Receiver) : Type 0 where
   pub receives : (p store : List ℕ)
       → (receiveRefused (receiverBytes c) p store ≡ receiveOf c p (length store) .refusal)
@@ -40,6 +41,6 @@ pub record OnBytes (c : Receiver) : Type 0 where
       × ((handOutPackets (receiverBytes c) r store out ≡ handOutOf c r (length store) (length out) .packets)
       × (handOutMemory (receiverBytes c) r store out ≡ handOutBuffer c r store out))
 
--- And a state that bytes can say stays one, so that the next call finds it again in the bytes.
+-- And the new state is again one that bytes can code, so that the next call reads it back from the bytes.
 abbrev pub CallsOnBytes : Type 0
 CallsOnBytes = (c : Receiver) → Codable c → OnBytes c × ((p : List ℕ) (lent : ℕ) → Codable (receiveOf c p lent .state))

@@ -37,7 +37,7 @@ pub struct Row {
     pub stage: Stage,
 }
 
-// What handing out comes to: refusal 0 and how many packets, or the refusal's number and 0.
+// What a hand out answers: refusal 0 and how many packets, or the refusal's number and 0.
 pub struct HandedOut {
     pub refusal: u8,
     pub packets: usize,
@@ -49,8 +49,8 @@ pub const STORE_BYTES: usize = PACKET_BYTES * SLOTS;
 // How many bytes the numbers of all slots take, two a byte as a header has them.
 pub const PACKED_BYTES: usize = SLOTS * 4 / 8;
 
-// Where a state has its parts: behind the PID the kind; the stage, with the open frame's counter and how many packets of it are stored; the
-// slots' numbers by the open frame's header, and by the header before it.
+// The kind stands behind the PID. Then come the stage, the open frame's counter and how many of its packets are stored; then the slots'
+// numbers, by the open frame's header and by the header before it.
 pub const KIND: usize = 2;
 
 pub const STAGE: usize = KIND + 1;

@@ -13,7 +13,8 @@ ghost use Rattle.receiver.specs.Bytes.{receiverOf};
 ghost use Rattle.receiver.specs.Calls.{lentRefusal, handOutRefused, handOutPackets, handOutMemory};
 ghost use Rattle.receiver_hand_out.specs.Ready.{readyChecks};
 
-// All but 15, for which the packets have to be counted, in the table's order: what is lent, the state, and what is asked of it.
+// All checks but 15, in the table's order: the lengths, the state, the stream's number, and whether a frame is ready. For 15 the packets
+// have to be counted first.
 fn ready_refusal(state: &[u8], r: RelativeNumber, store: usize) -> u8
     ensures { λ t. ⌜ t ≡ lentRefusal (now (state .entry)) (firstOf (readyChecks (receiverOf (now (state .entry))) (r .0) store)) ⌝ }
 {

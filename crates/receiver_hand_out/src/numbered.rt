@@ -14,7 +14,8 @@ ghost use Rattle.receiver.specs.Packed.{packedLength, unpacked};
 ghost use Rattle.receiver.specs.Store.{storeLength, numbered, slotsFor};
 ghost use Rattle.receiver_hand_out.specs.Halves.{halvesOf, marked};
 
-// The halves of `word` that are r, each as the highest bit of its half: that of y is set where the half of x is not 0, and no carry leaves a half.
+// Marks each half byte of `word` that is r, by the highest bit of that half. In x such a half is 0. In y the highest bit of a half is set
+// unless that half of x is 0; the sum carries nothing from one half to the next.
 fn marks(word: u64, r: RelativeNumber) -> u64
     requires { ⌜ r .0 ≤ 15 ⌝ }
     ensures { λ t. ⌜ halvesOf t ≡ marked (r .0) (halvesOf word) ⌝ }
@@ -32,7 +33,7 @@ fn marks_at(numbers: &[u8], at: usize, r: RelativeNumber) -> u64
     marks(bits::long(&numbers[at..at + 8]), r)
 }
 
-// Those among the last four slots, in the low halves.
+// The same for the last four slots, whose marks are in the four low halves.
 fn last_marks(numbers: &[u8], r: RelativeNumber) -> u64
     requires { ⌜ (length (now numbers) ≡ packedLength) × (r .0 ≤ 15) ⌝ }
     ensures { λ t. ⌜ halvesOf t ≡ replicate 12 0 ++ marked (r .0) (take 4 (drop 48 (unpacked (now (numbers .entry))))) ⌝ }
@@ -40,7 +41,8 @@ fn last_marks(numbers: &[u8], r: RelativeNumber) -> u64
     marks(bits::long(&numbers[24..26]), r) % 0x1_0000
 }
 
-// How many slots are marked in four words. A mark leaves three bits of its half free: each word has one of the four, and one count is enough.
+// How many slots are marked in four words. A mark takes one bit of its half. So the four words, shifted by 0 to 3 bits, fit into one word,
+// and its ones are counted once.
 fn count(a: u64, b: u64, c: u64, d: u64) -> usize
     requires { ⌜ (marked 8 (halvesOf a) ≡ halvesOf a) × (marked 8 (halvesOf b) ≡ halvesOf b) × (marked 8 (halvesOf c) ≡ halvesOf c) × (marked 8 (halvesOf d) ≡ halvesOf d) ⌝ }
     ensures { λ t. ⌜ t ≡ slotsFor 8 (halvesOf a) + slotsFor 8 (halvesOf b) + slotsFor 8 (halvesOf c) + slotsFor 8 (halvesOf d) ⌝ }
@@ -49,7 +51,8 @@ fn count(a: u64, b: u64, c: u64, d: u64) -> usize
     u64::count_ones(a + b / 2 + c / 4 + d / 8) as usize
 }
 
-// Copies the packets of the slots that are marked, of the sixteen behind the first so many, to `out` from place `from` on; says where they end.
+// Copies the packets of the marked slots to `out`, from place `from` on. The marks are for the sixteen slots behind slot `first`. Answers
+// where the copies end.
 fn copy_marked(out: &mut [u8], from: usize, store: &[u8], first: usize, marks: u64) -> usize
     requires { ⌜ (marked 8 (halvesOf marks) ≡ halvesOf marks) × (packetLength * (first + 16) ≤ length (now store)) × (from + packetLength * slotsFor 8 (halvesOf marks) ≤ length (now out)) ⌝ }
     ensures { λ t. ⌜ t ≡ from + packetLength * slotsFor 8 (halvesOf marks) ⌝ }
@@ -70,8 +73,8 @@ fn copy_marked(out: &mut [u8], from: usize, store: &[u8], first: usize, marks: u
     at
 }
 
-// 15: room for fewer packets than have number r; else copies those, in slot order, to the front of `out`. The last four slots
-// are the last of sixteen.
+// Copies the packets with number r, in slot order, to the front of `out`; 15 if it has no room for them. The marks of the last four slots
+// are the end of those for the last sixteen.
 pub(crate) fn hand_out(out: &mut [u8], store: &[u8], numbers: &[u8], r: RelativeNumber) -> HandedOut
     requires { ⌜ (length (now numbers) ≡ packedLength) × (length (now store) ≡ storeLength) × (r .0 ≤ 15) ⌝ }
     ensures { λ t. ⌜ t ≡ cond (ltb (length (now (out .entry))) (packetLength * slotsFor (r .0) (unpacked (now (numbers .entry))))) (record { refusal = 15; packets = 0 }) (record { refusal = 0; packets = slotsFor (r .0) (unpacked (now (numbers .entry))) }) ⌝ }

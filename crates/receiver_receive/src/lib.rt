@@ -56,8 +56,7 @@ fn receive_refusal(state: &[u8], packet: usize, store: usize) -> u8
     receiver_stage::state_refusal(state)
 }
 
-// Puts the packet into the slot behind those that are stored, and counts it. A frame that was just opened is open then, and the one before it
-// no longer ready.
+// Puts the packet into the next slot of the open frame, and counts it. From then on the frame before it is no longer ready.
 fn store_next(state: &mut [u8], packet: &[u8], store: &mut [u8])
     requires { ⌜ (length (now state) ≡ receiverLength) × (getD (now state) storedAt 0 < lastSlot) ⌝ }
     requires { ⌜ (length (now packet) ≡ packetLength) × (length (now store) ≡ storeLength) ⌝ }
@@ -71,7 +70,7 @@ fn store_next(state: &mut [u8], packet: &[u8], store: &mut [u8])
     state[STORED] = k + 1;
 }
 
-// Takes a packet that may stand in a slot: stores it where a frame is open and has room. Says what it did.
+// Takes a packet that may stand in a slot: stores it if a frame is open and has room. Answers what it did.
 fn take_packet(state: &mut [u8], packet: &[u8], store: &mut [u8]) -> u8
     requires { ⌜ (length (now state) ≡ receiverLength) × (someAtLeast (2 ^ 8) (now state) ≡ false) ⌝ }
     requires { ⌜ (unfit (receiverOf (now state) .pid) (now packet) ≡ false) × (receiveRefusal (receiverOf (now state)) (length (now packet)) (length (now store)) ≡ 0) ⌝ }
@@ -90,8 +89,8 @@ fn take_packet(state: &mut [u8], packet: &[u8], store: &mut [u8]) -> u8
     events::STORED
 }
 
-// The numbers behind a header: its own, which are looked at since packing them again has to give these bytes, and behind them those that were
-// the open frame's.
+// Writes the slots' numbers after a good header: first the header's own, then those of the frame that was open until now. `are_bytes` tells
+// the proof that the header's are bytes, so that they can be unpacked and packed again.
 fn renew(numbers: &mut [u8], packet: &[u8])
     requires { ⌜ (length (now numbers) ≡ packedLength + packedLength) × (length (now packet) ≡ packetLength) ⌝ }
     ensures { λ _. ⌜ now (numbers .exit) ≡ take packedLength (drop numbersStart (now (packet .entry))) ++ take packedLength (now (numbers .entry)) ⌝ }
@@ -108,7 +107,7 @@ fn renew(numbers: &mut [u8], packet: &[u8])
     );
 }
 
-// Writes where the receiver stands by a row of the table, and says what happened.
+// Writes the stage that a row of the table gives. Answers what happened.
 fn move_on(state: &mut [u8], row: Row) -> u8
     requires { ⌜ length (now state) ≡ receiverLength ⌝ }
     ensures { λ r. ⌜ r ≡ eventNumber (row .event) ⌝ }
@@ -120,7 +119,7 @@ fn move_on(state: &mut [u8], row: Row) -> u8
     event_number(event)
 }
 
-// Takes a packet that may stand in no slot: a header, whose numbers are the open frame's now, or a broken one. Says what it did.
+// Takes a packet that may not stand in a slot: a good header, which opens a frame, or a broken packet. Answers what it did.
 fn take_header(state: &mut [u8], packet: &[u8]) -> u8
     requires { ⌜ (length (now state) ≡ receiverLength) × (someAtLeast (2 ^ 8) (now state) ≡ false) ⌝ }
     requires { ⌜ (unfit (receiverOf (now state) .pid) (now packet) ≡ true) × (receiveRefusal (receiverOf (now state)) (length (now packet)) storeLength ≡ 0) ⌝ }
@@ -141,7 +140,8 @@ fn take_header(state: &mut [u8], packet: &[u8]) -> u8
     )
 }
 
-// Takes one packet. The state is looked at because what is left of it as it was is what coding it again gives, bytes being bytes.
+// Takes one packet. `are_bytes` tells the proof that the state is bytes: those that are not written here are then what the new state's code
+// has in their place.
 #[no_mangle]
 pub extern "C" fn niranbok_receiver_receive(
     state: &mut [u8],

@@ -1,4 +1,4 @@
-// What every call asks of a receiver's state, and its stage read and written, where they stand in its 58 bytes.
+// What every call checks of a receiver's state, and how the stage is read from its 58 bytes and written to them.
 use counters::SLOTS;
 use receiver::COUNTER;
 use receiver::KIND;
@@ -17,7 +17,7 @@ ghost use Rattle.receiver.specs.Table.{stageChecks};
 ghost use Rattle.receiver.specs.Bytes.{receiverLength, stageBytes, noStage, stageOf, stageIn};
 ghost use Rattle.receiver.specs.Calls.{stateRefused};
 
-// A stage that every call refuses with 17: what bytes say that are no stage's.
+// Bytes that code no stage are read as this one, which every call refuses with 17.
 fn no_stage() -> Stage
     ensures { λ r. ⌜ r ≡ Stage.Open 255 0 ⌝ }
 {
@@ -45,7 +45,7 @@ fn stage_of(tag: u8, from: u8, k: u8) -> Stage
     Stage::Waiting
 }
 
-// The stage that a state's bytes say. Beside a number that is no kind they say none, nor do bytes of another length.
+// The stage in a state's bytes. If the length is wrong or the kind's byte is no kind, it is the one that is refused.
 pub fn stage_in(bytes: &[u8]) -> Stage
     ensures { λ r. ⌜ r ≡ cond (eqb (length (now (bytes .entry))) receiverLength) (stageIn (now (bytes .entry))) noStage ⌝ }
 {
@@ -76,7 +76,7 @@ pub fn write_stage(bytes: &mut [u8], stage: Stage)
     slices::copy(bytes, &three);
 }
 
-// 17: three bytes that are no stage's, a counter that no header has, or more packets stored than there are slots.
+// 17: three bytes that code no stage, a counter that no header has, or more packets stored than there are slots.
 fn stage_refusal(tag: u8, counter: u8, stored: u8) -> u8
     ensures { λ r. ⌜ r ≡ firstOf (stageChecks (stageOf tag counter stored)) ⌝ }
 {
@@ -107,8 +107,8 @@ fn stage_refusal(tag: u8, counter: u8, stored: u8) -> u8
     0
 }
 
-// 1, 2 and 17, which every call asks of a state: its length, its PID, its kind and its stage. The slots' numbers can be any, since no number
-// of four bits is out of range.
+// 1, 2 and 17, which every call checks of a state: its length, its PID, its kind and its stage. The slots' numbers are not checked, since
+// every number of four bits is in range.
 pub fn state_refusal(state: &[u8]) -> u8
     ensures { λ r. ⌜ r ≡ stateRefused (now (state .entry)) ⌝ }
 {

@@ -1,4 +1,4 @@
-// The calls that start a receiver: its state as a value of bytes, or written into lent ones.
+// The calls that start a receiver. One answers the state as a value, the other writes it into the caller's bytes.
 use receiver::RECEIVER_BYTES;
 use setting::Kind;
 ghost use mathlib.Core.Path.{_≡_};
@@ -15,7 +15,7 @@ pub struct Started {
     pub state: [u8; RECEIVER_BYTES],
 }
 
-// Waiting is zeros, and so are no numbers: PID and kind stand before them.
+// Writes a fresh state: the PID and the kind, then zeros, which say that the receiver waits and that no slot has a number.
 fn write_fresh(state: &mut [u8], pid: u16, kind: u8)
     requires { ⌜ (length (now state) ≡ receiverLength) × (kind < 2) ⌝ }
     ensures { λ _. ⌜ now (state .exit) ≡ receiverBytes (waiting (kindOf kind) pid) ⌝ }
@@ -27,7 +27,7 @@ fn write_fresh(state: &mut [u8], pid: u16, kind: u8)
     slices::copy(state, &front);
 }
 
-// A receiver for this header PID and kind, as a value of bytes.
+// Starts a receiver for this header PID and kind. Answers the state as a value.
 pub fn start(pid: u16, kind: Kind) -> Started
     ensures { λ r. ⌜ r .refusal ≡ startOf kind pid .refusal ⌝ }
     ensures { λ r. ⌜ r .state ≡ receiverBytes (startOf kind pid .state) ⌝ }
@@ -41,7 +41,7 @@ pub fn start(pid: u16, kind: Kind) -> Started
     Started { refusal: 0, state }
 }
 
-// The same into lent bytes, which a refusal leaves as they were.
+// The same, written into the caller's bytes. A refusal leaves them as they were.
 #[no_mangle]
 pub extern "C" fn niranbok_receiver_start(state: &mut [u8], pid: u16, kind: u8) -> u8
     ensures { λ r. ⌜ r ≡ startRefused (now (state .entry)) pid kind ⌝ }

@@ -7,7 +7,7 @@ use receiver::Stage;
 ghost use mathlib.Core.Path.{_≡_};
 ghost use Rattle.receiver.specs.Table.{good, broken, other, openRow, rowOf};
 
-// What a good header with this counter does: step 1 behind 52 packets makes the frame before it ready.
+// What a good header with this counter does. If 52 packets are stored and the counter steps by 1, the frame before it is ready.
 pub fn header_row(stage: Stage, to: u8) -> Row
     ensures { λ r. ⌜ r ≡ rowOf stage good to ⌝ }
 {

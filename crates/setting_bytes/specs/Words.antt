@@ -20,6 +20,6 @@ wordsOf [] = []
 wordsOf (h ∷ []) = []
 wordsOf (h ∷ l ∷ bytes) = (h * 256 + l) ∷ wordsOf bytes
 
--- what stands in the place of the numbers once a part is read: its own, where it is twice as long
+-- the numbers after a part is read into them: those of the part, if it is twice as long as they are; else as before
 unfoldable pub wordsRead : List ℕ → List ℕ → List ℕ
 wordsRead words bytes = cond (eqb (length bytes) (2 * length words)) (wordsOf bytes) words

@@ -16,7 +16,7 @@ use Rattle.setting_bytes.specs.Settings.{settingLength, settingBytes, settingOf
 unfoldable pub callRefused : ℕ → ℕ → ℕ
 callRefused setting kind = firstOf ((1, not (eqb setting settingLength)) ∷ (17, not (isKind kind)) ∷ [])
 
--- no kind is asked for: 0 is one
+-- a blank setting needs no kind, so 0 stands for it in the check
 unfoldable pub blankRefused : List ℕ → ℕ
 blankRefused setting = callRefused (length setting) 0
 

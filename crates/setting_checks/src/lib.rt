@@ -1,4 +1,4 @@
-// Widths and rules asked of a setting's bytes, where they stand.
+// The checks of a setting's widths and rules, made on its bytes as they lie.
 use counters::FramePosition;
 use counters::STREAMS;
 use setting::Kind;

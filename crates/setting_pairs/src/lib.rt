@@ -44,7 +44,7 @@ fn has_pair_before(availability: u16, ts: &[u16], os: &[u16], j: usize) -> bool
     false
 }
 
-// Whether two available streams have the same low six bits in their ts_id. `met` has a bit for each of the 64 contents met so far. Where the
+// Whether two available streams have the same low six bits in their ts_id. `met` has a bit for each of the 64 values met so far. If the
 // answer is no, no two pairs are equal, and nothing more has to be compared.
 fn some_alike(availability: u16, ts: &[u16]) -> bool
     requires { ⌜ length (now ts) ≡ lastStream ⌝ }

@@ -36,7 +36,7 @@ fn write_words(part: &mut [u8], words: &[u16])
     }
 }
 
-// The slot information, but for the streams' own.
+// Writes slot_allocation_type, frame_type and the availability.
 fn write_information(part: &mut [u8], a: Announced)
     requires { ⌜ length (now part) ≡ tsIdAt ⌝ }
     ensures { λ _. ⌜ now (part .exit) ≡ a .«slot_allocation_type» ∷ a .«frame_type» ∷ wordBytes (a .availability ∷ []) ⌝ }

@@ -109,7 +109,7 @@ pub fn differ(xs: &[u8], ys: &[u8]) -> bool
     false
 }
 
-// What is handed over as a byte is below 256.
+// A byte is below 256, which the prover knows of a parameter and not of a slice's element.
 fn is_byte(x: u8)
     ensures { λ _. ⌜ x < 256 ⌝ }
 {}
