@@ -19,7 +19,7 @@ ghost use Rattle.receiver.specs.Calls.{stateRefused};
 
 // Bytes that code no stage are read as this one, which every call refuses with 17.
 fn no_stage() -> Stage
-    ensures { λ r. ⌜ r ≡ Stage.Open 255 0 ⌝ }
+    ensures { λ r. ⌜ r ≡ noStage ⌝ }
 {
     Stage::Open(255, 0)
 }

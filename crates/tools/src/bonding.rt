@@ -48,7 +48,7 @@ fn small_at(i: usize, c: usize, field: &[u8], first: u32, last: u32) -> u8 {
 
 // Reads how many frames and slots each carrier has. Answers whether all are in range.
 fn read_carriers(frames: &mut [u8], slots: &mut [u8], first: usize, n: usize) -> bool
-    requires { ⌜ (length (now frames) ≡ 8) × (length (now slots) ≡ 8) ⌝ }
+    requires { ⌜ (length (now frames) ≡ lastCarrier) × (length (now slots) ≡ lastCarrier) ⌝ }
     requires { ⌜ (first ≤ 7) × (n ≤ lastCarrier) ⌝ }
 {
     let fewest = limits::FEWEST_FRAMES as u32;
@@ -89,7 +89,7 @@ fn create(i: usize) -> i32 {
 }
 
 fn create_all(fds: &mut [i32], first: usize, n: usize) -> bool
-    requires { ⌜ (length (now fds) ≡ 8) × (n ≤ lastCarrier) ⌝ }
+    requires { ⌜ (length (now fds) ≡ lastCarrier) × (n ≤ lastCarrier) ⌝ }
     requires { ⌜ first ≤ 7 ⌝ }
 {
     let mut c = 0;
@@ -114,7 +114,7 @@ fn product(frames: u8, slots: u8) -> usize {
 
 // How many packets a super frame of the whole group takes.
 fn packets_of(frames: &[u8], slots: &[u8], n: usize) -> usize
-    requires { ⌜ (length (now frames) ≡ 8) × (length (now slots) ≡ 8) ⌝ }
+    requires { ⌜ (length (now frames) ≡ lastCarrier) × (length (now slots) ≡ lastCarrier) ⌝ }
     requires { ⌜ n ≤ lastCarrier ⌝ }
     ensures { λ r. ⌜ r ≤ lastSlot * mostFrames ⌝ }
 {
@@ -138,7 +138,7 @@ fn write(fd: i32, c: usize, bytes: &[u8]) -> bool {
 
 // Writes each carrier's super frame to its file.
 fn write_parts(fds: &[i32], group: &[u8], frames: &[u8], n: usize) -> bool
-    requires { ⌜ (length (now frames) ≡ 8) × (length (now fds) ≡ 8) ⌝ }
+    requires { ⌜ (length (now frames) ≡ lastCarrier) × (length (now fds) ≡ lastCarrier) ⌝ }
     requires { ⌜ (length (now group) ≡ groupLength) × (n ≤ lastCarrier) ⌝ }
 {
     let mut c = 0;
@@ -155,7 +155,7 @@ fn write_parts(fds: &[i32], group: &[u8], frames: &[u8], n: usize) -> bool
 
 // Writes to each carrier the header that vouches for its last frame.
 fn write_last(fds: &[i32], group: &[u8], frames: &[u8], n: usize)
-    requires { ⌜ (length (now frames) ≡ 8) × (length (now fds) ≡ 8) ⌝ }
+    requires { ⌜ (length (now frames) ≡ lastCarrier) × (length (now fds) ≡ lastCarrier) ⌝ }
     requires { ⌜ (length (now group) ≡ groupLength) × (n ≤ lastCarrier) ⌝ }
 {
     let mut c = 0;
@@ -196,7 +196,7 @@ fn make_super(
     frames: &[u8],
     n: usize,
 ) -> bool
-    requires { ⌜ (length (now frames) ≡ 8) × (length (now fds) ≡ 8) ⌝ }
+    requires { ⌜ (length (now frames) ≡ lastCarrier) × (length (now fds) ≡ lastCarrier) ⌝ }
     requires { ⌜ (length (now group) ≡ groupLength) × (n ≤ lastCarrier) ⌝ }
 {
     if !read_stream(fd, stream) {
@@ -231,9 +231,9 @@ fn make_all(
     slots: &[u8],
     n: usize,
 )
-    requires { ⌜ (length (now frames) ≡ 8) × (length (now slots) ≡ 8) ⌝ }
+    requires { ⌜ (length (now frames) ≡ lastCarrier) × (length (now slots) ≡ lastCarrier) ⌝ }
     requires { ⌜ (length (now group) ≡ groupLength) × (n ≤ lastCarrier) ⌝ }
-    requires { ⌜ length (now fds) ≡ 8 ⌝ }
+    requires { ⌜ length (now fds) ≡ lastCarrier ⌝ }
 {
     let mut number: u64 = 0;
     while number < u64::MAX {
@@ -259,9 +259,9 @@ fn bond_with(
     slots: &[u8],
     n: usize,
 )
-    requires { ⌜ (length (now frames) ≡ 8) × (length (now slots) ≡ 8) ⌝ }
+    requires { ⌜ (length (now frames) ≡ lastCarrier) × (length (now slots) ≡ lastCarrier) ⌝ }
     requires { ⌜ (length (now group) ≡ groupLength) × (n ≤ lastCarrier) ⌝ }
-    requires { ⌜ (length (now fds) ≡ 8) × (length (now stream) ≡ streamLength) ⌝ }
+    requires { ⌜ (length (now fds) ≡ lastCarrier) × (length (now stream) ≡ streamLength) ⌝ }
 {
     nulls::write_nulls(group);
     let end = PACKET_BYTES * packets_of(frames, slots, n);
@@ -269,8 +269,8 @@ fn bond_with(
 }
 
 fn bond_files(fd: i32, fds: &[i32], b: Bonded, frames: &[u8], slots: &[u8], n: usize)
-    requires { ⌜ (length (now frames) ≡ 8) × (length (now slots) ≡ 8) ⌝ }
-    requires { ⌜ (length (now fds) ≡ 8) × (n ≤ lastCarrier) ⌝ }
+    requires { ⌜ (length (now frames) ≡ lastCarrier) × (length (now slots) ≡ lastCarrier) ⌝ }
+    requires { ⌜ (length (now fds) ≡ lastCarrier) × (n ≤ lastCarrier) ⌝ }
 {
     let mut group = [0u8; GROUP_BYTES];
     let mut stream = [0u8; STREAM_BYTES];

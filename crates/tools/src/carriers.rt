@@ -49,7 +49,7 @@ fn frames_before(frames: &[u8], n: usize) -> usize
 
 // The bytes of the first n carriers. The next carrier's super frame starts behind them.
 pub(crate) fn bytes_before(frames: &[u8], n: usize) -> usize
-    requires { ⌜ (n ≤ lastCarrier) × (length (now frames) ≡ 8) ⌝ }
+    requires { ⌜ (n ≤ lastCarrier) × (length (now frames) ≡ lastCarrier) ⌝ }
     ensures { λ r. ⌜ r ≤ groupLength ⌝ }
 {
     FRAME_BYTES * at_most(frames_before(frames, n), FRAMES)

@@ -80,7 +80,7 @@ pub(crate) fn standing_of(g: Group, n: usize) -> Standing
 // How many frames each carrier has; 0 for one that lacks part of its super frame.
 fn frames_of(g: Group, n: usize) -> [u8; CARRIERS]
     requires { ⌜ n ≤ lastCarrier ⌝ }
-    ensures { λ r. ⌜ length r ≡ 8 ⌝ }
+    ensures { λ r. ⌜ length r ≡ lastCarrier ⌝ }
 {
     let mut frames = [0u8; CARRIERS];
     let mut c = 0;
@@ -109,7 +109,7 @@ fn put_super(frames: &mut [u8], before: usize, parts: &[u8], c: usize, size: u8)
 // Copies the carriers' super frames into the group, one behind another.
 fn join(frames: &mut [u8], parts: &[u8], sizes: &[u8], n: usize)
     requires { ⌜ (length (now frames) ≡ framesLength) × (length (now parts) ≡ partsLength) ⌝ }
-    requires { ⌜ (length (now sizes) ≡ 8) × (n ≤ lastCarrier) ⌝ }
+    requires { ⌜ (length (now sizes) ≡ lastCarrier) × (n ≤ lastCarrier) ⌝ }
 {
     let mut c = 0;
     while c < n {

@@ -134,7 +134,7 @@ pub(crate) fn write_headers(
     number: u64,
     n: usize,
 ) -> bool
-    requires { ⌜ (length (now frames) ≡ 8) × (length (now slots) ≡ 8) ⌝ }
+    requires { ⌜ (length (now frames) ≡ lastCarrier) × (length (now slots) ≡ lastCarrier) ⌝ }
     requires { ⌜ (length (now group) ≡ groupLength) × (n ≤ lastCarrier) ⌝ }
 {
     let mut c = 0;

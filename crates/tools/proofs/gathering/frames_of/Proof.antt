@@ -3,11 +3,12 @@ use Prim.Native.Nat.{_-_}
 use mathlib.Core.Path.{_≡_}
 use borrow.Author.Needs.{needs}
 use lib.ListN.{length}
+use Rattle.counters.specs.Counters.{lastCarrier}
 use Rattle.tools.proofs.gathering.frames_of.Statement.{statement}
 use Rattle.tools.proofs.gathering.frames_of.Tie as tie
 
 abbrev Inv-loop : tie.InvT-loop
-Inv-loop n g frames₀ c₀ frames c = length frames ≡ 8
+Inv-loop n g frames₀ c₀ frames c = length frames ≡ lastCarrier
 
 abbrev μ-loop : tie.MeasureT-loop
 μ-loop n g frames₀ c₀ frames c = n - c
