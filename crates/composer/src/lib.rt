@@ -6,8 +6,12 @@ use setting_bytes::ANNOUNCED_BYTES;
 use setting_bytes::NUMBERS;
 use setting_bytes::SETTING_BYTES;
 
-// The kind stands behind the PID. Then come counter and version of the last closed header, and what it announced.
-pub const KIND: usize = 2;
+// The PID, in two bytes, and the kind. Then come counter and version of the last closed header, and what it announced.
+pub const PID: usize = 0;
+
+pub const PID_LOW: usize = PID + 1;
+
+pub const KIND: usize = PID_LOW + 1;
 
 pub const COUNTER: usize = KIND + 1;
 
@@ -28,6 +32,8 @@ pub const COMPOSER_BYTES: usize = FILLED + SLOTS;
 // Where, in the open frame's setting, stand what it announces, its availability and its plan.
 pub const SAID: usize = SETTING + ANNOUNCED;
 
-pub const AVAILABILITY: usize = SAID + 2;
+pub const AVAILABILITY: usize = SAID + setting_bytes::AVAILABILITY;
+
+pub const AVAILABILITY_LOW: usize = SAID + setting_bytes::AVAILABILITY_LOW;
 
 pub const PLAN: usize = SETTING + NUMBERS;

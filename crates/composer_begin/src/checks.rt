@@ -1,4 +1,5 @@
 // What begin checks of its state and its other buffers, in the order of the table of refusals.
+use composer::KIND;
 use packet::FRAME_BYTES;
 ghost use mathlib.Core.Path.{_≡_};
 ghost use lib.ListN.{length};
@@ -15,7 +16,7 @@ fn both_rules_refusal(state: &[u8], setting: &[u8]) -> u8
     ensures { λ r. ⌜ r ≡ firstOf (inTurn (openRuleChecks (composerOf (now (state .entry)))) (ruleChecks (composerOf (now (state .entry)) .kind) (settingOf (now (setting .entry))))) ⌝ }
 {
     let old = composer_checks::open_rule_refusal(state);
-    let new = setting_checks::rule_refusal(setting_bytes::kind_of(state[2]), setting);
+    let new = setting_checks::rule_refusal(setting_bytes::kind_of(state[KIND]), setting);
     if old == 0 {
         return new;
     }
@@ -39,7 +40,7 @@ pub(crate) fn begin_refusal(state: &[u8], setting: &[u8], lent: usize) -> u8
     if refused != 0 {
         return refused;
     }
-    let width = setting_checks::width_refusal(setting_bytes::kind_of(state[2]), setting);
+    let width = setting_checks::width_refusal(setting_bytes::kind_of(state[KIND]), setting);
     if width != 0 {
         return width;
     }

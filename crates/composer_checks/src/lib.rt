@@ -1,12 +1,18 @@
 // What every call checks of a composer's state, read straight from its 390 bytes. Any other length is a 1.
 use composer::COMPOSER_BYTES;
+use composer::COUNTER;
 use composer::FILLED;
+use composer::KIND;
 use composer::LAST;
 use composer::OPEN;
+use composer::PID;
+use composer::PID_LOW;
 use composer::PLAN;
 use composer::SETTING;
+use composer::VERSION;
 use counters::SLOTS;
 use setting::limits;
+use setting_bytes::LAST_KIND;
 ghost use mathlib.Core.Path.{_≡_};
 ghost use lib.ListN.{length};
 ghost use Rattle.counters.specs.Counters.{lastSlot};
@@ -21,7 +27,7 @@ fn is_coded(bytes: &[u8]) -> bool
     requires { ⌜ length (now bytes) ≡ composerLength ⌝ }
     ensures { λ r. ⌜ r ≡ isCoded (now (bytes .entry)) ⌝ }
 {
-    if 1 < bytes[2] {
+    if LAST_KIND < bytes[KIND] {
         return false;
     }
     if 1 < bytes[OPEN] {
@@ -38,23 +44,23 @@ fn open_width_refusal(bytes: &[u8]) -> u8
     if bytes[OPEN] != 1 {
         return 0;
     }
-    setting_checks::width_refusal(setting_bytes::kind_of(bytes[2]), &bytes[SETTING..FILLED])
+    setting_checks::width_refusal(setting_bytes::kind_of(bytes[KIND]), &bytes[SETTING..FILLED])
 }
 
 fn long_state_refusal(bytes: &[u8]) -> u8
     requires { ⌜ length (now bytes) ≡ composerLength ⌝ }
     ensures { λ r. ⌜ r ≡ firstOf (stateChecks (composerOf (now (bytes .entry)))) ⌝ }
 {
-    if !setting::pid_allowed(bits::word(bytes[0], bytes[1])) {
+    if !setting::pid_allowed(bits::word(bytes[PID], bytes[PID_LOW])) {
         return 2;
     }
     if !is_coded(bytes) {
         return 17;
     }
-    if limits::COUNTERS <= bytes[3] {
+    if limits::COUNTERS <= bytes[COUNTER] {
         return 17;
     }
-    if limits::VERSIONS <= bytes[4] {
+    if limits::VERSIONS <= bytes[VERSION] {
         return 17;
     }
     let shown = setting_checks::announced_refusal(&bytes[LAST..OPEN]);
@@ -84,7 +90,7 @@ pub fn open_rule_refusal(bytes: &[u8]) -> u8
     if bytes[OPEN] != 1 {
         return 0;
     }
-    setting_checks::rule_refusal(setting_bytes::kind_of(bytes[2]), &bytes[SETTING..FILLED])
+    setting_checks::rule_refusal(setting_bytes::kind_of(bytes[KIND]), &bytes[SETTING..FILLED])
 }
 
 // Whether a slot that is planned for no stream is marked filled. The loop never stops early, so that the compiler can compare many

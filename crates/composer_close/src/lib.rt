@@ -6,6 +6,8 @@ use composer::COUNTER;
 use composer::KIND;
 use composer::LAST;
 use composer::OPEN;
+use composer::PID;
+use composer::PID_LOW;
 use composer::PLAN;
 use composer::SAID;
 use composer::VERSION;
@@ -63,7 +65,7 @@ pub extern "C" fn niranbok_composer_close(state: &mut [u8], frame: &mut [u8]) ->
     }
     slices::are_bytes(state);
     let said = header::header_setting(state);
-    let pid = bits::word(state[0], state[1]);
+    let pid = bits::word(state[PID], state[PID_LOW]);
     let kind = setting_bytes::kind_of(state[KIND]);
     // The checks have made sure that this setting obeys the rules.
     header_write::write_header(&mut frame[0..PACKET_BYTES], pid, kind, said);

@@ -1,6 +1,9 @@
 // What put checks of its state and its other buffers, in the order of the table of refusals.
 use crate::slots;
 use composer::AVAILABILITY;
+use composer::AVAILABILITY_LOW;
+use composer::PID;
+use composer::PID_LOW;
 use counters::RelativeNumber;
 use counters::RelativeNumberAnswer;
 use packet::FRAME_BYTES;
@@ -21,10 +24,10 @@ fn stream_refusal(state: &[u8], stream: &[u8], r: RelativeNumber, empty: u64) ->
     requires { ⌜ empty ≡ slotsAsBits (emptyFor (r .0) (part planAt lastSlot (now state)) (marksOf (part filledAt lastSlot (now state)))) ⌝ }
     ensures { λ t. ⌜ t ≡ firstOf (streamChecks (composerOf (now (state .entry))) (r .0) (now (stream .entry))) ⌝ }
 {
-    if !r.is_available(bits::word(state[AVAILABILITY], state[AVAILABILITY + 1])) {
+    if !r.is_available(bits::word(state[AVAILABILITY], state[AVAILABILITY_LOW])) {
         return 13;
     }
-    let pid = bits::word(state[0], state[1]);
+    let pid = bits::word(state[PID], state[PID_LOW]);
     let packets = slots::packets_for(empty, stream.len());
     if packet::has_unfit(&stream[0..PACKET_BYTES * packets], pid) {
         return 12;

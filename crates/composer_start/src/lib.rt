@@ -2,12 +2,15 @@
 use composer::COMPOSER_BYTES;
 use composer::COUNTER;
 use composer::KIND;
+use composer::PID;
+use composer::PID_LOW;
 use composer::VERSION;
 use setting::Kind;
+use setting_bytes::LAST_KIND;
 ghost use mathlib.Core.Path.{_≡_};
 ghost use Prim.Native.Nat.{_<_};
 ghost use lib.ListN.{length};
-ghost use Rattle.setting_bytes.specs.Kinds.{kindOf};
+ghost use Rattle.setting_bytes.specs.Kinds.{kinds, kindOf};
 ghost use Rattle.composer.specs.Composing.{fresh, startOf};
 ghost use Rattle.composer.specs.States.{composerLength, composerBytes};
 ghost use Rattle.composer.specs.Calls.{startRefused, startState};
@@ -20,12 +23,12 @@ pub struct Started {
 
 // The counter and the version are the ones before those of the first header.
 fn write_fresh(state: &mut [u8], pid: u16, kind: u8)
-    requires { ⌜ (length (now state) ≡ composerLength) × (kind < 2) ⌝ }
+    requires { ⌜ (length (now state) ≡ composerLength) × (kind < kinds) ⌝ }
     ensures { λ _. ⌜ now (state .exit) ≡ composerBytes (fresh (kindOf kind) pid) ⌝ }
 {
     slices::fill(state, 0);
-    state[0] = (pid / 256) as u8;
-    state[1] = (pid % 256) as u8;
+    state[PID] = (pid / 256) as u8;
+    state[PID_LOW] = (pid % 256) as u8;
     state[KIND] = kind;
     state[COUNTER] = 15;
     state[VERSION] = 7;
@@ -57,7 +60,7 @@ pub extern "C" fn niranbok_composer_start(state: &mut [u8], pid: u16, kind: u8) 
     if !setting::pid_allowed(pid) {
         return 2;
     }
-    if 1 < kind {
+    if LAST_KIND < kind {
         return 17;
     }
     write_fresh(state, pid, kind);

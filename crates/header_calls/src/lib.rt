@@ -1,5 +1,6 @@
 // The calls that write and read a header, with the setting as bytes: what they answer and leave, the checks of both, and the one that reads.
 use packet::PACKET_BYTES;
+use setting_bytes::LAST_KIND;
 use setting_bytes::SETTING_BYTES;
 ghost use mathlib.Core.Path.{_≡_};
 ghost use Rattle.header_calls.specs.Calls.{callRefused, readRefused, readMemory};
@@ -17,7 +18,7 @@ pub fn call_refusal(packet: usize, setting: usize, pid: u16, kind: u8) -> u8
     if !setting::pid_allowed(pid) {
         return 2;
     }
-    if 1 < kind {
+    if LAST_KIND < kind {
         return 17;
     }
     0

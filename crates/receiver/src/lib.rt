@@ -49,9 +49,13 @@ pub const STORE_BYTES: usize = PACKET_BYTES * SLOTS;
 // How many bytes the numbers of all slots take, two a byte as a header has them.
 pub const PACKED_BYTES: usize = SLOTS * 4 / 8;
 
-// The kind stands behind the PID. Then come the stage, the open frame's counter and how many of its packets are stored; then the slots'
+// The PID, in two bytes, and the kind. Then come the stage, the open frame's counter and how many of its packets are stored; then the slots'
 // numbers, by the open frame's header and by the header before it.
-pub const KIND: usize = 2;
+pub const PID: usize = 0;
+
+pub const PID_LOW: usize = PID + 1;
+
+pub const KIND: usize = PID_LOW + 1;
 
 pub const STAGE: usize = KIND + 1;
 

@@ -6,6 +6,8 @@ use receiver::Event;
 use receiver::KIND;
 use receiver::NUMBERS;
 use receiver::PACKED_BYTES;
+use receiver::PID;
+use receiver::PID_LOW;
 use receiver::RECEIVER_BYTES;
 use receiver::Row;
 use receiver::STAGE;
@@ -126,7 +128,7 @@ fn take_header(state: &mut [u8], packet: &[u8]) -> u8
     ensures { λ r. ⌜ r ≡ eventNumber (receiveOf (receiverOf (now (state .entry))) (now (packet .entry)) storeLength .event) ⌝ }
     ensures { λ _. ⌜ now (state .exit) ≡ receiverBytes (receiveOf (receiverOf (now (state .entry))) (now (packet .entry)) storeLength .state) ⌝ }
 {
-    let pid = bits::word(state[0], state[1]);
+    let pid = bits::word(state[PID], state[PID_LOW]);
     let kind = setting_bytes::kind_of(state[KIND]);
     let stage = receiver_stage::stage_in(state);
     let said = header_check::check(packet, pid, kind);
@@ -140,8 +142,7 @@ fn take_header(state: &mut [u8], packet: &[u8]) -> u8
     )
 }
 
-// Takes one packet. `are_bytes` tells the proof that the state is bytes: those that are not written here are then what the new state's code
-// has in their place.
+// Takes one packet. `are_bytes` tells the proof that the state holds bytes; with that, those that this call leaves alone are the new state's.
 #[no_mangle]
 pub extern "C" fn niranbok_receiver_receive(
     state: &mut [u8],
@@ -160,7 +161,7 @@ pub extern "C" fn niranbok_receiver_receive(
         return refusal;
     }
     slices::are_bytes(state);
-    if packet::place_refusal(packet, bits::word(state[0], state[1])) == 0 {
+    if packet::place_refusal(packet, bits::word(state[PID], state[PID_LOW])) == 0 {
         *event = take_packet(state, packet, store);
         return 0;
     }

@@ -2,11 +2,14 @@
 use counters::SLOTS;
 use receiver::COUNTER;
 use receiver::KIND;
+use receiver::PID;
+use receiver::PID_LOW;
 use receiver::RECEIVER_BYTES;
 use receiver::STAGE;
 use receiver::STORED;
 use receiver::Stage;
 use setting::limits;
+use setting_bytes::LAST_KIND;
 ghost use mathlib.Core.Path.{_≡_};
 ghost use mathlib.Core.Bool.{cond};
 ghost use lib.Dec.{eqb};
@@ -52,7 +55,7 @@ pub fn stage_in(bytes: &[u8]) -> Stage
     if bytes.len() != RECEIVER_BYTES {
         return no_stage();
     }
-    if 1 < bytes[KIND] {
+    if LAST_KIND < bytes[KIND] {
         return no_stage();
     }
     stage_of(bytes[STAGE], bytes[COUNTER], bytes[STORED])
@@ -115,10 +118,10 @@ pub fn state_refusal(state: &[u8]) -> u8
     if state.len() != RECEIVER_BYTES {
         return 1;
     }
-    if !setting::pid_allowed(bits::word(state[0], state[1])) {
+    if !setting::pid_allowed(bits::word(state[PID], state[PID_LOW])) {
         return 2;
     }
-    if 1 < state[KIND] {
+    if LAST_KIND < state[KIND] {
         return 17;
     }
     stage_refusal(state[STAGE], state[COUNTER], state[STORED])

@@ -1,10 +1,11 @@
 // The calls that start a receiver. One answers the state as a value, the other writes it into the caller's bytes.
 use receiver::RECEIVER_BYTES;
 use setting::Kind;
+use setting_bytes::LAST_KIND;
 ghost use mathlib.Core.Path.{_≡_};
 ghost use Prim.Native.Nat.{_<_};
 ghost use lib.ListN.{length};
-ghost use Rattle.setting_bytes.specs.Kinds.{kindOf};
+ghost use Rattle.setting_bytes.specs.Kinds.{kinds, kindOf};
 ghost use Rattle.receiver.specs.Receiving.{waiting, startOf};
 ghost use Rattle.receiver.specs.Bytes.{receiverLength, receiverBytes};
 ghost use Rattle.receiver.specs.Calls.{startRefused, startState};
@@ -17,7 +18,7 @@ pub struct Started {
 
 // Writes a fresh state: the PID and the kind, then zeros, which say that the receiver waits and that no slot has a number.
 fn write_fresh(state: &mut [u8], pid: u16, kind: u8)
-    requires { ⌜ (length (now state) ≡ receiverLength) × (kind < 2) ⌝ }
+    requires { ⌜ (length (now state) ≡ receiverLength) × (kind < kinds) ⌝ }
     ensures { λ _. ⌜ now (state .exit) ≡ receiverBytes (waiting (kindOf kind) pid) ⌝ }
 {
     let high = (pid / 256) as u8;
@@ -53,7 +54,7 @@ pub extern "C" fn niranbok_receiver_start(state: &mut [u8], pid: u16, kind: u8) 
     if !setting::pid_allowed(pid) {
         return 2;
     }
-    if 1 < kind {
+    if LAST_KIND < kind {
         return 17;
     }
     write_fresh(state, pid, kind);

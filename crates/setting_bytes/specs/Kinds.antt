@@ -4,9 +4,13 @@ use mathlib.Core.Bool.{Bool, cond}
 use lib.Dec.{ltb, eqb}
 use Rattle.setting.specs.declared.Kind.{Kind}
 
+-- how many kinds there are
+abbrev pub kinds : ℕ
+kinds = 2
+
 -- 0 is plain, 1 is extended, and no other number is a kind
 abbrev pub isKind : ℕ → Bool
-isKind n = ltb n 2
+isKind n = ltb n kinds
 
 unfoldable pub kindOf : ℕ → Kind
 kindOf n = cond (eqb n 1) Kind.Extended Kind.Plain

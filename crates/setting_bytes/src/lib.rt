@@ -23,7 +23,10 @@ pub fn read_words(words: &mut [u16], part: &[u8])
     }
 }
 
-// The kind of a number: 1 is extended; any other number counts as plain, and a caller refuses those above 1.
+// The largest number of a kind. Calls refuse any above it.
+pub const LAST_KIND: u8 = 1;
+
+// The kind of a number: 1 is extended; any other number counts as plain.
 pub fn kind_of(n: u8) -> Kind
     ensures { λ r. ⌜ r ≡ kindOf n ⌝ }
 {
@@ -49,7 +52,9 @@ pub const FRAME_TYPE: usize = SLOT_ALLOCATION_TYPE + 1;
 
 pub const AVAILABILITY: usize = FRAME_TYPE + 1;
 
-pub const TS_ID: usize = AVAILABILITY + 2;
+pub const AVAILABILITY_LOW: usize = AVAILABILITY + 1;
+
+pub const TS_ID: usize = AVAILABILITY_LOW + 1;
 
 pub const ORIGINAL_NETWORK_ID: usize = TS_ID + 2 * STREAMS;
 

@@ -1,5 +1,6 @@
 // The calls on a setting: a blank one, and what its widths and its rules refuse.
 use setting::Setting;
+use setting_bytes::LAST_KIND;
 use setting_bytes::SETTING_BYTES;
 ghost use mathlib.Core.Path.{_≡_};
 ghost use Rattle.setting_calls.specs.Calls.{callRefused, blankRefused, blankMemory, widthsRefused, rulesRefused};
@@ -11,7 +12,7 @@ fn call_refusal(setting: usize, kind: u8) -> u8
     if setting != SETTING_BYTES {
         return 1;
     }
-    if 1 < kind {
+    if LAST_KIND < kind {
         return 17;
     }
     0

@@ -8,6 +8,7 @@ use setting_bytes::ANNOUNCED_BYTES;
 use setting_bytes::AUXILIARY;
 use setting_bytes::BONDING;
 use setting_bytes::CARRIERS;
+use setting_bytes::COUNTER;
 use setting_bytes::EMERGENCY;
 use setting_bytes::FRAMES;
 use setting_bytes::NUMBERS;
@@ -18,6 +19,7 @@ use setting_bytes::RECEIVE_STATUS;
 use setting_bytes::SEQUENCE;
 use setting_bytes::SETTING_BYTES;
 use setting_bytes::TS_ID;
+use setting_bytes::VERSION;
 ghost use mathlib.Core.Path.{_≡_};
 ghost use lib.ListN.{length};
 ghost use Rattle.setting.specs.Refusal.{firstOf, ofLength};
@@ -30,7 +32,7 @@ const FRAME_TYPE: usize = ANNOUNCED + setting_bytes::FRAME_TYPE;
 
 const AVAILABILITY: usize = ANNOUNCED + setting_bytes::AVAILABILITY;
 
-const AVAILABILITY_LOW: usize = AVAILABILITY + 1;
+const AVAILABILITY_LOW: usize = ANNOUNCED + setting_bytes::AVAILABILITY_LOW;
 
 const STREAM_IDS: usize = ANNOUNCED + TS_ID;
 
@@ -46,9 +48,12 @@ pub fn announced_refusal(bytes: &[u8]) -> u8
         return 1;
     }
     setting_widths::information_refusal(
-        bytes[0],
-        bytes[1],
-        bits::word(bytes[2], bytes[3]),
+        bytes[setting_bytes::SLOT_ALLOCATION_TYPE],
+        bytes[setting_bytes::FRAME_TYPE],
+        bits::word(
+            bytes[setting_bytes::AVAILABILITY],
+            bytes[setting_bytes::AVAILABILITY_LOW],
+        ),
         &bytes[RECEIVE_STATUS..EMERGENCY],
         bytes[EMERGENCY],
     )
@@ -61,10 +66,10 @@ pub fn width_refusal(kind: Kind, bytes: &[u8]) -> u8
     if bytes.len() != SETTING_BYTES {
         return 1;
     }
-    if limits::COUNTERS <= bytes[0] {
+    if limits::COUNTERS <= bytes[COUNTER] {
         return 17;
     }
-    if limits::VERSIONS <= bytes[1] {
+    if limits::VERSIONS <= bytes[VERSION] {
         return 17;
     }
     let announced = announced_refusal(&bytes[ANNOUNCED..NUMBERS]);

@@ -9,9 +9,13 @@ use setting::Setting;
 use setting_bytes::ANNOUNCED;
 use setting_bytes::ANNOUNCED_BYTES;
 use setting_bytes::AUXILIARY;
+use setting_bytes::AVAILABILITY;
+use setting_bytes::AVAILABILITY_LOW;
 use setting_bytes::BONDING;
 use setting_bytes::CARRIERS;
+use setting_bytes::COUNTER;
 use setting_bytes::EMERGENCY;
+use setting_bytes::FRAME_TYPE;
 use setting_bytes::FRAMES;
 use setting_bytes::NUMBERS;
 use setting_bytes::ORIGINAL_NETWORK_ID;
@@ -20,7 +24,9 @@ use setting_bytes::PRIVATE;
 use setting_bytes::RECEIVE_STATUS;
 use setting_bytes::SEQUENCE;
 use setting_bytes::SETTING_BYTES;
+use setting_bytes::SLOT_ALLOCATION_TYPE;
 use setting_bytes::TS_ID;
+use setting_bytes::VERSION;
 ghost use mathlib.Core.Path.{_≡_};
 ghost use Rattle.setting_bytes.specs.Settings.{announcedOf, settingOf};
 
@@ -49,9 +55,9 @@ pub fn announced_of(bytes: &[u8]) -> Announced
     );
     slices::copy(&mut receive_status, &bytes[RECEIVE_STATUS..EMERGENCY]);
     Announced {
-        slot_allocation_type: bytes[0],
-        frame_type: bytes[1],
-        availability: bits::word(bytes[2], bytes[3]),
+        slot_allocation_type: bytes[SLOT_ALLOCATION_TYPE],
+        frame_type: bytes[FRAME_TYPE],
+        availability: bits::word(bytes[AVAILABILITY], bytes[AVAILABILITY_LOW]),
         ts_id,
         original_network_id,
         receive_status,
@@ -77,8 +83,8 @@ pub fn setting_of(bytes: &[u8]) -> Setting
     let original_network_id = a.original_network_id;
     let receive_status = a.receive_status;
     Setting {
-        continuity_counter: bytes[0],
-        version_number: bytes[1],
+        continuity_counter: bytes[COUNTER],
+        version_number: bytes[VERSION],
         slot_allocation_type: a.slot_allocation_type,
         frame_type: a.frame_type,
         availability: a.availability,

@@ -5,13 +5,19 @@ use setting::Setting;
 use setting_bytes::ANNOUNCED;
 use setting_bytes::ANNOUNCED_BYTES;
 use setting_bytes::AUXILIARY;
+use setting_bytes::AVAILABILITY;
+use setting_bytes::AVAILABILITY_LOW;
+use setting_bytes::COUNTER;
 use setting_bytes::EMERGENCY;
+use setting_bytes::FRAME_TYPE;
 use setting_bytes::NUMBERS;
 use setting_bytes::ORIGINAL_NETWORK_ID;
 use setting_bytes::PRIVATE;
 use setting_bytes::RECEIVE_STATUS;
 use setting_bytes::SETTING_BYTES;
+use setting_bytes::SLOT_ALLOCATION_TYPE;
 use setting_bytes::TS_ID;
+use setting_bytes::VERSION;
 ghost use mathlib.Core.Path.{_≡_};
 ghost use mathlib.Core.Bool.{cond};
 ghost use mathlib.Core.List.{[], _∷_, _++_};
@@ -41,10 +47,10 @@ fn write_information(part: &mut [u8], a: Announced)
     requires { ⌜ length (now part) ≡ tsIdAt ⌝ }
     ensures { λ _. ⌜ now (part .exit) ≡ a .«slot_allocation_type» ∷ a .«frame_type» ∷ wordBytes (a .availability ∷ []) ⌝ }
 {
-    part[0] = a.slot_allocation_type;
-    part[1] = a.frame_type;
-    part[2] = (a.availability / 256) as u8;
-    part[3] = (a.availability % 256) as u8;
+    part[SLOT_ALLOCATION_TYPE] = a.slot_allocation_type;
+    part[FRAME_TYPE] = a.frame_type;
+    part[AVAILABILITY] = (a.availability / 256) as u8;
+    part[AVAILABILITY_LOW] = (a.availability % 256) as u8;
 }
 
 // Writes what a header announces into the lent 80 bytes; bytes of any other length stay.
@@ -86,8 +92,8 @@ fn write_front(part: &mut [u8], s: Setting)
     write_announced(&mut part[ANNOUNCED..NUMBERS], setting::announce(s));
     let relative_ts_number = s.relative_ts_number;
     slices::copy(&mut part[NUMBERS..PRIVATE], &relative_ts_number);
-    part[0] = s.continuity_counter;
-    part[1] = s.version_number;
+    part[COUNTER] = s.continuity_counter;
+    part[VERSION] = s.version_number;
 }
 
 // The auxiliary bytes and the bonding fields, a byte each.

@@ -66,9 +66,6 @@ past-2 c = past-1 (c .before .before .before .before .before .before .before) âˆ
 shared-slice-read-word : tie.Need-shared-slice-read-word
 shared-slice-read-word c = search needs
 
-add-word : tie.Need-add-word
-add-word c = search needs
-
 shared-slice-read-word-2 : tie.Need-shared-slice-read-word-2
 shared-slice-read-word-2 c = search needs
 
@@ -122,7 +119,6 @@ stream-refusal-spec =
     tie.close
     (tie.spec
     shared-slice-read-word
-    add-word
     shared-slice-read-word-2
     word-requires
     is-available-requires
