@@ -20,6 +20,7 @@ use Rattle.setting_bytes.specs.Settings.{part, slotTypeAt, frameTypeAt, availab
 use Rattle.setting_bytes.specs.Settings.{counterAt, versionAt, announcedAt, numbersAt, privateAt, auxiliaryAt, groupAt, carriersAt, sequenceAt, framesAt, positionAt}
 use Rattle.setting_bytes.specs.Settings.{settingLength, settingOf}
 use Rattle.setting_bytes.proofs.Parts.{length-part}
+use Rattle.setting_pairs.specs.Identifiers.{idsApart}
 
 -- ---- a part of a part
 
@@ -64,6 +65,15 @@ widths-in kind b whole = rw (eq-eqb (length b) settingLength whole) refl
 -- where a place of what is announced is found in a setting
 abbrev pub inSetting : ℕ → ℕ
 inSetting k = announcedAt + k
+
+-- identifiers that stand one behind the other are the numbers of the bytes, two by two
+pub words-apart : (n : ℕ) (b : List ℕ) → length b ≡ 2 * n → idsApart 2 n b ≡ wordsOf b
+unfolding idsApart wordsOf
+words-apart zero [] h = refl
+words-apart zero (x ∷ b) h = absurd (omega arith)
+words-apart (suc n) [] h = absurd (omega arith)
+words-apart (suc n) (x ∷ []) h = absurd (omega arith)
+words-apart (suc n) (x ∷ y ∷ b) h = ap (λ (l : List ℕ). (x * 256 + y) ∷ l) (words-apart n b (omega arith))
 
 -- the rows of a setting
 abbrev pub rulesIn : Kind → List ℕ → List Check

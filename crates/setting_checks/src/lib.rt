@@ -1,6 +1,5 @@
 // The checks of a setting's widths and rules, made on its bytes as they lie.
 use counters::FramePosition;
-use counters::STREAMS;
 use setting::Kind;
 use setting::limits;
 use setting_bytes::ANNOUNCED;
@@ -39,6 +38,9 @@ const STREAM_IDS: usize = ANNOUNCED + TS_ID;
 const NETWORK_IDS: usize = ANNOUNCED + ORIGINAL_NETWORK_ID;
 
 const STATUSES: usize = ANNOUNCED + RECEIVE_STATUS;
+
+// An identifier is two bytes, and the next one stands directly behind it.
+const ID_BYTES: u8 = 2;
 
 // 17 of what a header announced, and 1 where it is not 80 bytes.
 pub fn announced_refusal(bytes: &[u8]) -> u8
@@ -105,11 +107,12 @@ pub fn rule_refusal(kind: Kind, bytes: &[u8]) -> u8
     if setting_slots::has_unavailable(availability, &bytes[NUMBERS..PRIVATE]) {
         return 9;
     }
-    let mut ts_id = [0u16; STREAMS];
-    setting_bytes::read_words(&mut ts_id, &bytes[STREAM_IDS..NETWORK_IDS]);
-    let mut original_network_id = [0u16; STREAMS];
-    setting_bytes::read_words(&mut original_network_id, &bytes[NETWORK_IDS..STATUSES]);
-    if setting_pairs::has_pair_twice(availability, &ts_id, &original_network_id) {
+    if setting_pairs::has_pair_twice(
+        availability,
+        &bytes[STREAM_IDS..NETWORK_IDS],
+        &bytes[NETWORK_IDS..STATUSES],
+        ID_BYTES,
+    ) {
         return 10;
     }
     setting_rules::bonding_refusal(

@@ -1,1 +1,2 @@
 mod Pairs
+pub mod Apart

@@ -1,13 +1,12 @@
-// The rules of 8 to 11, asked of a setting by value. Those of 9 and 10 are in setting_slots and setting_pairs, which setting_checks uses too.
+// The rules of 8 and 11. Those of 9 and 10 are in setting_slots and setting_pairs.
 use counters::FramePosition;
 use setting::Kind;
-use setting::Setting;
 use setting::limits;
 ghost use mathlib.Core.Path.{_≡_};
 ghost use lib.Dec.{eqb};
 ghost use Rattle.counters.specs.Counters.{within};
 ghost use Rattle.setting.specs.Refusal.{firstOf};
-ghost use Rattle.setting.specs.Rules.{byKind, bondingChecks, ruleChecks};
+ghost use Rattle.setting.specs.Rules.{byKind, bondingChecks};
 
 // 11: the bonding fields of an extended header.
 pub fn bonding_refusal(
@@ -64,29 +63,4 @@ pub fn frame_type_allowed(kind: Kind, frame_type: u8) -> bool
             frame_type,
         ),
     }
-}
-
-// 8 to 11: what a header that is written or read has to obey.
-pub fn rule_refusal(kind: Kind, s: Setting) -> u8
-    ensures { λ r. ⌜ r ≡ firstOf (ruleChecks kind s) ⌝ }
-{
-    if !frame_type_allowed(kind, s.frame_type) {
-        return 8;
-    }
-    let relative_ts_number = s.relative_ts_number;
-    if setting_slots::has_unavailable(s.availability, &relative_ts_number) {
-        return 9;
-    }
-    let ts_id = s.ts_id;
-    let original_network_id = s.original_network_id;
-    if setting_pairs::has_pair_twice(s.availability, &ts_id, &original_network_id) {
-        return 10;
-    }
-    bonding_refusal(
-        kind,
-        s.number_of_carriers,
-        s.carrier_sequence,
-        s.number_of_frames,
-        s.frame_position,
-    )
 }

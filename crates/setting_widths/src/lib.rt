@@ -1,12 +1,11 @@
-// The rule of 17, asked of a setting by value: a field too large for its bits, or one that the kind does not have.
+// The rule of 17, part by part: a field too large for its bits, or one that the kind does not have.
 use counters::FramePosition;
 use setting::Kind;
-use setting::Setting;
 use setting::limits;
 ghost use mathlib.Core.Path.{_≡_};
 ghost use mathlib.Core.List.{[]};
 ghost use Rattle.setting.specs.Refusal.{firstOf};
-ghost use Rattle.setting.specs.Rules.{absentChecks, informationChecks, widthChecks};
+ghost use Rattle.setting.specs.Rules.{absentChecks, informationChecks};
 
 // 17: slot and control information too large for its bits.
 pub fn information_refusal(
@@ -97,43 +96,4 @@ fn plain_absent_refusal(
         return 17;
     }
     0
-}
-
-// 17: a field too large for its bits.
-pub fn width_refusal(kind: Kind, s: Setting) -> u8
-    ensures { λ r. ⌜ r ≡ firstOf (widthChecks kind s) ⌝ }
-{
-    if limits::COUNTERS <= s.continuity_counter {
-        return 17;
-    }
-    if limits::VERSIONS <= s.version_number {
-        return 17;
-    }
-    let receive_status = s.receive_status;
-    let information = information_refusal(
-        s.slot_allocation_type,
-        s.frame_type,
-        s.availability,
-        &receive_status,
-        s.emergency_indicator,
-    );
-    if information != 0 {
-        return information;
-    }
-    let relative_ts_number = s.relative_ts_number;
-    if slices::some_at_least(&relative_ts_number, limits::NUMBERS) {
-        return 17;
-    }
-    let private_data = s.private_data;
-    let auxiliary = s.auxiliary;
-    absent_refusal(
-        kind,
-        &private_data,
-        &auxiliary,
-        s.group_id,
-        s.number_of_carriers,
-        s.carrier_sequence,
-        s.number_of_frames,
-        s.frame_position,
-    )
 }

@@ -5,16 +5,15 @@ use mathlib.Core.Bool.{not}
 use mathlib.Core.List.{List}
 use native.Mathlib.Omega.{arith}
 use borrow.Author.Needs.{needs}
-use lib.ListN.{replicate, length}
+use lib.ListN.{length}
 use Rattle.counters.specs.Counters.{lastSlot, lastStream}
 use Rattle.setting.specs.Refusal.{Check, firstOf, ofLength}
 use Rattle.setting.specs.Rules.{someUnavailable, pairTwice, ruleChecks}
 use Rattle.setting_bytes.specs.Words.{wordAt, wordsOf}
 use Rattle.setting_bytes.specs.Settings.{part, availabilityAt, tsIdAt, networkIdAt, numbersAt, settingOf, settingLength}
 use Rattle.setting.proofs.Refusals.{Past, answers, passed, at-length, off-length}
-use Rattle.setting_bytes.proofs.Numbers.{all-read}
 use Rattle.setting_bytes.proofs.Parts.{length-part}
-use Rattle.setting_checks.proofs.Rows.{inSetting, rulesIn, rules-in}
+use Rattle.setting_checks.proofs.Rows.{inSetting, rulesIn, rules-in, words-apart}
 use Rattle.setting_checks.proofs.rule_refusal.Statement.{statement}
 use Rattle.setting_checks.proofs.rule_refusal.Tie as tie
 
@@ -34,19 +33,23 @@ unavailable c = c .has-unavailable .ensures ∙ rw (c .before .before .word .ens
 past-2 : (c : tie.Else3) → Past 2 (rows (c .before .before .before .before .before .before .before .before .before .before .before))
 past-2 c = past-1 (c .before .before .before .before .before .before) ∙ passed _ _ (sym (unavailable (c .before)) ∙ c .if3 .left)
 
-twice : (c : tie.After-has-pair-twice) → let b = c .before .before .before .before .before .before .before .before .before .before .before .before .before .before .before .before .before .before .before .before .before .before .args .bytes .now in c .has-pair-twice .result ≡ pairTwice (wordAt (inSetting availabilityAt) b) (wordsOf (part (inSetting tsIdAt) (2 * lastStream) b)) (wordsOf (part (inSetting networkIdAt) (2 * lastStream) b))
+twice : (c : tie.After-has-pair-twice) → let b = c .before .before .before .before .before .before .before .before .before .before .before .before .before .before .args .bytes .now in c .has-pair-twice .result ≡ pairTwice (wordAt (inSetting availabilityAt) b) (wordsOf (part (inSetting tsIdAt) (2 * lastStream) b)) (wordsOf (part (inSetting networkIdAt) (2 * lastStream) b))
 twice c =
-    let b = c .before .before .before .before .before .before .before .before .before .before .before .before .before .before .before .before .before .before .before .before .before .before .args .bytes .now in
-    let whole = c .before .before .before .before .before .before .before .before .before .before .before .before .before .before .before .before .before .before .before .before .if1 .left in
+    let b = c .before .before .before .before .before .before .before .before .before .before .before .before .before .before .args .bytes .now in
+    let whole = c .before .before .before .before .before .before .before .before .before .before .before .before .if1 .left in
+    let ts = length-part (inSetting tsIdAt) (2 * lastStream) b (omega (arith, whole)) in
+    let os = length-part (inSetting networkIdAt) (2 * lastStream) b (omega (arith, whole)) in
     c .has-pair-twice .ensures
     ∙ rw (
-      c .before .before .before .before .before .before .before .before .before .before .before .before .before .before .word .ensures,
-      c .before .before .before .before .before .before .before .before .read-words .ensures ∙ all-read (replicate lastStream 0) (part (inSetting tsIdAt) (2 * lastStream) b) (length-part (inSetting tsIdAt) (2 * lastStream) b (omega (arith, whole))),
-      c .before .before .before .before .read-words2 .ensures ∙ all-read (replicate lastStream 0) (part (inSetting networkIdAt) (2 * lastStream) b) (length-part (inSetting networkIdAt) (2 * lastStream) b (omega (arith, whole))),
+      c .before .before .before .before .before .before .word .ensures,
+      ts,
+      os,
+      words-apart lastStream (part (inSetting tsIdAt) (2 * lastStream) b) ts,
+      words-apart lastStream (part (inSetting networkIdAt) (2 * lastStream) b) os,
     ) refl
 
-past-3 : (c : tie.Else4) → Past 3 (rows (c .before .before .before .before .before .before .before .before .before .before .before .before .before .before .before .before .before .before .before .before .before .before .before))
-past-3 c = past-2 (c .before .before .before .before .before .before .before .before .before .before .before .before) ∙ passed _ _ (sym (twice (c .before)) ∙ c .if4 .left)
+past-3 : (c : tie.Else4) → Past 3 (rows (c .before .before .before .before .before .before .before .before .before .before .before .before .before .before .before))
+past-3 c = past-2 (c .before .before .before .before) ∙ passed _ _ (sym (twice (c .before)) ∙ c .if4 .left)
 
 returns : tie.Need-returns
 returns c = sym (off-length _ _ _ (c .if1 .taken))
@@ -84,41 +87,29 @@ has-unavailable-requires c κs = search needs
 returns-3 : tie.Need-returns-3
 returns-3 c = sym (told (c .before .before .before .before .before .before .before .before .before) ∙ past-1 (c .before .before .before .before .before .before) ∙ answers _ _ (sym (unavailable (c .before)) ∙ c .if3 .taken))
 
-slice-aggregate-read-words : tie.Need-slice-aggregate-read-words
-slice-aggregate-read-words c = search needs
+sub-has-pair-twice : tie.Need-sub-has-pair-twice
+sub-has-pair-twice c = search needs
 
-sub-read-words : tie.Need-sub-read-words
-sub-read-words c = search needs
+part-has-pair-twice-start : tie.Need-part-has-pair-twice-start
+part-has-pair-twice-start c = search needs
 
-part-read-words-start : tie.Need-part-read-words-start
-part-read-words-start c = search needs
+part-has-pair-twice-end : tie.Need-part-has-pair-twice-end
+part-has-pair-twice-end c = search needs
 
-part-read-words-end : tie.Need-part-read-words-end
-part-read-words-end c = search needs
+sub-has-pair-twice-2 : tie.Need-sub-has-pair-twice-2
+sub-has-pair-twice-2 c = search needs
 
-read-words-requires : tie.Need-read-words-requires
-read-words-requires c κs = search needs
+part-has-pair-twice-start-2 : tie.Need-part-has-pair-twice-start-2
+part-has-pair-twice-start-2 c = search needs
 
-slice-aggregate-read-words-2 : tie.Need-slice-aggregate-read-words-2
-slice-aggregate-read-words-2 c = search needs
-
-sub-read-words-2 : tie.Need-sub-read-words-2
-sub-read-words-2 c = search needs
-
-part-read-words-start-2 : tie.Need-part-read-words-start-2
-part-read-words-start-2 c = search needs
-
-part-read-words-end-2 : tie.Need-part-read-words-end-2
-part-read-words-end-2 c = search needs
-
-read-words-requires-2 : tie.Need-read-words-requires-2
-read-words-requires-2 c κs = search needs
+part-has-pair-twice-end-2 : tie.Need-part-has-pair-twice-end-2
+part-has-pair-twice-end-2 c = search needs
 
 has-pair-twice-requires : tie.Need-has-pair-twice-requires
 has-pair-twice-requires c κs = search needs
 
 returns-4 : tie.Need-returns-4
-returns-4 c = sym (told (c .before .before .before .before .before .before .before .before .before .before .before .before .before .before .before .before .before .before .before .before .before) ∙ past-2 (c .before .before .before .before .before .before .before .before .before .before .before .before) ∙ answers _ _ (sym (twice (c .before)) ∙ c .if4 .taken))
+returns-4 c = sym (told (c .before .before .before .before .before .before .before .before .before .before .before .before .before) ∙ past-2 (c .before .before .before .before) ∙ answers _ _ (sym (twice (c .before)) ∙ c .if4 .taken))
 
 shared-slice-read-bonding-refusal : tie.Need-shared-slice-read-bonding-refusal
 shared-slice-read-bonding-refusal c = search needs
@@ -129,14 +120,14 @@ shared-slice-read-bonding-refusal-2 c = search needs
 shared-slice-read-bonding-refusal-3 : tie.Need-shared-slice-read-bonding-refusal-3
 shared-slice-read-bonding-refusal-3 c = search needs
 
-shared-slice-read-t37 : tie.Need-shared-slice-read-t37
-shared-slice-read-t37 c = search needs
+shared-slice-read-t29 : tie.Need-shared-slice-read-t29
+shared-slice-read-t29 c = search needs
 
 bonding-refusal-requires : tie.Need-bonding-refusal-requires
 bonding-refusal-requires c κs = search needs
 
 returns-5 : tie.Need-returns-5
-returns-5 c = c .bonding-refusal .ensures ∙ sym (told (c .before .before .before .before .before .before .before .before .before .before .before .before .before .before .before .before .before .before .before .before .before .before .before .before .before .before) ∙ past-3 (c .before .before .before .before .before))
+returns-5 c = c .bonding-refusal .ensures ∙ sym (told (c .before .before .before .before .before .before .before .before .before .before .before .before .before .before .before .before .before .before) ∙ past-3 (c .before .before .before .before .before))
 
 pub rule-refusal-spec : {M : Type 1} → statement M
 rule-refusal-spec =
@@ -154,21 +145,17 @@ rule-refusal-spec =
     part-has-unavailable-end
     has-unavailable-requires
     returns-3
-    slice-aggregate-read-words
-    sub-read-words
-    part-read-words-start
-    part-read-words-end
-    read-words-requires
-    slice-aggregate-read-words-2
-    sub-read-words-2
-    part-read-words-start-2
-    part-read-words-end-2
-    read-words-requires-2
+    sub-has-pair-twice
+    part-has-pair-twice-start
+    part-has-pair-twice-end
+    sub-has-pair-twice-2
+    part-has-pair-twice-start-2
+    part-has-pair-twice-end-2
     has-pair-twice-requires
     returns-4
     shared-slice-read-bonding-refusal
     shared-slice-read-bonding-refusal-2
     shared-slice-read-bonding-refusal-3
-    shared-slice-read-t37
+    shared-slice-read-t29
     bonding-refusal-requires
     returns-5)

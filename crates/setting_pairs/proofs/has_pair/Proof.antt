@@ -7,16 +7,19 @@ use borrow.Author.Needs.{needs}
 use lib.ListN.{length}
 use Rattle.slices.specs.Slices.{anyBelow}
 use Rattle.slices.proofs.Any.{any-none, any-more, any-found}
+use Rattle.counters.specs.Counters.{lastStream}
 use Rattle.setting.specs.Rules.{pairTwice}
+use Rattle.setting_pairs.specs.Identifiers.{idsApart}
+use Rattle.setting_pairs.proofs.Apart.{length-apart}
 use Rattle.setting_pairs.proofs.Pairs.{pairs}
 use Rattle.setting_pairs.proofs.has_pair.Statement.{statement}
 use Rattle.setting_pairs.proofs.has_pair.Tie as tie
 
 abbrev Inv-loop : tie.InvT-loop
-Inv-loop availability ts os j₀ j = (j ≤ length ts) × (anyBelow j (pairs availability ts os) ≡ false)
+Inv-loop availability ts os step j₀ j = (j ≤ lastStream) × (anyBelow j (pairs availability (idsApart step lastStream ts) (idsApart step lastStream os)) ≡ false)
 
 abbrev μ-loop : tie.MeasureT-loop
-μ-loop availability ts os j₀ j = length ts - j
+μ-loop availability ts os step j₀ j = lastStream - j
 
 loop-holds : tie.Need-loop-holds Inv-loop μ-loop
 loop-holds c = (omega arith, any-none _)
@@ -27,7 +30,8 @@ has-pair-before-requires c κs = search needs
 returns : tie.Need-returns Inv-loop μ-loop
 unfolding pairTwice
 returns c =
-    sym (any-found _ _ (c .before .before .before .loop .j) (omega arith) (sym (c .before .has-pair-before .ensures) ∙ c .if1 .taken))
+    let args = c .before .before .before .before .before .before .args in
+    sym (any-found _ _ (c .before .before .before .loop .j) (omega (arith, length-apart (args .step) lastStream (args .ts .now))) (sym (c .before .has-pair-before .ensures) ∙ c .if1 .taken))
 
 add-j : tie.Need-add-j Inv-loop μ-loop
 add-j c = search needs
@@ -43,7 +47,8 @@ loop-again c =
 returns-2 : tie.Need-returns-2 Inv-loop μ-loop
 unfolding pairTwice
 returns-2 c =
-    let all : c .before .loop .j ≡ length (c .before .before .before .before .args .ts .now) = omega arith in
+    let args = c .before .before .before .before .args in
+    let all : c .before .loop .j ≡ length (idsApart (args .step) lastStream (args .ts .now)) = omega (arith, length-apart (args .step) lastStream (args .ts .now)) in
     sym (rw all at (c .before .loop .inv .1))
 
 pub has-pair-spec : {M : Type 1} → statement M

@@ -6,15 +6,17 @@ use native.Mathlib.Omega.{arith}
 use borrow.Author.Needs.{needs}
 use Rattle.slices.specs.Slices.{anyBelow}
 use Rattle.slices.proofs.Any.{any-none, any-more, any-found}
+use Rattle.counters.specs.Counters.{lastStream}
 use Rattle.setting.specs.Rules.{samePair}
+use Rattle.setting_pairs.specs.Identifiers.{idsApart}
 use Rattle.setting_pairs.proofs.has_pair_before.Statement.{statement}
 use Rattle.setting_pairs.proofs.has_pair_before.Tie as tie
 
 abbrev Inv-loop : tie.InvT-loop
-Inv-loop availability ts os j i₀ i = (i ≤ j) × (anyBelow i (λ k. samePair availability ts os k j) ≡ false)
+Inv-loop availability ts os step j i₀ i = (i ≤ j) × (anyBelow i (λ k. samePair availability (idsApart step lastStream ts) (idsApart step lastStream os) k j) ≡ false)
 
 abbrev μ-loop : tie.MeasureT-loop
-μ-loop availability ts os j i₀ i = j - i
+μ-loop availability ts os step j i₀ i = j - i
 
 loop-holds : tie.Need-loop-holds Inv-loop μ-loop
 loop-holds c = (omega arith, any-none _)

@@ -1,85 +1,83 @@
-use mathlib.Core.Path.{sym, _∙_}
+-- `is_same_pair` meets its contract. Assumes nothing.
+use mathlib.Core.Path.{_≡_, sym, _∙_}
+use mathlib.Core.Bool.{true, false}
 use borrow.Author.Needs.{needs}
 use borrow.Author.Tests.{eq-eqb, ne-eqb, not-true, not-false}
+use lib.Dec.{eqb}
+use lib.ListN.{getD}
+use Rattle.counters.specs.Counters.{lastStream}
+use Rattle.setting_pairs.specs.Identifiers.{idsApart}
 use Rattle.setting_pairs.proofs.is_same_pair.Statement.{statement}
 use Rattle.setting_pairs.proofs.is_same_pair.Tie as tie
 
-mul-if1 : tie.Need-mul-if1
-mul-if1 c = search needs
+id-requires : tie.Need-id-requires
+id-requires c κs = search needs
 
-shared-slice-read-if1 : tie.Need-shared-slice-read-if1
-shared-slice-read-if1 c = search needs
+id-requires-2 : tie.Need-id-requires-2
+id-requires-2 c κs = search needs
 
-mul-if1-2 : tie.Need-mul-if1-2
-mul-if1-2 c = search needs
+-- the TS_ids are equal, and then the other identifiers
+same-ts : (c : tie.Else1) → let s = c .before .before .before .before .before .args in eqb (getD (idsApart (s .step) lastStream (s .ts .now)) (s .i) 0) (getD (idsApart (s .step) lastStream (s .ts .now)) (s .j) 0) ≡ true
+same-ts c = eq-eqb _ _ (sym (c .before .before .id .ensures) ∙ c .if1 .left ∙ c .before .id2 .ensures)
 
-shared-slice-read-if1-2 : tie.Need-shared-slice-read-if1-2
-shared-slice-read-if1-2 c = search needs
+same-os : (c : tie.Else2) → let s = c .before .before .before .before .before .before .before .before .args in eqb (getD (idsApart (s .step) lastStream (s .os .now)) (s .i) 0) (getD (idsApart (s .step) lastStream (s .os .now)) (s .j) 0) ≡ true
+same-os c = eq-eqb _ _ (sym (c .before .before .id3 .ensures) ∙ c .if2 .left ∙ c .before .id4 .ensures)
 
 returns : tie.Need-returns
-returns c = simp (ne-eqb _ _ (c .if1 .taken))
+returns c = simp (ne-eqb _ _ (λ e. c .if1 .taken (c .before .before .id .ensures ∙ e ∙ sym (c .before .id2 .ensures))))
 
-mul-if2 : tie.Need-mul-if2
-mul-if2 c = search needs
+id-requires-3 : tie.Need-id-requires-3
+id-requires-3 c κs = search needs
 
-shared-slice-read-if2 : tie.Need-shared-slice-read-if2
-shared-slice-read-if2 c = search needs
-
-mul-if2-2 : tie.Need-mul-if2-2
-mul-if2-2 c = search needs
-
-shared-slice-read-if2-2 : tie.Need-shared-slice-read-if2-2
-shared-slice-read-if2-2 c = search needs
+id-requires-4 : tie.Need-id-requires-4
+id-requires-4 c κs = search needs
 
 returns-2 : tie.Need-returns-2
-returns-2 c = simp (eq-eqb _ _ (c .before .before .before .if1 .left), ne-eqb _ _ (c .if2 .taken))
+returns-2 c =
+    simp (same-ts (c .before .before .before), ne-eqb _ _ (λ e. c .if2 .taken (c .before .before .id3 .ensures ∙ e ∙ sym (c .before .id4 .ensures))))
 
-add-t6 : tie.Need-add-t6
-add-t6 c = search needs
+add-t10 : tie.Need-add-t10
+add-t10 c = search needs
 
-cast-t15 : tie.Need-cast-t15
-cast-t15 c = search needs
+cast-t11 : tie.Need-cast-t11
+cast-t11 c = search needs
 
 is-available-requires : tie.Need-is-available-requires
 is-available-requires c κs = search needs
 
 returns-3 : tie.Need-returns-3
 returns-3 c =
-    simp (eq-eqb _ _ (c .before .before .before .before .before .if1 .left), eq-eqb _ _ (c .before .before .if2 .left), sym (c .before .is-available .ensures) ∙ not-true _ (c .if3 .taken))
+    simp (same-ts (c .before .before .before .before .before), same-os (c .before .before), sym (c .before .is-available .ensures) ∙ not-true _ (c .if3 .taken))
 
-add-t9 : tie.Need-add-t9
-add-t9 c = search needs
+add-t10-2 : tie.Need-add-t10-2
+add-t10-2 c = search needs
 
-cast-t15-2 : tie.Need-cast-t15-2
-cast-t15-2 c = search needs
+cast-t11-2 : tie.Need-cast-t11-2
+cast-t11-2 c = search needs
 
 is-available-requires-2 : tie.Need-is-available-requires-2
 is-available-requires-2 c κs = search needs
 
 returns-4 : tie.Need-returns-4
 returns-4 c =
-    simp (eq-eqb _ _ (c .before .before .before .before .before .before .if1 .left), eq-eqb _ _ (c .before .before .before .if2 .left), sym (c .before .before .is-available .ensures) ∙ not-false _ (c .before .if3 .left))
+    simp (same-ts (c .before .before .before .before .before .before), same-os (c .before .before .before), sym (c .before .before .is-available .ensures) ∙ not-false _ (c .before .if3 .left))
     (c .is-available2 .ensures)
 
 pub is-same-pair-spec : {M : Type 1} → statement M
 is-same-pair-spec =
     tie.close
     (tie.spec
-    mul-if1
-    shared-slice-read-if1
-    mul-if1-2
-    shared-slice-read-if1-2
+    id-requires
+    id-requires-2
     returns
-    mul-if2
-    shared-slice-read-if2
-    mul-if2-2
-    shared-slice-read-if2-2
+    id-requires-3
+    id-requires-4
     returns-2
-    add-t6
-    cast-t15
+    add-t10
+    cast-t11
     is-available-requires
     returns-3
-    add-t9
-    cast-t15-2
+    add-t10-2
+    cast-t11-2
     is-available-requires-2
     returns-4)

@@ -12,16 +12,19 @@ use lib.Dec.{eqb, lit<}
 use lib.ListN.{length}
 use lib.Pow.{shl-exact}
 use Rattle.slices.proofs.Any.{neither}
+use Rattle.counters.specs.Counters.{lastStream}
 use Rattle.setting.specs.Rules.{pairTwice}
+use Rattle.setting_pairs.specs.Identifiers.{idsApart}
+use Rattle.setting_pairs.proofs.Apart.{length-apart}
 use Rattle.setting_pairs.proofs.Pairs.{places, place, bit, Seen, seen-none, no-mark, seen-more, seen-absent}
 use Rattle.setting_pairs.proofs.some_alike.Statement.{statement}
 use Rattle.setting_pairs.proofs.some_alike.Tie as tie
 
 abbrev Inv-loop : tie.InvT-loop
-Inv-loop availability ts met₀ alike₀ j₀ met alike j = (j ≤ length ts) × ((os : List ℕ) → alike ≡ false → Seen availability ts os met j)
+Inv-loop availability ts step met₀ alike₀ j₀ met alike j = (j ≤ lastStream) × ((os : List ℕ) → alike ≡ false → Seen availability (idsApart step lastStream ts) os met j)
 
 abbrev μ-loop : tie.MeasureT-loop
-μ-loop availability ts met₀ alike₀ j₀ met alike j = length ts - j
+μ-loop availability ts step met₀ alike₀ j₀ met alike j = lastStream - j
 
 -- nothing is shifted out
 shifted : (k : ℕ) → k < places → 1 * 2 ^ k % 2 ^ 64 ≡ 2 ^ k
@@ -42,20 +45,17 @@ no-bit met k e =
 loop-holds : tie.Need-loop-holds Inv-loop μ-loop
 loop-holds c = (omega arith, λ os e. seen-none _ _ os _)
 
-add-t7 : tie.Need-add-t7 Inv-loop μ-loop
-add-t7 c = search needs
+add-t10 : tie.Need-add-t10 Inv-loop μ-loop
+add-t10 c = search needs
 
-cast-t10 : tie.Need-cast-t10 Inv-loop μ-loop
-cast-t10 c = search needs
+cast-t11 : tie.Need-cast-t11 Inv-loop μ-loop
+cast-t11 c = search needs
 
 is-available-requires : tie.Need-is-available-requires Inv-loop μ-loop
 is-available-requires c κs = search needs
 
-mul-k : tie.Need-mul-k Inv-loop μ-loop
-mul-k c = search needs
-
-shared-slice-read-k : tie.Need-shared-slice-read-k Inv-loop μ-loop
-shared-slice-read-k c = search needs
+id-requires : tie.Need-id-requires Inv-loop μ-loop
+id-requires c κs = search needs
 
 cast-k : tie.Need-cast-k Inv-loop μ-loop
 cast-k c = search needs
@@ -82,19 +82,20 @@ loop-again : tie.Need-loop-again Inv-loop μ-loop
 loop-again c =
     let loop = c .before .before .before in
     let args = loop .before .before .args in
+    let ids = idsApart (args .step) lastStream (args .ts .now) in
     let j = loop .loop .j in
-    let seen : (os : List ℕ) → c .if1 .alike ≡ false → Seen (args .availability) (args .ts .now) os (c .if1 .met) (j + 1) =
+    let seen : (os : List ℕ) → c .if1 .alike ≡ false → Seen (args .availability) ids os (c .if1 .met) (j + 1) =
     λ os.
     ⊎-elim
     (λ w.
-    rw (w .2, w .3, shifted (place (args .availability) (args .ts .now) os j) (omega arith))
+    rw (w .2, w .3, w .1 .ensures, shifted (place (args .availability) ids os j) (omega arith))
     (λ e.
-    let apart = neither (loop .loop .alike) (eqb (bit (loop .loop .met) (place (args .availability) (args .ts .now) os j)) 1) e in
+    let apart = neither (loop .loop .alike) (eqb (bit (loop .loop .met) (place (args .availability) ids os j)) 1) e in
     let before = loop .loop .inv .1 os (apart .0) in
-    seen-more (args .availability) (args .ts .now) os before (no-mark (args .availability) (args .ts .now) os before (no-bit (loop .loop .met) _ (apart .1)))))
+    seen-more (args .availability) ids os before (no-mark (args .availability) ids os before (no-bit (loop .loop .met) _ (apart .1)))))
     (λ w.
     rw (w .1, w .2)
-    (λ e. seen-absent (args .availability) (args .ts .now) os (loop .loop .inv .1 os e) (sym (c .before .is-available .ensures) ∙ w .0 .left)))
+    (λ e. seen-absent (args .availability) ids os (loop .loop .inv .1 os e) (sym (c .before .is-available .ensures) ∙ w .0 .left)))
     (c .if1 .came) in
     (omega arith, seen)
 
@@ -102,7 +103,8 @@ returns : tie.Need-returns Inv-loop μ-loop
 unfolding pairTwice
 returns c =
     let loop = c .before in
-    let all : loop .loop .j ≡ length (loop .before .before .args .ts .now) = omega arith in
+    let args = loop .before .before .args in
+    let all : loop .loop .j ≡ length (idsApart (args .step) lastStream (args .ts .now)) = omega (arith, length-apart (args .step) lastStream (args .ts .now)) in
     λ os e. rw all at (loop .loop .inv .1 os e .none)
 
 pub some-alike-spec : {M : Type 1} → statement M
@@ -112,11 +114,10 @@ some-alike-spec =
     Inv-loop
     μ-loop
     loop-holds
-    add-t7
-    cast-t10
+    add-t10
+    cast-t11
     is-available-requires
-    mul-k
-    shared-slice-read-k
+    id-requires
     cast-k
     cast-alike
     shr-alike

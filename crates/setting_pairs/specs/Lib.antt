@@ -1,0 +1,2 @@
+-- The identifiers of the streams, as they stand in bytes.
+pub mod Identifiers
