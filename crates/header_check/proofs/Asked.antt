@@ -47,8 +47,6 @@ module _ (kind : Kind) (p : List ℕ) (f : Fit 8 p) (h : length p ≡ headerLeng
 pub record Answers (kind : Kind) (p : List ℕ) (r : Checked) : Type 0 where
   pub counter : r .«continuity_counter» ≡ reading kind p .«continuity_counter»
   pub streams : r .availability ≡ reading kind p .availability
-  pub ts-id : r .«ts_id» ≡ reading kind p .«ts_id»
-  pub network-id : r .«original_network_id» ≡ reading kind p .«original_network_id»
   pub numbers : r .«relative_ts_number» ≡ reading kind p .«relative_ts_number»
   pub group : r .«group_id» ≡ reading kind p .«group_id»
   pub carriers : r .«number_of_carriers» ≡ reading kind p .«number_of_carriers»
@@ -80,8 +78,6 @@ module _ (kind : Kind) (p : List ℕ) {m n : ℕ} (e : n ≡ m) (r : Checked) wh
         refusal = s i;
         «continuity_counter» = a .counter i;
         availability = a .streams i;
-        «ts_id» = a .ts-id i;
-        «original_network_id» = a .network-id i;
         «relative_ts_number» = a .numbers i;
         «group_id» = a .group i;
         «number_of_carriers» = a .carriers i;

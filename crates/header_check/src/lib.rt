@@ -2,7 +2,6 @@
 // this check.
 use counters::FramePosition;
 use counters::SLOTS;
-use counters::STREAMS;
 use setting::Kind;
 ghost use mathlib.Core.Path.{_≡_};
 ghost use Rattle.header_check.specs.Checking.{checkedOf};
@@ -14,8 +13,6 @@ pub struct Checked {
     pub refusal: u8,
     pub continuity_counter: u8,
     pub availability: u16,
-    pub ts_id: [u16; STREAMS],
-    pub original_network_id: [u16; STREAMS],
     pub relative_ts_number: [u8; SLOTS],
     pub group_id: u8,
     pub number_of_carriers: u8,

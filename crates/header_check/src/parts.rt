@@ -2,7 +2,6 @@
 use crate::Checked;
 use counters::FramePosition;
 use counters::SLOTS;
-use counters::STREAMS;
 use setting::Kind;
 ghost use mathlib.Core.Path.{_≡_};
 ghost use Prim.Native.Nat.{_+_, _*_, _<_};
@@ -11,7 +10,7 @@ ghost use Rattle.bits.specs.Fields.{run, cut};
 ghost use Rattle.setting.specs.Setting.{blank};
 ghost use Rattle.setting.specs.Refusal.{firstOf};
 ghost use Rattle.setting.specs.Rules.{bondingChecks, ruleChecks};
-ghost use Rattle.header_layout.specs.Header.{headerLength, firsts, seconds, packetChecks, reading};
+ghost use Rattle.header_layout.specs.Header.{headerLength, packetChecks, reading};
 ghost use Rattle.header_check.specs.Checking.{partsOf, partsBeside};
 
 // The number of 16 bits that starts at byte `at`.
@@ -57,22 +56,6 @@ fn read_halves(values: &mut [u8], part: &[u8])
     while k < part.len() {
         values[2 * k] = part[k] / 16;
         values[2 * k + 1] = part[k] % 16;
-        k += 1;
-    }
-}
-
-// The identifiers of each stream.
-fn read_identifiers(ts: &mut [u16], os: &mut [u16], part: &[u8])
-    requires { ⌜ (length (now part) ≡ 4 * length (now ts)) × (length (now os) ≡ length (now ts)) ⌝ }
-    ensures { λ _. ⌜ now (ts .exit) ≡ firsts (cut 16 (2 * length (now (ts .entry))) (run 8 (now (part .entry)))) ⌝ }
-    ensures { λ _. ⌜ now (os .exit) ≡ seconds (cut 16 (2 * length (now (ts .entry))) (run 8 (now (part .entry)))) ⌝ }
-{
-    let mut k = 0;
-    let mut at = 0;
-    while k < ts.len() {
-        ts[k] = word_at(part, at);
-        os[k] = word_at(part, at + 2);
-        at += 4;
         k += 1;
     }
 }
@@ -145,14 +128,12 @@ pub(crate) fn said_by(packet: &[u8], kind: Kind) -> Checked
     if setting_slots::has_unavailable(availability, &numbers) {
         return refused(9);
     }
-    let mut ts_id = [0u16; STREAMS];
-    let mut original_network_id = [0u16; STREAMS];
-    read_identifiers(
-        &mut ts_id,
-        &mut original_network_id,
+    if setting_pairs::has_pair_twice(
+        availability,
         &packet[header_layout::IDENTIFIERS..header_layout::CONTROL],
-    );
-    if setting_pairs::has_pair_twice(availability, &ts_id, &original_network_id) {
+        &packet[header_layout::NETWORK_ID..header_layout::CONTROL],
+        header_layout::STREAM_BYTES,
+    ) {
         return refused(10);
     }
     let bonding = bonding_of(packet, kind);
@@ -164,8 +145,6 @@ pub(crate) fn said_by(packet: &[u8], kind: Kind) -> Checked
         refusal: 0,
         continuity_counter: packet[3] % 16,
         availability,
-        ts_id,
-        original_network_id,
         relative_ts_number: numbers,
         group_id: bonding.group_id,
         number_of_carriers: bonding.number_of_carriers,
@@ -183,8 +162,6 @@ pub(crate) fn refused(refusal: u8) -> Checked
         refusal,
         continuity_counter: 0,
         availability: 0,
-        ts_id: [0u16; STREAMS],
-        original_network_id: [0u16; STREAMS],
         relative_ts_number: [0u8; SLOTS],
         group_id: 0,
         number_of_carriers: 0,

@@ -10,8 +10,12 @@ pub const HEADER_LENGTH: usize = 188;
 pub const TSMF_SYNC: usize = 4;
 
 pub const IDENTIFIERS: usize = 9;
+// Each stream has its TS_id, and its original_network_id behind that.
+pub const NETWORK_ID: usize = IDENTIFIERS + 2;
 
-pub const CONTROL: usize = IDENTIFIERS + 4 * STREAMS;
+pub const STREAM_BYTES: u8 = 4;
+
+pub const CONTROL: usize = IDENTIFIERS + STREAM_BYTES as usize * STREAMS;
 // The last byte of the control information, which holds the rest of the statuses, a reserved bit and the emergency bit.
 pub const CONTROL_LAST: usize = STREAMS * 2 / 8;
 

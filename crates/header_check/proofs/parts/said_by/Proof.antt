@@ -15,6 +15,8 @@ use Rattle.setting.specs.Refusal.{Check, firstOf}
 use Rattle.setting.proofs.Refusals.{Past, answers, passed}
 use Rattle.setting.specs.Rules.{byKind, someUnavailable, pairTwice, bondingChecks, bondingOf, ruleChecks}
 use Rattle.header_layout.specs.Header.{reading}
+use Rattle.header_layout.proofs.Cut.{length-part}
+use Rattle.header_check.proofs.Identifiers.{ts-ids-in, network-ids-in}
 use Rattle.header_check.proofs.Asked.{counter-is, type-is, streams-are, slots-are, ts-ids-are, network-ids-are, refused, accepted}
 use Rattle.header_check.proofs.parts.said_by.Statement.{statement}
 use Rattle.header_check.proofs.parts.said_by.Tie as tie
@@ -43,7 +45,7 @@ abbrev from₂ : tie.After-has-unavailable → tie.After-frame-type-allowed
 from₂ c = from₁ (c .before .before .before .before .before .before)
 
 abbrev from₃ : tie.After-has-pair-twice → tie.After-frame-type-allowed
-from₃ c = from₂ (c .before .before .before .before .before .before .before .before .before .before)
+from₃ c = from₂ (c .before .before .before .before)
 
 -- what each check asks for is what the packet says
 allowed : (c : tie.After-frame-type-allowed) → c .frame-type-allowed .result ≡ byKind (kind c) (eqb (said c .«frame_type») 1) (within 1 2 (said c .«frame_type»))
@@ -68,13 +70,13 @@ twice : (c : tie.After-has-pair-twice)
     → c .has-pair-twice .result ≡ pairTwice (said (from₃ c) .availability) (said (from₃ c) .«ts_id») (said (from₃ c) .«original_network_id»)
 twice c =
     let t = from₃ c in
-    let ids = c .before .before .before .before .before in
-    let word = ids .before .before .before .before .before .before .before .before .before .before .before in
+    let word = c .before .before .before .before .before .before .before .before .before .before in
     let long = t .before .before .before .pre in
     c .has-pair-twice .ensures
-    ∙ (λ i.
-    pairTwice (streams word i) ((ids .read-identifiers .ensures .0 ∙ ts-ids-are (kind t) (packet t) (bytes t) long) i)
-    ((ids .read-identifiers .ensures .1 ∙ network-ids-are (kind t) (packet t) (bytes t) long) i))
+    ∙ rw (length-part (packet t) 9 60 (omega (arith, long)), length-part (packet t) 11 58 (omega (arith, long)))
+    (λ i.
+    pairTwice (streams word i) ((ts-ids-in (packet t) (bytes t) long ∙ ts-ids-are (kind t) (packet t) (bytes t) long) i)
+    ((network-ids-in (packet t) (bytes t) long ∙ network-ids-are (kind t) (packet t) (bytes t) long) i))
 
 -- the bonding fields are those that the packet says
 bonds : (c : tie.After-bonding-refusal) → c .bonding-refusal .result ≡ firstOf (bondingOf (kind (from₃ (c .before .before .before))) (said (from₃ (c .before .before .before))))
@@ -95,7 +97,7 @@ past-2 c = past-1 (c .before .before .before .before .before .before .before .be
 
 past-3 : (c : tie.Else3) → Past 3 (rows (from₃ (c .before)))
 unfolding ruleChecks
-past-3 c = past-2 (c .before .before .before .before .before .before .before .before .before .before) ∙ passed _ _ (sym (twice (c .before)) ∙ c .if3 .left)
+past-3 c = past-2 (c .before .before .before .before) ∙ passed _ _ (sym (twice (c .before)) ∙ c .if3 .left)
 
 -- the bonding fields answer for all
 bonded : (c : tie.After-bonding-refusal) → firstOf (rows (from₃ (c .before .before .before))) ≡ c .bonding-refusal .result
@@ -152,23 +154,23 @@ returns-2 c =
     refused (kind t) (packet t)
     (past-1 (u .before .before .before .before .before .before .before) ∙ answers 9 _ (sym (unavailable u) ∙ c .before .if2 .taken)) _ (omega arith) (c .refused2 .ensures)
 
-slice-aggregate-read-identifiers : tie.Need-slice-aggregate-read-identifiers
-slice-aggregate-read-identifiers c = search needs
+sub-has-pair-twice : tie.Need-sub-has-pair-twice
+sub-has-pair-twice c = search needs
 
-slice-aggregate-read-identifiers-2 : tie.Need-slice-aggregate-read-identifiers-2
-slice-aggregate-read-identifiers-2 c = search needs
+part-has-pair-twice-start : tie.Need-part-has-pair-twice-start
+part-has-pair-twice-start c = search needs
 
-sub-read-identifiers : tie.Need-sub-read-identifiers
-sub-read-identifiers c = search needs
+part-has-pair-twice-end : tie.Need-part-has-pair-twice-end
+part-has-pair-twice-end c = search needs
 
-part-read-identifiers-start : tie.Need-part-read-identifiers-start
-part-read-identifiers-start c = search needs
+sub-has-pair-twice-2 : tie.Need-sub-has-pair-twice-2
+sub-has-pair-twice-2 c = search needs
 
-part-read-identifiers-end : tie.Need-part-read-identifiers-end
-part-read-identifiers-end c = search needs
+part-has-pair-twice-start-2 : tie.Need-part-has-pair-twice-start-2
+part-has-pair-twice-start-2 c = search needs
 
-read-identifiers-requires : tie.Need-read-identifiers-requires
-read-identifiers-requires c κs = search needs
+part-has-pair-twice-end-2 : tie.Need-part-has-pair-twice-end-2
+part-has-pair-twice-end-2 c = search needs
 
 has-pair-twice-requires : tie.Need-has-pair-twice-requires
 has-pair-twice-requires c κs = search needs
@@ -182,7 +184,7 @@ returns-3 c =
     let u = c .before .before in
     let t = from₃ u in
     refused (kind t) (packet t)
-    (past-2 (u .before .before .before .before .before .before .before .before .before) ∙ answers 10 _ (sym (twice u) ∙ c .before .if3 .taken)) _ (omega arith) (c .refused3 .ensures)
+    (past-2 (u .before .before .before) ∙ answers 10 _ (sym (twice u) ∙ c .before .if3 .taken)) _ (omega arith) (c .refused3 .ensures)
 
 bonding-of-requires : tie.Need-bonding-of-requires
 bonding-of-requires c κs = search needs
@@ -199,18 +201,15 @@ returns-4 c =
     let t = from₃ (u .before .before .before) in
     refused (kind t) (packet t) (bonded u) _ (c .before .if4 .taken) (c .refused4 .ensures)
 
-shared-slice-read-t11 : tie.Need-shared-slice-read-t11
-shared-slice-read-t11 c =
-    let l = from₃ (c .before .before .before .before .before) .before .before .before .pre in
-    omega arith
+shared-slice-read-t9 : tie.Need-shared-slice-read-t9
+shared-slice-read-t9 c = search needs
 
 returns-5 : tie.Need-returns-5
 returns-5 c =
     let u = c .before .before in
     let b = u .before .bonding-of .ensures in
     let pair = u .before .before .before in
-    let ids = pair .before .before .before .before .before in
-    let slots = ids .before .before .before .before .before in
+    let slots = pair .before .before .before .before in
     let halves = slots .before .before .before in
     let t = from₃ pair in
     let long = t .before .before .before .pre in
@@ -218,8 +217,6 @@ returns-5 c =
     (record {
       counter = counter-is (kind t) (packet t) (bytes t) long;
       streams = streams (halves .before .before .before);
-      ts-id = ids .read-identifiers .ensures .0 ∙ ts-ids-are (kind t) (packet t) (bytes t) long;
-      network-id = ids .read-identifiers .ensures .1 ∙ network-ids-are (kind t) (packet t) (bytes t) long;
       numbers = halves .read-halves .ensures ∙ slots-are (kind t) (packet t) (bytes t) long;
       group = b .0;
       carriers = b .1 .0;
@@ -246,12 +243,12 @@ said-by-spec =
     has-unavailable-requires
     refused-requires-2
     returns-2
-    slice-aggregate-read-identifiers
-    slice-aggregate-read-identifiers-2
-    sub-read-identifiers
-    part-read-identifiers-start
-    part-read-identifiers-end
-    read-identifiers-requires
+    sub-has-pair-twice
+    part-has-pair-twice-start
+    part-has-pair-twice-end
+    sub-has-pair-twice-2
+    part-has-pair-twice-start-2
+    part-has-pair-twice-end-2
     has-pair-twice-requires
     refused-requires-3
     returns-3
@@ -259,5 +256,5 @@ said-by-spec =
     bonding-refusal-requires
     refused-requires-4
     returns-4
-    shared-slice-read-t11
+    shared-slice-read-t9
     returns-5)
