@@ -5,3 +5,4 @@ pub mod Parts
 pub mod Same
 pub mod Differing
 pub mod Typed
+pub mod InBytes

@@ -19,22 +19,8 @@ use Rattle.setting_bytes.specs.Words.{wordAt, wordsOf}
 use Rattle.setting_bytes.specs.Settings.{part, slotTypeAt, frameTypeAt, availabilityAt, tsIdAt, networkIdAt, statusesAt, emergencyAt, announcedLength, announcedOf}
 use Rattle.setting_bytes.specs.Settings.{counterAt, versionAt, announcedAt, numbersAt, privateAt, auxiliaryAt, groupAt, carriersAt, sequenceAt, framesAt, positionAt}
 use Rattle.setting_bytes.specs.Settings.{settingLength, settingOf}
-use Rattle.setting_bytes.proofs.Parts.{length-part}
+use Rattle.setting_bytes.proofs.InBytes.{inSetting, setting-in}
 use Rattle.setting_pairs.specs.Identifiers.{idsApart}
-
--- ---- a part of a part
-
-within-front : (k n m : ℕ) (l : List ℕ) → k + n ≤ m → take n (drop k (take m l)) ≡ take n (drop k l)
-within-front zero n m l h = take-take n m l (omega arith)
-within-front (suc k) n zero l h = absurd (omega arith)
-within-front (suc k) n (suc m) [] h = refl
-within-front (suc k) n (suc m) (x ∷ l) h = within-front k n m l (omega arith)
-
-part-of-part : (j k n m : ℕ) (b : List ℕ) → k + n ≤ m → part k n (part j m b) ≡ part (j + k) n b
-part-of-part j k n m b h = within-front k n m (drop j b) h ∙ ap (take n) (drop-drop k j b)
-
-byte-of-part : (j k m : ℕ) (b : List ℕ) → k < m → getD (part j m b) k 0 ≡ getD b (j + k) 0
-byte-of-part j k m b h = getD-take m (drop j b) k 0 h ∙ getD-drop j b k 0
 
 -- ---- 17
 
@@ -62,10 +48,6 @@ widths-in kind b whole = rw (eq-eqb (length b) settingLength whole) refl
 
 -- ---- 8 to 11
 
--- where a place of what is announced is found in a setting
-abbrev pub inSetting : ℕ → ℕ
-inSetting k = announcedAt + k
-
 -- identifiers that stand one behind the other are the numbers of the bytes, two by two
 pub words-apart : (n : ℕ) (b : List ℕ) → length b ≡ 2 * n → idsApart 2 n b ≡ wordsOf b
 unfolding idsApart wordsOf
@@ -84,14 +66,5 @@ rulesIn kind b =
     ∷ bondingChecks kind (getD b carriersAt 0) (getD b sequenceAt 0) (getD b framesAt 0) (getD b positionAt 0)
 
 pub rules-in : (kind : Kind) (b : List ℕ) → length b ≡ settingLength → ruleChecks kind (settingOf b) ≡ rulesIn kind b
-unfolding ruleChecks settingOf announcedOf
-rules-in kind b whole =
-    rw (
-      eq-eqb (length b) settingLength whole,
-      eq-eqb (length (part announcedAt announcedLength b)) announcedLength (length-part announcedAt announcedLength b (omega arith)),
-      byte-of-part announcedAt frameTypeAt announcedLength b (omega arith),
-      byte-of-part announcedAt availabilityAt announcedLength b (omega arith),
-      byte-of-part announcedAt (availabilityAt + 1) announcedLength b (omega arith),
-      part-of-part announcedAt tsIdAt (2 * lastStream) announcedLength b (omega arith),
-      part-of-part announcedAt networkIdAt (2 * lastStream) announcedLength b (omega arith),
-    ) refl
+unfolding ruleChecks
+rules-in kind b whole = ap (ruleChecks kind) (setting-in b whole)

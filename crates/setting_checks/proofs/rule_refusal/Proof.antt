@@ -13,7 +13,8 @@ use Rattle.setting_bytes.specs.Words.{wordAt, wordsOf}
 use Rattle.setting_bytes.specs.Settings.{part, availabilityAt, tsIdAt, networkIdAt, numbersAt, settingOf, settingLength}
 use Rattle.setting.proofs.Refusals.{Past, answers, passed, at-length, off-length}
 use Rattle.setting_bytes.proofs.Parts.{length-part}
-use Rattle.setting_checks.proofs.Rows.{inSetting, rulesIn, rules-in, words-apart}
+use Rattle.setting_bytes.proofs.InBytes.{inSetting}
+use Rattle.setting_checks.proofs.Rows.{rulesIn, rules-in, words-apart}
 use Rattle.setting_checks.proofs.rule_refusal.Statement.{statement}
 use Rattle.setting_checks.proofs.rule_refusal.Tie as tie
 
