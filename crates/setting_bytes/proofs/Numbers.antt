@@ -8,6 +8,7 @@ use borrow.Author.Tests.{eq-eqb}
 use lib.ListN.{length, take, getD, set}
 use lib.Seq.{take-suc-set}
 use Rattle.bits.specs.Fields.{Fit, none, more}
+use Rattle.bits.proofs.Laws.{fit-getD}
 use Rattle.slices.proofs.Front.{stored-behind}
 use Rattle.setting_bytes.specs.Words.{wordBytes, wordAt, wordsOf, wordsRead}
 
@@ -89,3 +90,29 @@ bytes-same (x ∷ y ∷ b) (suc n) long (more f (more g fit)) =
     let high : (x * 256 + y) / 256 ≡ x = omega arith in
     let low : (x * 256 + y) % 256 ≡ y = omega arith in
     rw (high, low, bytes-same b n (omega arith) fit)
+
+-- each number is that of its two bytes, and there are half as many numbers as bytes
+words-at : (b : List ℕ) (k : ℕ) → 2 * k + 2 ≤ length b → getD (wordsOf b) k 0 ≡ wordAt (2 * k) b
+unfolding wordsOf
+words-at [] k h = absurd (omega arith)
+words-at (x ∷ []) k h = absurd (omega arith)
+words-at (x ∷ y ∷ b) zero h = refl
+words-at (x ∷ y ∷ b) (suc k) h =
+    let second : 2 * suc k + 1 ≡ suc (suc (2 * k + 1)) = omega arith in
+    let first : 2 * suc k ≡ suc (suc (2 * k)) = omega arith in
+    rw (second, first) (words-at b k (omega arith))
+
+pub length-words : (n : ℕ) (b : List ℕ) → length b ≡ 2 * n → length (wordsOf b) ≡ n
+unfolding wordsOf
+length-words zero [] h = refl
+length-words zero (x ∷ b) h = absurd (omega arith)
+length-words (suc n) [] h = absurd (omega arith)
+length-words (suc n) (x ∷ []) h = absurd (omega arith)
+length-words (suc n) (x ∷ y ∷ b) h = ap suc (length-words n b (omega arith))
+
+-- the two bytes of a number, again
+pub word-bytes : (b : List ℕ) (k : ℕ) → Fit 8 b → 2 * k + 2 ≤ length b
+    → (getD (wordsOf b) k 0 / 256 ≡ getD b (2 * k) 0) × (getD (wordsOf b) k 0 % 256 ≡ getD b (2 * k + 1) 0)
+word-bytes b k f h =
+    let low = fit-getD f (2 * k + 1) in
+    rw (words-at b k h) (omega arith, omega arith)

@@ -1,78 +1,141 @@
 -- `write_start` meets its contract: its nine bytes are the header's first. Assumes nothing.
-use mathlib.Core.Path.{ap, _∙_}
-use Rattle.bits.specs.Fields.{run}
-use Rattle.header_layout.proofs.Private.{copied-all}
-use Rattle.header_layout.proofs.Start.{startBytes, start-bits}
+use mathlib.Core.Path.{_≡_, sym, ap, _∙_}
 use native.Mathlib.Omega.{arith}
+use lib.ListN.{length-set}
+use Rattle.bits.specs.Fields.{run}
+use Rattle.setting.specs.declared.Setting.{Setting}
+use Rattle.setting_bytes.proofs.InBytes.{settingIn, setting-in}
+use Rattle.slices.proofs.Front.{stored}
+use Rattle.header_layout.specs.Layout.{startTable}
+use Rattle.header_layout.specs.Header.{lineBits}
+use Rattle.header_layout.proofs.Start.{startBytes, start-bits}
+use borrow.Author.Needs.{needs}
 use Rattle.header_write.proofs.writer.write_start.Statement.{statement}
 use Rattle.header_write.proofs.writer.write_start.Tie as tie
 
-cast-t7 : tie.Need-cast-t7
-cast-t7 c = omega arith
+shared-slice-read-word : tie.Need-shared-slice-read-word
+shared-slice-read-word c = search needs
 
-cast-t9 : tie.Need-cast-t9
-cast-t9 c = omega arith
+shared-slice-read-word-2 : tie.Need-shared-slice-read-word-2
+shared-slice-read-word-2 c = search needs
 
-add-t11 : tie.Need-add-t11
-add-t11 c = omega arith
+word-requires : tie.Need-word-requires
+word-requires c κs = search needs
 
-mul-t13 : tie.Need-mul-t13
-mul-t13 c = omega arith
+slice-write-part : tie.Need-slice-write-part
+slice-write-part c = search needs
 
-mul-t15 : tie.Need-mul-t15
-mul-t15 c = omega arith
+cast-part : tie.Need-cast-part
+cast-part c = search needs
 
-add-t16 : tie.Need-add-t16
-add-t16 c = omega arith
+slice-write-part-2 : tie.Need-slice-write-part-2
+slice-write-part-2 c = search needs
 
-add-t18 : tie.Need-add-t18
-add-t18 c = omega arith
+cast-part-2 : tie.Need-cast-part-2
+cast-part-2 c = search needs
 
-cast-t21 : tie.Need-cast-t21
-cast-t21 c = omega arith
+slice-write-part-3 : tie.Need-slice-write-part-3
+slice-write-part-3 c = search needs
 
-mul-t23 : tie.Need-mul-t23
-mul-t23 c = omega arith
+shared-slice-read-part : tie.Need-shared-slice-read-part
+shared-slice-read-part c = search needs
 
-add-t24 : tie.Need-add-t24
-add-t24 c = omega arith
+add-part : tie.Need-add-part
+add-part c = search needs
 
-cast-t25 : tie.Need-cast-t25
-cast-t25 c = omega arith
+slice-write-part-4 : tie.Need-slice-write-part-4
+slice-write-part-4 c = search needs
 
-slice-aggregate-copy : tie.Need-slice-aggregate-copy
-slice-aggregate-copy c = omega arith
+slice-write-part-5 : tie.Need-slice-write-part-5
+slice-write-part-5 c = simp length-set (omega arith)
 
-copy-requires : tie.Need-copy-requires
-copy-requires c κs = omega arith
+slice-write-part-6 : tie.Need-slice-write-part-6
+slice-write-part-6 c = simp length-set (omega arith)
+
+shared-slice-read-part-2 : tie.Need-shared-slice-read-part-2
+shared-slice-read-part-2 c = search needs
+
+mul-part : tie.Need-mul-part
+mul-part c = search needs
+
+shared-slice-read-part-3 : tie.Need-shared-slice-read-part-3
+shared-slice-read-part-3 c = search needs
+
+mul-part-2 : tie.Need-mul-part-2
+mul-part-2 c = search needs
+
+add-part-2 : tie.Need-add-part-2
+add-part-2 c = search needs
+
+shared-slice-read-part-4 : tie.Need-shared-slice-read-part-4
+shared-slice-read-part-4 c = search needs
+
+add-part-3 : tie.Need-add-part-3
+add-part-3 c = search needs
+
+slice-write-part-7 : tie.Need-slice-write-part-7
+slice-write-part-7 c = simp length-set (omega arith)
+
+cast-part-3 : tie.Need-cast-part-3
+cast-part-3 c = search needs
+
+slice-write-part-8 : tie.Need-slice-write-part-8
+slice-write-part-8 c = simp length-set (omega arith)
+
+mul-part-3 : tie.Need-mul-part-3
+mul-part-3 c = search needs
+
+add-part-4 : tie.Need-add-part-4
+add-part-4 c = search needs
+
+cast-part-4 : tie.Need-cast-part-4
+cast-part-4 c = search needs
+
+slice-write-part-9 : tie.Need-slice-write-part-9
+slice-write-part-9 c = simp length-set (omega arith)
 
 same-length : tie.Need-same-length
-same-length c = omega arith
+same-length c = simp length-set (omega arith)
 
 returns : tie.Need-returns
 returns c =
-    let copy = c .before .before in
-    let start = copy .before .before .before .before .before .before .before .before .before .before in
+    let start = c .before .before .before .before .before .before .before .before .before in
     let args = start .args in
-    ap (run 8) (copy .copy .ensures ∙ copied-all (args .part .now) (startBytes (args .pid) (args .s)) (start .pre))
-    ∙ start-bits (args .pid) (args .s)
+    let b = args .setting .now in
+    ap (run 8) (rw (c .before .before .before .before .word .ensures) (stored (startBytes (args .pid) (settingIn b)) (args .part .now) (start .pre .0)))
+    ∙ start-bits (args .pid) (settingIn b)
+    ∙ ap (λ (s : Setting). lineBits (args .pid) s startTable) (sym (setting-in b (start .pre .1)))
 
 pub write-start-spec : {M : Type 1} → statement M
 write-start-spec =
     tie.close
     (tie.spec
-    cast-t7
-    cast-t9
-    add-t11
-    mul-t13
-    mul-t15
-    add-t16
-    add-t18
-    cast-t21
-    mul-t23
-    add-t24
-    cast-t25
-    slice-aggregate-copy
-    copy-requires
+    shared-slice-read-word
+    shared-slice-read-word-2
+    word-requires
+    slice-write-part
+    cast-part
+    slice-write-part-2
+    cast-part-2
+    slice-write-part-3
+    shared-slice-read-part
+    add-part
+    slice-write-part-4
+    slice-write-part-5
+    slice-write-part-6
+    shared-slice-read-part-2
+    mul-part
+    shared-slice-read-part-3
+    mul-part-2
+    add-part-2
+    shared-slice-read-part-4
+    add-part-3
+    slice-write-part-7
+    cast-part-3
+    slice-write-part-8
+    mul-part-3
+    add-part-4
+    cast-part-4
+    slice-write-part-9
     same-length
     returns)
