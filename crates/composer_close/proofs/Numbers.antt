@@ -1,25 +1,26 @@
--- What each slot in turn does to the header's numbers. Assumes nothing.
-use Prim.Native.Nat.{ℕ, _+_, _≤_, _<_}
-use mathlib.Core.Path.{_≡_, refl, sym, ap₂, _∙_}
-use mathlib.Core.Bool.{Bool, false, cond}
-use mathlib.Core.List.{List, _∷_}
-use native.Mathlib.Numerals.{add-one}
+-- The header's numbers, slot by slot. Assumes nothing.
+use Prim.Native.Nat.{ℕ, zero, suc, _<_}
+use mathlib.Core.Path.{_≡_, refl, ap}
+use mathlib.Core.Bool.{Bool, cond}
+use mathlib.Core.List.{List, [], _∷_}
+use native.Mathlib.Omega.{arith}
 use lib.Dec.{eqb}
-use lib.ListN.{length, getD, drop, drop-of-length-le, length-map, List·getD-map}
-use lib.Seq.{drop-cons}
+use lib.ListN.{length, getD}
 use Rattle.composer.specs.Slots.{numbersOf}
 use Rattle.composer.specs.States.{marksOf}
 
--- the numbers from slot i on, by the byte that marks it, and behind the last
-pub numbers-from : (ns filled : List ℕ) (i : ℕ) {m : Bool} → eqb (getD filled i 0) 1 ≡ m → i < length ns → i < length filled
-    → numbersOf (drop i ns) (drop i (marksOf filled)) ≡ cond m (getD ns i 0) 0 ∷ numbersOf (drop (i + 1) ns) (drop (i + 1) (marksOf filled))
+-- the number of slot i + 1, by the byte that marks it
+pub numbers-at : (ns filled : List ℕ) (i : ℕ) → i < length ns → i < length filled
+    → getD (numbersOf ns (marksOf filled)) i 0 ≡ cond (eqb (getD filled i 0) 1) (getD ns i 0) 0
 unfolding numbersOf
-numbers-from ns filled i e h g =
-    let ms = marksOf filled in
-    let is-marked : ℕ → Bool = λ n. eqb n 1 in
-    ap₂ numbersOf (drop-cons ns i 0 h) (drop-cons ms i false (rw (length-map filled is-marked) g))
-    ∙ ap₂ (λ (b : Bool) (k : ℕ). cond b (getD ns i 0) 0 ∷ numbersOf (drop k ns) (drop k ms)) (List·getD-map is-marked filled i 0 ∙ e) (sym (add-one i))
+numbers-at [] filled i h g = absurd (omega arith)
+numbers-at (n ∷ ns) [] i h g = absurd (omega arith)
+numbers-at (n ∷ ns) (f ∷ filled) zero h g = refl
+numbers-at (n ∷ ns) (f ∷ filled) (suc i) h g = numbers-at ns filled i (omega arith) (omega arith)
 
-pub all-numbered : (ns : List ℕ) (ms : List Bool) (i : ℕ) → length ns ≤ i → drop i ns ≡ numbersOf (drop i ns) (drop i ms)
+-- there are as many as slots
+pub length-numbers : (ns filled : List ℕ) → length ns ≡ length filled → length (numbersOf ns (marksOf filled)) ≡ length ns
 unfolding numbersOf
-all-numbered ns ms i h = rw (drop-of-length-le ns h) refl
+length-numbers [] filled h = refl
+length-numbers (n ∷ ns) [] h = absurd (omega arith)
+length-numbers (n ∷ ns) (f ∷ filled) h = ap suc (length-numbers ns filled (omega arith))

@@ -3,23 +3,22 @@ mod header;
 
 use composer::COMPOSER_BYTES;
 use composer::COUNTER;
+use composer::FILLED;
 use composer::KIND;
-use composer::LAST;
 use composer::OPEN;
 use composer::PID;
 use composer::PID_LOW;
-use composer::PLAN;
-use composer::SAID;
-use composer::VERSION;
+use composer::SETTING;
 use packet::FRAME_BYTES;
 use packet::PACKET_BYTES;
-use setting_bytes::ANNOUNCED_BYTES;
+use setting_bytes::NUMBERS;
 ghost use mathlib.Core.Path.{_≡_};
-ghost use mathlib.Core.List.{_∷_, _++_};
+ghost use mathlib.Core.List.{_++_};
 ghost use lib.ListN.{length, take, replicate};
-ghost use Rattle.setting_bytes.specs.Settings.{part, announcedLength};
+ghost use Rattle.slices.specs.Slices.{over};
+ghost use Rattle.setting_bytes.specs.Settings.{part, numbersAt};
 ghost use Rattle.composer.specs.Composing.{closeRefusal};
-ghost use Rattle.composer.specs.States.{counterAt, saidAt, openLength, composerLength, composerOf};
+ghost use Rattle.composer.specs.States.{counterAt, settingAt, openLength, composerLength, composerOf};
 ghost use Rattle.composer.specs.Calls.{closeRefused, closeState, closeMemory};
 
 fn close_refusal(state: &[u8], lent: usize) -> u8
@@ -36,16 +35,24 @@ fn close_refusal(state: &[u8], lent: usize) -> u8
     composer_checks::open_refusal(state)
 }
 
-// Ends the open frame in the state: what its setting announced is now what the last header announced, and zeros follow it.
-fn end_frame(state: &mut [u8], counter: u8, version: u8)
+// Copies what the header said of counter, version and announcement to where the last header's stand.
+fn keep(state: &mut [u8])
     requires { ⌜ length (now state) ≡ composerLength ⌝ }
-    ensures { λ _. ⌜ now (state .exit) ≡ take counterAt (now (state .entry)) ++ (counter ∷ version ∷ (part saidAt announcedLength (now (state .entry)) ++ replicate openLength 0)) ⌝ }
+    ensures { λ _. ⌜ now (state .exit) ≡ over counterAt (part settingAt numbersAt (now (state .entry))) (now (state .entry)) ⌝ }
 {
-    let mut announced = [0u8; ANNOUNCED_BYTES];
-    slices::copy(&mut announced, &state[SAID..PLAN]);
-    state[COUNTER] = counter;
-    state[VERSION] = version;
-    slices::copy(&mut state[LAST..OPEN], &announced);
+    let mut i = 0;
+    while i < NUMBERS {
+        state[COUNTER + i] = state[SETTING + i];
+        i += 1;
+    }
+}
+
+// Ends the open frame in the state, once its setting is what the header says: that is now what the last header said, and zeros follow it.
+fn end_frame(state: &mut [u8])
+    requires { ⌜ length (now state) ≡ composerLength ⌝ }
+    ensures { λ _. ⌜ now (state .exit) ≡ take counterAt (now (state .entry)) ++ (part settingAt numbersAt (now (state .entry)) ++ replicate openLength 0) ⌝ }
+{
+    keep(state);
     slices::fill(&mut state[OPEN..COMPOSER_BYTES], 0);
 }
 
@@ -64,11 +71,18 @@ pub extern "C" fn niranbok_composer_close(state: &mut [u8], frame: &mut [u8]) ->
         return refusal;
     }
     slices::are_bytes(state);
-    let said = header::header_setting(state);
     let pid = bits::word(state[PID], state[PID_LOW]);
     let kind = setting_bytes::kind_of(state[KIND]);
+    let counter = (state[COUNTER] + 1) % 16;
+    let version = header::next_version(state);
     // The checks have made sure that this setting obeys the rules.
-    header_write::write_header(&mut frame[0..PACKET_BYTES], pid, kind, said);
-    end_frame(state, said.continuity_counter, said.version_number);
+    header::say(&mut state[SETTING..COMPOSER_BYTES], counter, version);
+    header_write::write_header(
+        &mut frame[0..PACKET_BYTES],
+        pid,
+        kind,
+        &state[SETTING..FILLED],
+    );
+    end_frame(state);
     0
 }

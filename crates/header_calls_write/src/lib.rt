@@ -13,10 +13,5 @@ pub extern "C" fn niranbok_header_write(packet: &mut [u8], pid: u16, kind: u8, s
     if refusal != 0 {
         return refusal;
     }
-    header_write::write(
-        packet,
-        pid,
-        setting_bytes::kind_of(kind),
-        setting_read::setting_of(setting),
-    )
+    header_write::write(packet, pid, setting_bytes::kind_of(kind), setting)
 }

@@ -3,11 +3,11 @@ use Prim.Native.Nat.{ℕ, zero, suc, _+_, _*_, _≤_}
 use mathlib.Core.Path.{_≡_, refl, sym, ap, ap₂, _∙_}
 use mathlib.Core.List.{List, [], _∷_}
 use native.Mathlib.Omega.{arith}
-use native.Mathlib.Nat.{zero-add, suc-add}
 use lib.ListN.{length, take, drop}
 use lib.Seq.{drop-drop}
 use Rattle.bits.specs.Fields.{Fit, bitsOf, run, cut}
 use Rattle.bits.proofs.Laws.{fit-drop, fit-take}
+use Rattle.slices.proofs.Front.{drop-take}
 use Rattle.counters.specs.Counters.{lastStream}
 use Rattle.setting_pairs.specs.Identifiers.{idsApart}
 use Rattle.header_layout.specs.Header.{headerLength, firsts, seconds}
@@ -39,13 +39,6 @@ second-ids (suc n) (w ∷ []) f h = absurd (omega arith)
 second-ids (suc n) (w ∷ x ∷ []) f h = absurd (omega arith)
 second-ids (suc n) (w ∷ x ∷ y ∷ []) f h = absurd (omega arith)
 
--- a part without its front
-drop-front : (k n : ℕ) (l : List ℕ) → drop k (take (k + n) l) ≡ take n (drop k l)
-drop-front zero n l = rw (zero-add n) refl
-drop-front (suc k) zero [] = rw (suc-add k zero) refl
-drop-front (suc k) (suc n) [] = rw (suc-add k (suc n)) refl
-drop-front (suc k) n (x ∷ l) = rw (suc-add k n) (drop-front k n l)
-
 -- where they stand in a header
 module _ (p : List ℕ) (f : Fit 8 p) (h : length p ≡ headerLength) where
   pub ts-ids-in : idsApart 4 lastStream (take 60 (drop 9 p)) ≡ firsts (cut 16 30 (run 8 (take 60 (drop 9 p))))
@@ -53,5 +46,5 @@ module _ (p : List ℕ) (f : Fit 8 p) (h : length p ≡ headerLength) where
 
   pub network-ids-in : idsApart 4 lastStream (take 58 (drop 11 p)) ≡ seconds (cut 16 30 (run 8 (take 60 (drop 9 p))))
   network-ids-in =
-      ap (idsApart 4 lastStream) (sym (drop-front 2 58 (drop 9 p) ∙ ap (take 58) (drop-drop 2 9 p)))
+      ap (idsApart 4 lastStream) (sym (drop-take 2 58 (drop 9 p) ∙ ap (take 58) (drop-drop 2 9 p)))
       ∙ second-ids lastStream (take 60 (drop 9 p)) (fit-take 60 (fit-drop 9 f)) (length-part p 9 60 (omega arith))

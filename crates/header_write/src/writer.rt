@@ -56,7 +56,9 @@ fn write_start(part: &mut [u8], pid: u16, setting: &[u8])
     part[3] = 16 + setting[COUNTER] % 16;
     part[4] = 0xFA;
     part[5] = 0x86;
-    part[6] = setting[VERSION] % 8 * 32 + setting[SLOT_ALLOCATION_TYPE] % 2 * 16 + setting[FRAME_TYPE] % 16;
+    part[6] = setting[VERSION] % 8 * 32
+        + setting[SLOT_ALLOCATION_TYPE] % 2 * 16
+        + setting[FRAME_TYPE] % 16;
     part[7] = (availability / 128 % 256) as u8;
     part[8] = (availability % 128 * 2 + 1) as u8;
 }
@@ -106,10 +108,7 @@ fn write_extended(part: &mut [u8], setting: &[u8])
     requires { ⌜ (length (now part) ≡ privateBytes) × (length (now setting) ≡ settingLength) ⌝ }
     ensures { λ _. ⌜ ((pid : ℕ) → run 8 (now (part .exit)) ≡ lineBits pid (settingOf (now (setting .entry))) (privateTable Kind.Extended)) ⌝ }
 {
-    slices::copy(
-        &mut part[0..AUXILIARY_BYTES],
-        &setting[AUXILIARY..BONDING],
-    );
+    slices::copy(&mut part[0..AUXILIARY_BYTES], &setting[AUXILIARY..BONDING]);
     write_bonding(
         &mut part[AUXILIARY_BYTES..AUXILIARY_BYTES + header_layout::BONDING_BYTES],
         setting,

@@ -1,11 +1,11 @@
 -- What 252 bytes say as a setting, each field with the place of its bytes. Assumes nothing.
-use Prim.Native.Nat.{ℕ, zero, suc, _+_, _*_, _≤_, _<_}
-use mathlib.Core.Path.{_≡_, refl, ap, _∙_}
-use mathlib.Core.List.{List, [], _∷_}
+use Prim.Native.Nat.{ℕ, _+_, _*_, _<_}
+use mathlib.Core.Path.{_≡_, refl, _∙_}
+use mathlib.Core.List.{List}
 use native.Mathlib.Omega.{arith}
 use borrow.Author.Tests.{eq-eqb}
 use lib.ListN.{length, getD, take, drop}
-use lib.Seq.{take-take, drop-drop, getD-take, getD-drop}
+use lib.Seq.{getD-take, getD-drop}
 use Rattle.counters.specs.Counters.{lastSlot, lastStream}
 use Rattle.setting.specs.declared.Setting.{Setting}
 use Rattle.setting.specs.Setting.{privateBytes, auxiliaryBytes}
@@ -14,22 +14,11 @@ use Rattle.setting_bytes.specs.Settings.{part, slotTypeAt, frameTypeAt, 
 use Rattle.setting_bytes.specs.Settings.{counterAt, versionAt, announcedAt, numbersAt, privateAt, auxiliaryAt, groupAt, carriersAt, sequenceAt, framesAt, positionAt}
 use Rattle.setting_bytes.specs.Settings.{settingLength, settingOf}
 use Rattle.setting_bytes.proofs.Parts.{length-part}
+use Rattle.setting_bytes.proofs.Same.{part-inside}
 
--- ---- a part of a part
-
-within-front : (k n m : ℕ) (l : List ℕ) → k + n ≤ m → take n (drop k (take m l)) ≡ take n (drop k l)
-within-front zero n m l h = take-take n m l (omega arith)
-within-front (suc k) n zero l h = absurd (omega arith)
-within-front (suc k) n (suc m) [] h = refl
-within-front (suc k) n (suc m) (x ∷ l) h = within-front k n m l (omega arith)
-
-part-of-part : (j k n m : ℕ) (b : List ℕ) → k + n ≤ m → part k n (part j m b) ≡ part (j + k) n b
-part-of-part j k n m b h = within-front k n m (drop j b) h ∙ ap (take n) (drop-drop k j b)
-
+-- a byte of a part
 byte-of-part : (j k m : ℕ) (b : List ℕ) → k < m → getD (part j m b) k 0 ≡ getD b (j + k) 0
 byte-of-part j k m b h = getD-take m (drop j b) k 0 h ∙ getD-drop j b k 0
-
--- ---- the setting
 
 -- where a place of what is announced is found in a setting
 abbrev pub inSetting : ℕ → ℕ
@@ -68,8 +57,8 @@ setting-in b whole =
       byte-of-part announcedAt frameTypeAt announcedLength b (omega arith),
       byte-of-part announcedAt availabilityAt announcedLength b (omega arith),
       byte-of-part announcedAt (availabilityAt + 1) announcedLength b (omega arith),
-      part-of-part announcedAt tsIdAt (2 * lastStream) announcedLength b (omega arith),
-      part-of-part announcedAt networkIdAt (2 * lastStream) announcedLength b (omega arith),
-      part-of-part announcedAt statusesAt lastStream announcedLength b (omega arith),
+      part-inside tsIdAt (2 * lastStream) announcedAt announcedLength b (omega arith),
+      part-inside networkIdAt (2 * lastStream) announcedAt announcedLength b (omega arith),
+      part-inside statusesAt lastStream announcedAt announcedLength b (omega arith),
       byte-of-part announcedAt emergencyAt announcedLength b (omega arith),
     ) refl

@@ -1,11 +1,12 @@
 -- A list whose front is being overwritten, one element a turn: what a loop that fills a slice needs. Assumes nothing.
-use Prim.Native.Nat.{ℕ, suc, _+_, _-_, _≤_, _<_}
+use Prim.Native.Nat.{ℕ, zero, suc, _+_, _-_, _≤_, _<_}
 use mathlib.Core.Path.{_≡_, refl, sym, ap, ap₂, _∙_}
 use mathlib.Core.List.{List, [], _∷_, _++_, append-assoc, append-nil}
 use native.Mathlib.Omega.{arith}
+use native.Mathlib.Nat.{zero-add, suc-add}
 use native.Mathlib.Numerals.{add-one}
 use lib.ListN.{length, take, drop, set, getD, length-append, length-drop, drop-of-length-le, take-append-drop}
-use lib.Seq.{sets, sets-eq, drop-cons, set-at, append-snoc, take-at, drop-at, drop-drop, take-length, length-take-le}
+use lib.Seq.{take-nil, sets, sets-eq, drop-cons, set-at, append-snoc, take-at, drop-at, drop-drop, take-length, length-take-le}
 use Rattle.slices.specs.Slices.{copied, over}
 
 -- d is d₀ with the i elements of `done` over its front
@@ -16,6 +17,12 @@ pub record Front {A : Type 0} (d₀ done d : List A) (i : ℕ) : Type 0 where
 -- a list with ys in the place of its k elements from i on: what is left when a part was lent
 abbrev pub put : {A : Type 0} → ℕ → ℕ → List A → List A → List A
 put i k l ys = take i l ++ (ys ++ drop k (drop i l))
+
+-- a part without its front
+pub drop-take : (k n : ℕ) (l : List ℕ) → drop k (take (k + n) l) ≡ take n (drop k l)
+drop-take zero n l = rw (zero-add n) refl
+drop-take (suc k) n [] = rw (suc-add k n, take-nil {A = ℕ} n) refl
+drop-take (suc k) n (x ∷ l) = rw (suc-add k n) (drop-take k n l)
 
 module _ {A : Type 0} where
   pub front-none : (d : List A) → Front d [] d 0

@@ -128,7 +128,7 @@ returns-6 c =
     let buffer = start .args .buffer .now in (
       sym (at-length _ _ _ whole ∙ e),
       (rw (eq-eqb (length buffer) headerLength long, eq-eqb _ _ whole) at (write .write-header .ensures))
-      ∙ rw (eq-eqb _ _ whole) (made (start .args .kind) (start .args .pid) (said start) buffer e),
+          ∙ rw (eq-eqb _ _ whole) (made (start .args .kind) (start .args .pid) (said start) buffer e),
     )
 
 pub write-spec : {M : Type 1} → statement M
