@@ -1,0 +1,105 @@
+-- What a packet says, as the bytes of a setting: how long its lists are, and its bytes written part by part. Assumes nothing.
+use Prim.Native.Nat.{ℕ, _+_, _*_}
+use mathlib.Core.Path.{_≡_, refl, sym, ap, ap₂, _∙_}
+use mathlib.Core.List.{List, [], _∷_, _++_, append-assoc}
+use native.Mathlib.Omega.{arith}
+use lib.ListN.{length, take, drop, set, replicate}
+use lib.Seq.{drop-drop}
+use Rattle.bits.specs.Fields.{Fit, run, cut}
+use Rattle.slices.proofs.Front.{put, front-none, front-part, front-more, front-all}
+use Rattle.counters.specs.Counters.{lastStream, lastSlot}
+use Rattle.setting.specs.declared.Kind.{Kind}
+use Rattle.setting.specs.declared.Setting.{Setting}
+use Rattle.setting.specs.Setting.{privateBytes, auxiliaryBytes}
+use Rattle.setting.specs.Rules.{byKind}
+use Rattle.setting.specs.Announcing.{announced}
+use Rattle.setting_bytes.specs.Settings.{announcedLength, announcedBytes, counterAt, versionAt, announcedAt, numbersAt, privateAt, groupAt, carriersAt, sequenceAt, framesAt, positionAt}
+use Rattle.setting_bytes.specs.Settings.{settingLength, settingBytes}
+use Rattle.setting_bytes.proofs.Parts.{Long}
+use Rattle.header_layout.specs.Rows.{place, rowAt}
+use Rattle.header_layout.specs.Header.{headerLength, firsts, seconds, reading}
+use Rattle.header_layout.proofs.LaidOut.{laid-out}
+use Rattle.header_layout.proofs.Said.{privates-are, auxiliaries-are}
+use Rattle.header_read.proofs.Identifiers.{seconds-are}
+
+-- how long the lists are that a packet says
+pub reading-long : (kind : Kind) (p : List ℕ) → Long (reading kind p)
+unfolding reading laid-out rowAt place firsts seconds cut
+reading-long Kind.Plain p =
+    record {
+      ts-id = refl;
+      network-id = refl;
+      statuses = refl;
+      numbers = refl;
+      privates = refl;
+      auxiliaries = refl;
+    }
+reading-long Kind.Extended p =
+    record {
+      ts-id = refl;
+      network-id = refl;
+      statuses = refl;
+      numbers = refl;
+      privates = refl;
+      auxiliaries = refl;
+    }
+
+-- both kinds announce the same
+pub announced-by : (kind : Kind) (p : List ℕ) → announced (reading Kind.Plain p) ≡ announced (reading kind p)
+unfolding announced reading laid-out rowAt place
+announced-by kind p = refl
+
+-- the identifiers, from the byte on at which the first of them starts
+module _ (p : List ℕ) where
+  pub ts-ids-from : firsts (cut 16 (2 * lastStream) (drop (9 * 8) (run 8 p))) ≡ announced (reading Kind.Plain p) .«ts_id»
+  unfolding announced reading laid-out rowAt place
+  ts-ids-from = refl
+
+  pub network-ids-from : firsts (cut 16 (2 * lastStream) (drop (11 * 8) (run 8 p))) ≡ announced (reading Kind.Plain p) .«original_network_id»
+  unfolding announced reading laid-out rowAt place
+  network-ids-from = ap (λ (bs : List ℕ). firsts (cut 16 30 bs)) (sym (drop-drop 16 72 (run 8 p))) ∙ seconds-are 15 (drop 72 (run 8 p))
+
+-- the private data and the auxiliary information, written one behind the other, where the kind is known
+pub privates-written : {kind known : Kind} → kind ≡ known → (p bytes y z : List ℕ) → Fit 8 p → length p ≡ headerLength → length bytes ≡ privateBytes + auxiliaryBytes
+    → y ≡ byKind known (take privateBytes (drop 99 p)) (replicate privateBytes 0)
+    → z ≡ byKind known (replicate auxiliaryBytes 0) (take auxiliaryBytes (drop 99 p))
+    → put privateBytes auxiliaryBytes (put 0 privateBytes bytes y) z ≡ reading kind p .«private_data» ++ reading kind p .auxiliary
+privates-written {kind} {known} e p bytes y z fit whole long py pz =
+    let privates : y ≡ reading kind p .«private_data» = py ∙ ap (λ (k : Kind). byKind k (take privateBytes (drop 99 p)) (replicate privateBytes 0)) (sym e) ∙ privates-are p fit whole kind in
+    let auxiliaries : z ≡ reading kind p .auxiliary = pz ∙ ap (λ (k : Kind). byKind k (replicate auxiliaryBytes 0) (take auxiliaryBytes (drop 99 p))) (sym e) ∙ auxiliaries-are p fit whole kind in
+    let f₁ = front-part bytes [] bytes y 0 privateBytes (front-none bytes) (ap length privates ∙ reading-long kind p .privates) in
+    let f₂ = front-part bytes y _ z privateBytes auxiliaryBytes f₁ (ap length auxiliaries ∙ reading-long kind p .auxiliaries) in
+    front-all bytes (y ++ z) _ (privateBytes + auxiliaryBytes) f₂ (omega arith) ∙ ap₂ (λ (l m : List ℕ). l ++ m) privates auxiliaries
+
+-- how the bytes of a setting are bracketed
+regrouped : (c a n x : List ℕ) (g k q f w : ℕ)
+    → c ++ a ++ n ++ x ++ (g ∷ []) ++ (k ∷ []) ++ (q ∷ []) ++ (f ∷ []) ++ (w ∷ []) ≡ c ++ (a ++ (n ++ (x ++ (g ∷ k ∷ q ∷ f ∷ w ∷ []))))
+regrouped c a n x g k q f w = simp append-assoc
+
+-- the bytes of a setting, written one part behind the other
+pub setting-written : (s : Setting) (bytes a n x : List ℕ) (c v g k q f w : ℕ)
+    → length bytes ≡ settingLength → length a ≡ announcedLength → length n ≡ lastSlot → length x ≡ privateBytes + auxiliaryBytes
+    → c ∷ v ∷ [] ≡ s .«continuity_counter» ∷ s .«version_number» ∷ []
+    → a ≡ announcedBytes (announced s)
+    → n ≡ s .«relative_ts_number»
+    → x ≡ s .«private_data» ++ s .auxiliary
+    → g ∷ k ∷ q ∷ f ∷ w ∷ [] ≡ s .«group_id» ∷ s .«number_of_carriers» ∷ s .«carrier_sequence» ∷ s .«number_of_frames» ∷ s .«frame_position» .0 ∷ []
+    → set (set (set (set (set (put privateAt (privateBytes + auxiliaryBytes) (put numbersAt lastSlot (put announcedAt announcedLength (set (set bytes counterAt c) versionAt v) a) n) x)
+    groupAt g) carriersAt k) sequenceAt q) framesAt f) positionAt w ≡ settingBytes s
+unfolding settingBytes
+setting-written s bytes a n x c v g k q f w whole la ln lx pc pa pn px pb =
+    let f₁ = front-more bytes [] bytes counterAt c (front-none bytes) (omega arith) in
+    let f₂ = front-more bytes _ _ versionAt v f₁ (omega arith) in
+    let f₃ = front-part bytes _ _ a announcedAt announcedLength f₂ la in
+    let f₄ = front-part bytes _ _ n numbersAt lastSlot f₃ ln in
+    let f₅ = front-part bytes _ _ x privateAt (privateBytes + auxiliaryBytes) f₄ lx in
+    let f₆ = front-more bytes _ _ groupAt g f₅ (omega arith) in
+    let f₇ = front-more bytes _ _ carriersAt k f₆ (omega arith) in
+    let f₈ = front-more bytes _ _ sequenceAt q f₇ (omega arith) in
+    let f₉ = front-more bytes _ _ framesAt f f₈ (omega arith) in
+    let f₁₀ = front-more bytes _ _ positionAt w f₉ (omega arith) in
+    let b : List ℕ = s .«group_id» ∷ s .«number_of_carriers» ∷ s .«carrier_sequence» ∷ s .«number_of_frames» ∷ s .«frame_position» .0 ∷ [] in
+    front-all bytes _ _ settingLength f₁₀ (omega arith) ∙ regrouped (c ∷ v ∷ []) a n x g k q f w
+    ∙ (λ i. pc i ++ (pa i ++ (pn i ++ (px i ++ pb i))))
+    ∙ ap (λ (l : List ℕ). (s .«continuity_counter» ∷ s .«version_number» ∷ []) ++ (announcedBytes (announced s) ++ (s .«relative_ts_number» ++ l)))
+    (append-assoc (s .«private_data») (s .auxiliary) b)
