@@ -1,10 +1,10 @@
 -- What a packet says, as the bytes of a setting: how long its lists are, and its bytes written part by part. Assumes nothing.
-use Prim.Native.Nat.{ℕ, _+_, _*_}
+use Prim.Native.Nat.{ℕ, _+_, _*_, _/_, _%_}
 use mathlib.Core.Path.{_≡_, refl, sym, ap, ap₂, _∙_}
 use mathlib.Core.List.{List, [], _∷_, _++_, append-assoc}
 use native.Mathlib.Omega.{arith}
-use lib.ListN.{length, take, drop, set, replicate}
-use lib.Seq.{drop-drop}
+use lib.ListN.{length, getD, take, drop, set, replicate}
+use lib.Seq.{drop-drop, sets, sets-eq}
 use Rattle.bits.specs.Fields.{Fit, run, cut}
 use Rattle.slices.proofs.Front.{put, front-none, front-part, front-more, front-all}
 use Rattle.counters.specs.Counters.{lastStream, lastSlot}
@@ -13,13 +13,14 @@ use Rattle.setting.specs.declared.Setting.{Setting}
 use Rattle.setting.specs.Setting.{privateBytes, auxiliaryBytes}
 use Rattle.setting.specs.Rules.{byKind}
 use Rattle.setting.specs.Announcing.{announced}
-use Rattle.setting_bytes.specs.Settings.{announcedLength, announcedBytes, counterAt, versionAt, announcedAt, numbersAt, privateAt, groupAt, carriersAt, sequenceAt, framesAt, positionAt}
-use Rattle.setting_bytes.specs.Settings.{settingLength, settingBytes}
-use Rattle.setting_bytes.proofs.Parts.{Long}
+use Rattle.setting_bytes.specs.Words.{wordBytes}
+use Rattle.setting_bytes.specs.Settings.{slotTypeAt, tsIdAt, networkIdAt, statusesAt, emergencyAt, announcedLength, announcedBytes}
+use Rattle.setting_bytes.specs.Settings.{counterAt, versionAt, announcedAt, numbersAt, privateAt, groupAt, carriersAt, sequenceAt, framesAt, positionAt, settingLength, settingBytes}
+use Rattle.setting_bytes.proofs.Parts.{Long, streams as streams-long, announced-parts}
 use Rattle.header_layout.specs.Rows.{place, rowAt}
 use Rattle.header_layout.specs.Header.{headerLength, firsts, seconds, reading}
 use Rattle.header_layout.proofs.LaidOut.{laid-out}
-use Rattle.header_layout.proofs.Said.{privates-are, auxiliaries-are}
+use Rattle.header_layout.proofs.Said.{fields-are, status, privates-are, auxiliaries-are}
 use Rattle.header_read.proofs.Identifiers.{seconds-are}
 
 -- how long the lists are that a packet says
@@ -44,7 +45,11 @@ reading-long Kind.Extended p =
       auxiliaries = refl;
     }
 
--- both kinds announce the same
+-- both kinds have the version in the same place, and announce the same
+pub version-is : (kind : Kind) (p : List ℕ) → Fit 8 p → length p ≡ headerLength → getD p 6 0 / 32 ≡ reading kind p .«version_number»
+unfolding reading laid-out rowAt place
+version-is kind p fit whole = fields-are p fit whole .1
+
 pub announced-by : (kind : Kind) (p : List ℕ) → announced (reading Kind.Plain p) ≡ announced (reading kind p)
 unfolding announced reading laid-out rowAt place
 announced-by kind p = refl
@@ -58,6 +63,26 @@ module _ (p : List ℕ) where
   pub network-ids-from : firsts (cut 16 (2 * lastStream) (drop (11 * 8) (run 8 p))) ≡ announced (reading Kind.Plain p) .«original_network_id»
   unfolding announced reading laid-out rowAt place
   network-ids-from = ap (λ (bs : List ℕ). firsts (cut 16 30 bs)) (sym (drop-drop 16 72 (run 8 p))) ∙ seconds-are 15 (drop 72 (run 8 p))
+
+-- what a packet announces, written one part behind the other: slot information, identifiers, statuses and the emergency bit
+pub announced-written : (p bytes t o r : List ℕ) (n streams : ℕ) → Fit 8 p → length p ≡ headerLength → length bytes ≡ announcedLength
+    → streams ≡ reading Kind.Plain p .availability
+    → t ≡ wordBytes (firsts (cut 16 (2 * lastStream) (drop (9 * 8) (run 8 p))))
+    → o ≡ wordBytes (firsts (cut 16 (2 * lastStream) (drop (11 * 8) (run 8 p))))
+    → n ≡ lastStream → r ≡ cut 2 n (run 8 (take 4 (drop 69 p)))
+    → set (put statusesAt lastStream (put networkIdAt (2 * lastStream) (put tsIdAt (2 * lastStream)
+    (sets bytes slotTypeAt (getD p 6 0 / 16 % 2 ∷ getD p 6 0 % 16 ∷ streams / 256 ∷ streams % 256 ∷ [])) t) o) r) emergencyAt (getD p 72 0 % 2)
+    ≡ announcedBytes (announced (reading Kind.Plain p))
+unfolding announced reading wordBytes
+announced-written p bytes t o r n streams fit whole long ps pt po pn pr =
+    let s = reading Kind.Plain p in
+    let fields = fields-are p fit whole in
+    let i : List ℕ = getD p 6 0 / 16 % 2 ∷ getD p 6 0 % 16 ∷ streams / 256 ∷ streams % 256 ∷ [] in
+    ap₂ (λ (l : List ℕ) (e : ℕ). set (put statusesAt lastStream (put networkIdAt (2 * lastStream) (put tsIdAt (2 * lastStream) l t) o) r) emergencyAt e)
+    (sets-eq i bytes slotTypeAt (omega arith)) (fields .5)
+    ∙ announced-parts (announced s) bytes i t o r long (streams-long s (reading-long Kind.Plain p))
+    (λ j. fields .2 j ∷ fields .3 j ∷ ps j / 256 ∷ ps j % 256 ∷ [])
+    (pt ∙ ap wordBytes (ts-ids-from p)) (po ∙ ap wordBytes (network-ids-from p)) (pr ∙ status p fit whole n pn)
 
 -- the private data and the auxiliary information, written one behind the other, where the kind is known
 pub privates-written : {kind known : Kind} → kind ≡ known → (p bytes y z : List ℕ) → Fit 8 p → length p ≡ headerLength → length bytes ≡ privateBytes + auxiliaryBytes
