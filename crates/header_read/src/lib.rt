@@ -39,10 +39,7 @@ pub fn read(packet: &[u8], pid: u16, kind: Kind) -> Reading
     let refusal = read_into(packet, pid, kind, &mut bytes);
     if refusal != 0 {
         let setting = Setting::blank();
-        return Reading {
-            refusal,
-            setting,
-        };
+        return Reading { refusal, setting };
     }
     let setting = setting_read::setting_of(&bytes);
     Reading {

@@ -2,8 +2,8 @@
 use crate::packed;
 use counters::STREAMS;
 use header_check::Checked;
-use setting::Kind;
 use setting::AUXILIARY_BYTES;
+use setting::Kind;
 use setting::PRIVATE_BYTES;
 use setting_bytes::ANNOUNCED;
 use setting_bytes::AVAILABILITY;
@@ -12,8 +12,8 @@ use setting_bytes::BONDING;
 use setting_bytes::CARRIERS;
 use setting_bytes::COUNTER;
 use setting_bytes::EMERGENCY;
-use setting_bytes::FRAMES;
 use setting_bytes::FRAME_TYPE;
+use setting_bytes::FRAMES;
 use setting_bytes::NUMBERS;
 use setting_bytes::ORIGINAL_NETWORK_ID;
 use setting_bytes::POSITION;
@@ -90,10 +90,7 @@ fn read_private(part: &mut [u8], packet: &[u8], kind: Kind)
                 &mut part[0..PRIVATE_BYTES],
                 &packet[header_layout::PRIVATE..header_layout::CRC],
             );
-            slices::fill(
-                &mut part[PRIVATE_BYTES..PRIVATE_BYTES + AUXILIARY_BYTES],
-                0,
-            );
+            slices::fill(&mut part[PRIVATE_BYTES..PRIVATE_BYTES + AUXILIARY_BYTES], 0);
         }
         Kind::Extended => {
             slices::fill(&mut part[0..PRIVATE_BYTES], 0);
@@ -113,11 +110,7 @@ pub(crate) fn read_setting(setting: &mut [u8], packet: &[u8], kind: Kind, heard:
 {
     setting[COUNTER] = heard.continuity_counter;
     setting[VERSION] = packet[6] / 32;
-    read_announced(
-        &mut setting[ANNOUNCED..NUMBERS],
-        packet,
-        heard.availability,
-    );
+    read_announced(&mut setting[ANNOUNCED..NUMBERS], packet, heard.availability);
     let numbers = heard.relative_ts_number;
     slices::copy(&mut setting[NUMBERS..PRIVATE], &numbers);
     read_private(&mut setting[PRIVATE..BONDING], packet, kind);
