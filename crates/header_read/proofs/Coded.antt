@@ -3,10 +3,10 @@ use Prim.Native.Nat.{ℕ, _+_, _*_, _/_, _%_}
 use mathlib.Core.Path.{_≡_, refl, sym, ap, ap₂, _∙_}
 use mathlib.Core.List.{List, [], _∷_, _++_, append-assoc}
 use native.Mathlib.Omega.{arith}
-use lib.ListN.{length, getD, take, drop, set, replicate}
-use lib.Seq.{drop-drop, sets, sets-eq}
+use lib.ListN.{length, getD, take, drop, set, replicate, length-append}
+use lib.Seq.{drop-drop, drop-at, length-take-le, sets, sets-eq}
 use Rattle.bits.specs.Fields.{Fit, run, cut}
-use Rattle.slices.proofs.Front.{put, front-none, front-part, front-more, front-all}
+use Rattle.slices.proofs.Front.{put, front-none, front-kept, front-part, front-more, front-all}
 use Rattle.counters.specs.Counters.{lastStream, lastSlot}
 use Rattle.setting.specs.declared.Kind.{Kind}
 use Rattle.setting.specs.declared.Setting.{Setting}
@@ -15,7 +15,7 @@ use Rattle.setting.specs.Rules.{byKind}
 use Rattle.setting.specs.Announcing.{announced}
 use Rattle.setting_bytes.specs.Words.{wordBytes}
 use Rattle.setting_bytes.specs.Settings.{slotTypeAt, tsIdAt, networkIdAt, statusesAt, emergencyAt, announcedLength, announcedBytes}
-use Rattle.setting_bytes.specs.Settings.{counterAt, versionAt, announcedAt, numbersAt, privateAt, groupAt, carriersAt, sequenceAt, framesAt, positionAt, settingLength, settingBytes}
+use Rattle.setting_bytes.specs.Settings.{counterAt, announcedAt, numbersAt, privateAt, groupAt, carriersAt, sequenceAt, framesAt, positionAt, settingLength, settingBytes}
 use Rattle.setting_bytes.proofs.Parts.{Long, streams as streams-long, announced-parts}
 use Rattle.header_layout.specs.Rows.{place, rowAt}
 use Rattle.header_layout.specs.Header.{headerLength, firsts, seconds, reading}
@@ -101,30 +101,34 @@ regrouped : (c a n x : List ℕ) (g k q f w : ℕ)
     → c ++ a ++ n ++ x ++ (g ∷ []) ++ (k ∷ []) ++ (q ∷ []) ++ (f ∷ []) ++ (w ∷ []) ≡ c ++ (a ++ (n ++ (x ++ (g ∷ k ∷ q ∷ f ∷ w ∷ []))))
 regrouped c a n x g k q f w = simp append-assoc
 
--- the bytes of a setting, written one part behind the other
+-- the bytes of a setting: those behind the first two written one part behind the other, then the first two
 pub setting-written : (s : Setting) (bytes a n x : List ℕ) (c v g k q f w : ℕ)
     → length bytes ≡ settingLength → length a ≡ announcedLength → length n ≡ lastSlot → length x ≡ privateBytes + auxiliaryBytes
-    → c ∷ v ∷ [] ≡ s .«continuity_counter» ∷ s .«version_number» ∷ []
     → a ≡ announcedBytes (announced s)
     → n ≡ s .«relative_ts_number»
     → x ≡ s .«private_data» ++ s .auxiliary
     → g ∷ k ∷ q ∷ f ∷ w ∷ [] ≡ s .«group_id» ∷ s .«number_of_carriers» ∷ s .«carrier_sequence» ∷ s .«number_of_frames» ∷ s .«frame_position» .0 ∷ []
-    → set (set (set (set (set (put privateAt (privateBytes + auxiliaryBytes) (put numbersAt lastSlot (put announcedAt announcedLength (set (set bytes counterAt c) versionAt v) a) n) x)
-    groupAt g) carriersAt k) sequenceAt q) framesAt f) positionAt w ≡ settingBytes s
+    → c ∷ v ∷ [] ≡ s .«continuity_counter» ∷ s .«version_number» ∷ []
+    → sets (sets (put privateAt (privateBytes + auxiliaryBytes) (put numbersAt lastSlot (put announcedAt announcedLength bytes a) n) x) groupAt (g ∷ k ∷ q ∷ f ∷ w ∷ [])) counterAt (c ∷ v ∷ [])
+    ≡ settingBytes s
 unfolding settingBytes
-setting-written s bytes a n x c v g k q f w whole la ln lx pc pa pn px pb =
-    let f₁ = front-more bytes [] bytes counterAt c (front-none bytes) (omega arith) in
-    let f₂ = front-more bytes _ _ versionAt v f₁ (omega arith) in
-    let f₃ = front-part bytes _ _ a announcedAt announcedLength f₂ la in
-    let f₄ = front-part bytes _ _ n numbersAt lastSlot f₃ ln in
-    let f₅ = front-part bytes _ _ x privateAt (privateBytes + auxiliaryBytes) f₄ lx in
-    let f₆ = front-more bytes _ _ groupAt g f₅ (omega arith) in
-    let f₇ = front-more bytes _ _ carriersAt k f₆ (omega arith) in
-    let f₈ = front-more bytes _ _ sequenceAt q f₇ (omega arith) in
-    let f₉ = front-more bytes _ _ framesAt f f₈ (omega arith) in
-    let f₁₀ = front-more bytes _ _ positionAt w f₉ (omega arith) in
-    let b : List ℕ = s .«group_id» ∷ s .«number_of_carriers» ∷ s .«carrier_sequence» ∷ s .«number_of_frames» ∷ s .«frame_position» .0 ∷ [] in
-    front-all bytes _ _ settingLength f₁₀ (omega arith) ∙ regrouped (c ∷ v ∷ []) a n x g k q f w
+setting-written s bytes a n x c v g k q f w whole la ln lx pa pn px pb pc =
+    let two : List ℕ = take announcedAt bytes in
+    let rest : List ℕ = a ++ (n ++ (x ++ (g ∷ k ∷ q ∷ f ∷ w ∷ []))) in
+    let f₁ = front-kept bytes [] bytes 0 announcedAt (front-none bytes) (omega arith) in
+    let f₂ = front-part bytes two _ a announcedAt announcedLength f₁ la in
+    let f₃ = front-part bytes _ _ n numbersAt lastSlot f₂ ln in
+    let f₄ = front-part bytes _ _ x privateAt (privateBytes + auxiliaryBytes) f₃ lx in
+    let f₅ = front-more bytes _ _ groupAt g f₄ (omega arith) in
+    let f₆ = front-more bytes _ _ carriersAt k f₅ (omega arith) in
+    let f₇ = front-more bytes _ _ sequenceAt q f₆ (omega arith) in
+    let f₈ = front-more bytes _ _ framesAt f f₇ (omega arith) in
+    let f₉ = front-more bytes _ _ positionAt w f₈ (omega arith) in
+    let l₂ : length two ≡ announcedAt = length-take-le announcedAt bytes (omega arith) in
+    let l = length-append two rest in
+    ap (λ (b : List ℕ). sets b counterAt (c ∷ v ∷ [])) (front-all bytes _ _ settingLength f₉ (omega arith) ∙ regrouped two a n x g k q f w)
+    ∙ sets-eq (c ∷ v ∷ []) (two ++ rest) counterAt (omega arith)
+    ∙ ap (λ (b : List ℕ). (c ∷ v ∷ []) ++ b) (drop-at two rest announcedAt l₂)
     ∙ (λ i. pc i ++ (pa i ++ (pn i ++ (px i ++ pb i))))
-    ∙ ap (λ (l : List ℕ). (s .«continuity_counter» ∷ s .«version_number» ∷ []) ++ (announcedBytes (announced s) ++ (s .«relative_ts_number» ++ l)))
-    (append-assoc (s .«private_data») (s .auxiliary) b)
+    ∙ ap (λ (b : List ℕ). (s .«continuity_counter» ∷ s .«version_number» ∷ []) ++ (announcedBytes (announced s) ++ (s .«relative_ts_number» ++ b)))
+    (append-assoc (s .«private_data») (s .auxiliary) (s .«group_id» ∷ s .«number_of_carriers» ∷ s .«carrier_sequence» ∷ s .«number_of_frames» ∷ s .«frame_position» .0 ∷ []))

@@ -108,8 +108,6 @@ pub(crate) fn read_setting(setting: &mut [u8], packet: &[u8], kind: Kind, heard:
     requires { ⌜ (length (now packet) ≡ headerLength) × (heard ≡ partsOf 0 (reading kind (now packet))) ⌝ }
     ensures { λ _. ⌜ now (setting .exit) ≡ settingBytes (reading kind (now (packet .entry))) ⌝ }
 {
-    setting[COUNTER] = heard.continuity_counter;
-    setting[VERSION] = packet[6] / 32;
     read_announced(&mut setting[ANNOUNCED..NUMBERS], packet, heard.availability);
     let numbers = heard.relative_ts_number;
     slices::copy(&mut setting[NUMBERS..PRIVATE], &numbers);
@@ -120,4 +118,6 @@ pub(crate) fn read_setting(setting: &mut [u8], packet: &[u8], kind: Kind, heard:
     setting[SEQUENCE] = heard.carrier_sequence;
     setting[FRAMES] = heard.number_of_frames;
     setting[POSITION] = position.0;
+    setting[COUNTER] = heard.continuity_counter;
+    setting[VERSION] = packet[6] / 32;
 }

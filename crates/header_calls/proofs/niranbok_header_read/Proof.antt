@@ -1,9 +1,10 @@
 -- `niranbok_header_read` meets its contract. Assumes nothing.
-use mathlib.Core.Path.{refl, sym, _∙_}
+use mathlib.Core.Path.{_≡_, refl, sym, _∙_}
 use borrow.Author.Needs.{needs}
 use borrow.Author.Tests.{eq-eqb, ne-eqb}
 use lib.ListN.{length}
 use Rattle.setting.specs.Refusal.{ofLength, leaves}
+use Rattle.setting_bytes.specs.Kinds.{kindOf}
 use Rattle.setting_bytes.specs.Settings.{settingLength}
 use Rattle.header_read.specs.Reader.{intoRefused, intoMemory}
 use Rattle.header_calls.specs.Calls.{thenRefused, readRefused, readMemory}
@@ -37,9 +38,11 @@ returns-2 c =
     let read = c .before .before in
     let kind = read .before .before in
     let call = kind .before .before in
+    let start = call .before .before .before in
     let none = sym (call .call-refusal .ensures) ∙ kind .before .if1 .left in
-    rw (none, sym (kind .kind-of .ensures))
-    (rw (eq-eqb (length (call .before .before .before .args .setting .now)) settingLength (settled _ _ _ _ none)) at (read .read-into .ensures))
+    let same : kindOf (start .args .kind) ≡ kind .kind-of .result = sym (kind .kind-of .ensures) in
+    rw (none, same)
+    (rw (eq-eqb (length (start .args .setting .now)) settingLength (settled _ _ _ _ none)) at (read .read-into .ensures))
 
 pub niranbok-header-read-spec : {M : Type 1} → statement M
 niranbok-header-read-spec =

@@ -4,6 +4,7 @@ use borrow.Author.Needs.{needs}
 use lib.ListN.{replicate}
 use Rattle.setting_bytes.specs.Settings.{settingLength, settingOf}
 use Rattle.header_check.specs.Checking.{readRefusal}
+use Rattle.header_read.specs.Reader.{intoRefused, intoMemory}
 use Rattle.header_read.proofs.Calls.{refused, accepted, refusal-into, said-by}
 use Rattle.header_read.proofs.read.Statement.{statement}
 use Rattle.header_read.proofs.read.Tie as tie
@@ -15,7 +16,8 @@ begun c = c .before .before .before
 refusal : (c : tie.After-read-into) → readRefusal (begun c .args .kind) (begun c .args .pid) (begun c .args .packet .now) ≡ c .read-into .result
 refusal c =
     let s = begun c .args in
-    sym (c .read-into .ensures .0 ∙ refusal-into (s .kind) (s .pid) (s .packet .now) (replicate settingLength 0) refl)
+    let answered : c .read-into .result ≡ intoRefused (s .kind) (s .pid) (s .packet .now) (replicate settingLength 0) = c .read-into .ensures .0 in
+    sym (answered ∙ refusal-into (s .kind) (s .pid) (s .packet .now) (replicate settingLength 0) refl)
 
 slice-aggregate-read-into : tie.Need-slice-aggregate-read-into
 slice-aggregate-read-into c = search needs
@@ -43,8 +45,9 @@ returns-2 c =
     let into = c .before .before .before .before in
     let s = begun into .args in
     let none = refusal into ∙ c .before .before .if1 .left in
+    let left : into .read-into .last .1 .1 .1 .0 ≡ intoMemory (s .kind) (s .pid) (s .packet .now) (replicate settingLength 0) = into .read-into .ensures .1 in
     accepted (s .kind) (s .pid) (s .packet .now) none _ refl
-    (c .setting-of .ensures ∙ ap settingOf (into .read-into .ensures .1) ∙ said-by (s .kind) (s .pid) (s .packet .now) (replicate settingLength 0) refl none)
+    (c .setting-of .ensures ∙ ap settingOf left ∙ said-by (s .kind) (s .pid) (s .packet .now) (replicate settingLength 0) refl none)
 
 pub read-spec : {M : Type 1} → statement M
 read-spec =

@@ -1,5 +1,5 @@
 -- `read_into` meets its contract, by the length and the check's refusal. Assumes nothing.
-use mathlib.Core.Path.{_≡_, refl, sym, _∙_}
+use mathlib.Core.Path.{_≡_, sym, _∙_}
 use borrow.Author.Needs.{needs}
 use Rattle.header_check.specs.Checking.{readRefusal}
 use Rattle.header_check.proofs.Asked.{refusal-is, parts-are}

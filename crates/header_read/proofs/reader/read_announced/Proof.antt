@@ -6,7 +6,7 @@ use native.Mathlib.Omega.{arith}
 use borrow.Author.Needs.{needs}
 use borrow.Rule.Slice.PartMut.{same-len-mid, mid-len}
 use lib.ListN.{length, getD, length-set}
-use lib.Seq.{sets, length-sets}
+use lib.Seq.{sets}
 use Rattle.bits.proofs.Laws.{fit-of}
 use Rattle.slices.proofs.Front.{put}
 use Rattle.counters.specs.Counters.{lastStream}
