@@ -34,10 +34,5 @@ pub extern "C" fn niranbok_header_read(packet: &[u8], pid: u16, kind: u8, settin
     if call != 0 {
         return call;
     }
-    let reading = header_read::read(packet, pid, setting_bytes::kind_of(kind));
-    if reading.refusal != 0 {
-        return reading.refusal;
-    }
-    setting_write::write_setting(setting, reading.setting);
-    0
+    header_read::read_into(packet, pid, setting_bytes::kind_of(kind), setting)
 }

@@ -1,98 +1,122 @@
-// The parts of the reader: the fields that the check does not answer, and all fields as a setting.
+// The parts of the reader: each writes the bytes of its part of a setting straight from the packet.
 use crate::packed;
 use counters::STREAMS;
 use header_check::Checked;
 use setting::AUXILIARY_BYTES;
 use setting::Kind;
 use setting::PRIVATE_BYTES;
-use setting::Setting;
+use setting_bytes::ANNOUNCED;
+use setting_bytes::AVAILABILITY;
+use setting_bytes::AVAILABILITY_LOW;
+use setting_bytes::BONDING;
+use setting_bytes::CARRIERS;
+use setting_bytes::COUNTER;
+use setting_bytes::EMERGENCY;
+use setting_bytes::FRAME_TYPE;
+use setting_bytes::FRAMES;
+use setting_bytes::NUMBERS;
+use setting_bytes::ORIGINAL_NETWORK_ID;
+use setting_bytes::POSITION;
+use setting_bytes::PRIVATE;
+use setting_bytes::RECEIVE_STATUS;
+use setting_bytes::SEQUENCE;
+use setting_bytes::SLOT_ALLOCATION_TYPE;
+use setting_bytes::TS_ID;
+use setting_bytes::VERSION;
 ghost use mathlib.Core.Path.{_≡_};
-ghost use lib.ListN.{length, take, drop};
+ghost use mathlib.Core.List.{_++_};
+ghost use Prim.Native.Nat.{_+_, _*_, _≤_};
+ghost use lib.ListN.{length, drop};
+ghost use Rattle.bits.specs.Fields.{run, cut};
+ghost use Rattle.counters.specs.Counters.{lastStream};
 ghost use Rattle.setting.specs.Setting.{privateBytes, auxiliaryBytes};
-ghost use Rattle.setting.specs.Rules.{byKind};
-ghost use Rattle.header_layout.specs.Header.{headerLength, reading};
+ghost use Rattle.setting.specs.Announcing.{announced};
+ghost use Rattle.setting_bytes.specs.Words.{wordBytes};
+ghost use Rattle.setting_bytes.specs.Settings.{announcedLength, announcedBytes, settingLength, settingBytes};
+ghost use Rattle.header_layout.specs.Header.{headerLength, firsts, reading};
 ghost use Rattle.header_check.specs.Checking.{partsOf};
 
-// The private data of a plain header, or the auxiliary information of an extended one. The other one's bytes stay as they were.
-fn read_private(data: &mut [u8], auxiliary: &mut [u8], packet: &[u8], kind: Kind)
-    requires { ⌜ length (now packet) ≡ headerLength ⌝ }
-    requires { ⌜ (length (now «data») ≡ privateBytes) × (length (now auxiliary) ≡ auxiliaryBytes) ⌝ }
-    ensures { λ _. ⌜ now («data» .exit) ≡ byKind kind (take privateBytes (drop 99 (now (packet .entry)))) (now («data» .entry)) ⌝ }
-    ensures { λ _. ⌜ now (auxiliary .exit) ≡ byKind kind (now (auxiliary .entry)) (take auxiliaryBytes (drop 99 (now (packet .entry)))) ⌝ }
+// One identifier of each stream, from byte `from` of the header on: two bytes of every four.
+fn read_words(part: &mut [u8], packet: &[u8], from: usize)
+    requires { ⌜ (length (now part) ≡ 2 * lastStream) × (from + 4 * lastStream ≤ length (now packet)) ⌝ }
+    ensures { λ _. ⌜ now (part .exit) ≡ wordBytes (firsts (cut 16 (2 * lastStream) (drop (from * 8) (run 8 (now (packet .entry)))))) ⌝ }
+{
+    let mut k = 0;
+    while k < STREAMS {
+        part[2 * k] = packet[from + 4 * k];
+        part[2 * k + 1] = packet[from + 4 * k + 1];
+        k += 1;
+    }
+}
+
+// What the header announces, which both kinds have in the same place. The check has already read the availability.
+fn read_announced(part: &mut [u8], packet: &[u8], availability: u16)
+    requires { ⌜ (length (now part) ≡ announcedLength) × (length (now packet) ≡ headerLength) ⌝ }
+    requires { ⌜ availability ≡ reading Kind.Plain (now packet) .availability ⌝ }
+    ensures { λ _. ⌜ now (part .exit) ≡ announcedBytes (announced (reading Kind.Plain (now (packet .entry)))) ⌝ }
+{
+    let types = packet[6];
+    part[SLOT_ALLOCATION_TYPE] = types / 16 % 2;
+    part[FRAME_TYPE] = types % 16;
+    part[AVAILABILITY] = (availability / 256) as u8;
+    part[AVAILABILITY_LOW] = (availability % 256) as u8;
+    read_words(
+        &mut part[TS_ID..ORIGINAL_NETWORK_ID],
+        packet,
+        header_layout::IDENTIFIERS,
+    );
+    read_words(
+        &mut part[ORIGINAL_NETWORK_ID..RECEIVE_STATUS],
+        packet,
+        header_layout::NETWORK_ID,
+    );
+    packed::read_run(
+        &mut part[RECEIVE_STATUS..EMERGENCY],
+        &packet[header_layout::CONTROL..header_layout::NUMBERS],
+        2,
+    );
+    part[EMERGENCY] = packet[header_layout::CONTROL + header_layout::CONTROL_LAST] % 2;
+}
+
+// The private data of a plain header, or the auxiliary information of an extended one. The other one's bytes are zeros.
+fn read_private(part: &mut [u8], packet: &[u8], kind: Kind)
+    requires { ⌜ (length (now part) ≡ privateBytes + auxiliaryBytes) × (length (now packet) ≡ headerLength) ⌝ }
+    ensures { λ _. ⌜ now (part .exit) ≡ reading kind (now (packet .entry)) .«private_data» ++ reading kind (now (packet .entry)) .auxiliary ⌝ }
 {
     match kind {
         Kind::Plain => {
-            slices::copy(data, &packet[header_layout::PRIVATE..header_layout::CRC]);
+            slices::copy(
+                &mut part[0..PRIVATE_BYTES],
+                &packet[header_layout::PRIVATE..header_layout::CRC],
+            );
+            slices::fill(&mut part[PRIVATE_BYTES..PRIVATE_BYTES + AUXILIARY_BYTES], 0);
         }
         Kind::Extended => {
+            slices::fill(&mut part[0..PRIVATE_BYTES], 0);
             slices::copy(
-                auxiliary,
+                &mut part[PRIVATE_BYTES..PRIVATE_BYTES + AUXILIARY_BYTES],
                 &packet[header_layout::PRIVATE..header_layout::BONDING],
             );
         }
     }
 }
 
-// The fields of a few bits that both kinds have in the same place.
-struct Fields {
-    version_number: u8,
-    slot_allocation_type: u8,
-    frame_type: u8,
-    emergency_indicator: u8,
-}
-
-fn fields_of(packet: &[u8]) -> Fields
-    requires { ⌜ length (now packet) ≡ headerLength ⌝ }
-    ensures { λ r. ⌜ r .«version_number» ≡ reading Kind.Plain (now (packet .entry)) .«version_number» ⌝ }
-    ensures { λ r. ⌜ r .«slot_allocation_type» ≡ reading Kind.Plain (now (packet .entry)) .«slot_allocation_type» ⌝ }
-    ensures { λ r. ⌜ r .«frame_type» ≡ reading Kind.Plain (now (packet .entry)) .«frame_type» ⌝ }
-    ensures { λ r. ⌜ r .«emergency_indicator» ≡ reading Kind.Plain (now (packet .entry)) .«emergency_indicator» ⌝ }
-{
-    let types = packet[6];
-    Fields {
-        version_number: types / 32,
-        slot_allocation_type: types / 16 % 2,
-        frame_type: types % 16,
-        emergency_indicator: packet[header_layout::CONTROL + header_layout::CONTROL_LAST] % 2,
-    }
-}
-
-// What the packet says, field by field. `heard` has the parts that the check has already read. A part that the kind does not have is zeros.
-pub(crate) fn setting_of(packet: &[u8], kind: Kind, heard: Checked) -> Setting
+// What the packet says, field by field, as the bytes of a setting. `heard` has the parts that the check has already read.
+pub(crate) fn read_setting(setting: &mut [u8], packet: &[u8], kind: Kind, heard: Checked)
+    requires { ⌜ length (now setting) ≡ settingLength ⌝ }
     requires { ⌜ (length (now packet) ≡ headerLength) × (heard ≡ partsOf 0 (reading kind (now packet))) ⌝ }
-    ensures { λ r. ⌜ r ≡ reading kind (now (packet .entry)) ⌝ }
+    ensures { λ _. ⌜ now (setting .exit) ≡ settingBytes (reading kind (now (packet .entry))) ⌝ }
 {
-    let mut receive_status = [0u8; STREAMS];
-    packed::read_run(
-        &mut receive_status,
-        &packet[header_layout::CONTROL..header_layout::NUMBERS],
-        2,
-    );
-    let mut private_data = [0u8; PRIVATE_BYTES];
-    let mut auxiliary = [0u8; AUXILIARY_BYTES];
-    read_private(&mut private_data, &mut auxiliary, packet, kind);
-    let fields = fields_of(packet);
-    let ts_id = heard.ts_id;
-    let original_network_id = heard.original_network_id;
-    let relative_ts_number = heard.relative_ts_number;
-    let frame_position = heard.frame_position;
-    Setting {
-        continuity_counter: heard.continuity_counter,
-        version_number: fields.version_number,
-        slot_allocation_type: fields.slot_allocation_type,
-        frame_type: fields.frame_type,
-        availability: heard.availability,
-        ts_id,
-        original_network_id,
-        receive_status,
-        emergency_indicator: fields.emergency_indicator,
-        relative_ts_number,
-        private_data,
-        auxiliary,
-        group_id: heard.group_id,
-        number_of_carriers: heard.number_of_carriers,
-        carrier_sequence: heard.carrier_sequence,
-        number_of_frames: heard.number_of_frames,
-        frame_position,
-    }
+    read_announced(&mut setting[ANNOUNCED..NUMBERS], packet, heard.availability);
+    let numbers = heard.relative_ts_number;
+    slices::copy(&mut setting[NUMBERS..PRIVATE], &numbers);
+    read_private(&mut setting[PRIVATE..BONDING], packet, kind);
+    let position = heard.frame_position;
+    setting[BONDING] = heard.group_id;
+    setting[CARRIERS] = heard.number_of_carriers;
+    setting[SEQUENCE] = heard.carrier_sequence;
+    setting[FRAMES] = heard.number_of_frames;
+    setting[POSITION] = position.0;
+    setting[COUNTER] = heard.continuity_counter;
+    setting[VERSION] = packet[6] / 32;
 }

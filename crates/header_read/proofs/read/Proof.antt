@@ -1,47 +1,62 @@
--- `read` meets its contract, by the check's refusal. Assumes nothing.
-use mathlib.Core.Path.{_≡_, refl, _∙_}
-use native.Mathlib.Omega.{arith}
+-- `read` meets its contract, by the refusal of reading into bytes. Assumes nothing.
+use mathlib.Core.Path.{_≡_, refl, sym, ap, _∙_}
+use borrow.Author.Needs.{needs}
+use lib.ListN.{replicate}
+use Rattle.setting_bytes.specs.Settings.{settingLength, settingOf}
 use Rattle.header_check.specs.Checking.{readRefusal}
-use Rattle.header_check.proofs.Asked.{refusal-is, parts-are}
-use Rattle.header_check.proofs.Accepted.{shown}
-use Rattle.header_read.proofs.Calls.{refused, accepted}
+use Rattle.header_read.specs.Reader.{intoRefused, intoMemory}
+use Rattle.header_read.proofs.Calls.{refused, accepted, refusal-into, said-by}
 use Rattle.header_read.proofs.read.Statement.{statement}
 use Rattle.header_read.proofs.read.Tie as tie
 
-check-requires : tie.Need-check-requires
-check-requires c κs = omega arith
+abbrev begun : tie.After-read-into → tie.Start
+begun c = c .before .before .before
+
+-- what was answered is the packet's refusal
+refusal : (c : tie.After-read-into) → readRefusal (begun c .args .kind) (begun c .args .pid) (begun c .args .packet .now) ≡ c .read-into .result
+refusal c =
+    let s = begun c .args in
+    let answered : c .read-into .result ≡ intoRefused (s .kind) (s .pid) (s .packet .now) (replicate settingLength 0) = c .read-into .ensures .0 in
+    sym (answered ∙ refusal-into (s .kind) (s .pid) (s .packet .now) (replicate settingLength 0) refl)
+
+slice-aggregate-read-into : tie.Need-slice-aggregate-read-into
+slice-aggregate-read-into c = search needs
+
+read-into-requires : tie.Need-read-into-requires
+read-into-requires c κs = search needs
 
 blank-requires : tie.Need-blank-requires
-blank-requires c κs = omega arith
+blank-requires c κs = search needs
 
 returns : tie.Need-returns
 returns c =
-    let check = c .before .before .before in
-    let s = check .before .before .args in
-    refused (s .kind) (s .pid) (s .packet .now) (refusal-is (s .kind) (s .pid) (s .packet .now) (check .check .result) (check .check .ensures)) (c .before .if1 .taken) _ refl
-    (c .blank .ensures)
+    let into = c .before .before .before in
+    let s = begun into .args in
+    refused (s .kind) (s .pid) (s .packet .now) (refusal into) (c .before .if1 .taken) _ refl (c .blank .ensures)
 
--- the packet was accepted
-passed : (c : tie.Else1)
-    → readRefusal (c .before .before .before .before .args .kind) (c .before .before .before .before .args .pid) (c .before .before .before .before .args .packet .now) ≡ 0
-passed c =
-    let check = c .before .before in
-    let s = check .before .before .args in
-    refusal-is (s .kind) (s .pid) (s .packet .now) (check .check .result) (check .check .ensures) ∙ c .if1 .left
+slice-aggregate-setting-of : tie.Need-slice-aggregate-setting-of
+slice-aggregate-setting-of c = search needs
 
 setting-of-requires : tie.Need-setting-of-requires
-setting-of-requires c κs =
-    let check = c .before .before in
-    let s = check .before .before .args in (
-      shown (s .kind) (s .pid) (s .packet .now) (passed c) .whole,
-      parts-are (s .kind) (s .pid) (s .packet .now) (check .check .result) (check .check .ensures) (c .if1 .left),
-    )
+setting-of-requires c κs = search needs
 
 returns-2 : tie.Need-returns-2
 returns-2 c =
-    let s = c .before .before .before .before .before .args in
-    accepted (s .kind) (s .pid) (s .packet .now) (passed (c .before)) _ refl (c .setting-of .ensures)
+    let into = c .before .before .before .before in
+    let s = begun into .args in
+    let none = refusal into ∙ c .before .before .if1 .left in
+    let left : into .read-into .last .1 .1 .1 .0 ≡ intoMemory (s .kind) (s .pid) (s .packet .now) (replicate settingLength 0) = into .read-into .ensures .1 in
+    accepted (s .kind) (s .pid) (s .packet .now) none _ refl
+    (c .setting-of .ensures ∙ ap settingOf left ∙ said-by (s .kind) (s .pid) (s .packet .now) (replicate settingLength 0) refl none)
 
 pub read-spec : {M : Type 1} → statement M
 read-spec =
-    tie.close (tie.spec check-requires blank-requires returns setting-of-requires returns-2)
+    tie.close
+    (tie.spec
+    slice-aggregate-read-into
+    read-into-requires
+    blank-requires
+    returns
+    slice-aggregate-setting-of
+    setting-of-requires
+    returns-2)
