@@ -56,11 +56,11 @@ announced-by kind p = refl
 
 -- the identifiers, from the byte on at which the first of them starts
 module _ (p : List ℕ) where
-  pub ts-ids-from : firsts (cut 16 (2 * lastStream) (drop (9 * 8) (run 8 p))) ≡ announced (reading Kind.Plain p) .«ts_id»
+  ts-ids-from : firsts (cut 16 (2 * lastStream) (drop (9 * 8) (run 8 p))) ≡ announced (reading Kind.Plain p) .«ts_id»
   unfolding announced reading laid-out rowAt place
   ts-ids-from = refl
 
-  pub network-ids-from : firsts (cut 16 (2 * lastStream) (drop (11 * 8) (run 8 p))) ≡ announced (reading Kind.Plain p) .«original_network_id»
+  network-ids-from : firsts (cut 16 (2 * lastStream) (drop (11 * 8) (run 8 p))) ≡ announced (reading Kind.Plain p) .«original_network_id»
   unfolding announced reading laid-out rowAt place
   network-ids-from = ap (λ (bs : List ℕ). firsts (cut 16 30 bs)) (sym (drop-drop 16 72 (run 8 p))) ∙ seconds-are 15 (drop 72 (run 8 p))
 
