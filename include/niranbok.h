@@ -36,6 +36,11 @@ extern "C" {
 #define NIRANBOK_COMPOSER_BYTES 390 /* a composer's state */
 #define NIRANBOK_RECEIVER_BYTES 58  /* a receiver's state */
 
+/* The most stack that a call takes on x86-64, its return address counted: spreading and gathering. Header
+ * writing and closing a frame take 200 bytes at most, reading a header and putting packets 256, reading the
+ * headers of a group 512. `make stack` measures them all. A compiler for another processor takes more or less. */
+#define NIRANBOK_STACK_BYTES 1536
+
 /* Kinds of headers. */
 #define NIRANBOK_PLAIN 0
 #define NIRANBOK_EXTENDED 1

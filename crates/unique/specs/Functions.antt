@@ -23,12 +23,10 @@ use Rattle.setting.proofs.pid_allowed as settingPidAllowed
 use Rattle.setting.proofs.announce as settingAnnounce
 use Rattle.setting_widths.proofs.information_refusal as settingWidthsInformationRefusal
 use Rattle.setting_widths.proofs.absent_refusal as settingWidthsAbsentRefusal
-use Rattle.setting_widths.proofs.width_refusal as settingWidthsWidthRefusal
 use Rattle.setting_slots.proofs.has_unavailable as settingSlotsHasUnavailable
 use Rattle.setting_pairs.proofs.has_pair_twice as settingPairsHasPairTwice
 use Rattle.setting_rules.proofs.bonding_refusal as settingRulesBondingRefusal
 use Rattle.setting_rules.proofs.frame_type_allowed as settingRulesFrameTypeAllowed
-use Rattle.setting_rules.proofs.rule_refusal as settingRulesRuleRefusal
 use Rattle.setting_bytes.proofs.read_words as settingBytesReadWords
 use Rattle.setting_bytes.proofs.kind_of as settingBytesKindOf
 use Rattle.setting_bytes.proofs.kind_number as settingBytesKindNumber
@@ -43,6 +41,7 @@ use Rattle.packet.proofs.place_refusal as packetPlaceRefusal
 use Rattle.packet.proofs.has_unfit as packetHasUnfit
 use Rattle.packet.proofs.rest as packetRest
 use Rattle.header_check.proofs.check as headerCheckCheck
+use Rattle.header_read.proofs.read_into as headerReadReadInto
 use Rattle.header_read.proofs.read as headerReadRead
 use Rattle.header_write.proofs.write_header as headerWriteWriteHeader
 use Rattle.header_write.proofs.write as headerWriteWrite
@@ -87,12 +86,10 @@ pub record Functions : Type 0 where
   pub setting-announce : OneOutcome settingAnnounce.ended settingAnnounce.Reads.Learnt
   pub setting-widths-information-refusal : OneOutcome settingWidthsInformationRefusal.ended settingWidthsInformationRefusal.Reads.Learnt
   pub setting-widths-absent-refusal : OneOutcome settingWidthsAbsentRefusal.ended settingWidthsAbsentRefusal.Reads.Learnt
-  pub setting-widths-width-refusal : OneOutcome settingWidthsWidthRefusal.ended settingWidthsWidthRefusal.Reads.Learnt
   pub setting-slots-has-unavailable : OneOutcome settingSlotsHasUnavailable.ended settingSlotsHasUnavailable.Reads.Learnt
   pub setting-pairs-has-pair-twice : OneOutcome settingPairsHasPairTwice.ended settingPairsHasPairTwice.Reads.Learnt
   pub setting-rules-bonding-refusal : OneOutcome settingRulesBondingRefusal.ended settingRulesBondingRefusal.Reads.Learnt
   pub setting-rules-frame-type-allowed : OneOutcome settingRulesFrameTypeAllowed.ended settingRulesFrameTypeAllowed.Reads.Learnt
-  pub setting-rules-rule-refusal : OneOutcome settingRulesRuleRefusal.ended settingRulesRuleRefusal.Reads.Learnt
   pub setting-bytes-read-words : OneOutcome settingBytesReadWords.ended settingBytesReadWords.Reads.Learnt
   pub setting-bytes-kind-of : OneOutcome settingBytesKindOf.ended settingBytesKindOf.Reads.Learnt
   pub setting-bytes-kind-number : OneOutcome settingBytesKindNumber.ended settingBytesKindNumber.Reads.Learnt
@@ -113,6 +110,7 @@ pub record Functions : Type 0 where
       → Allows packetRest.ended packetRest.Reads.Learnt κs a y
       → x .0 .now ≡ y .0 .now
   pub header-check-check : OneOutcome headerCheckCheck.ended headerCheckCheck.Reads.Learnt
+  pub header-read-read-into : OneOutcome headerReadReadInto.ended headerReadReadInto.Reads.Learnt
   pub header-read-read : OneOutcome headerReadRead.ended headerReadRead.Reads.Learnt
   pub header-write-write-header : OneOutcome headerWriteWriteHeader.ended headerWriteWriteHeader.Reads.Learnt
   pub header-write-write : OneOutcome headerWriteWrite.ended headerWriteWrite.Reads.Learnt
