@@ -19,16 +19,16 @@ use Rattle.bond_group.specs.Group.{framesIn, order}
 use Rattle.bond_group.specs.Standing.{callChecks, groupChecks, planChecks, someCarries}
 use Rattle.bond.specs.Bonding.{spreadChecks, gatherChecks, spreadOver, gathered, spreadRefusal, spreadOf, spreadGroup, gatherRefusal, gatherOf, gatherBuffer}
 use Rattle.bond_places.specs.Order.{framePackets}
-use Rattle.bond_places.specs.Walk.{mostFrames, framesBefore, isMarked, Walkable}
+use Rattle.bond_places.specs.Walk.{framesBefore, isMarked, Walkable}
 use Rattle.bond.specs.Listing.{Within, placesFrom, Listable}
 use Rattle.bond_group.specs.Plan.{planAfter, plannedOf}
 use Rattle.bond_group.proofs.Passing.{Called, called, numbered-plan}
 use Rattle.bond.proofs.Passing.{spread-none, gather-none}
 use Rattle.bond_group.proofs.Standing.{Whole, whole}
 use Rattle.bond_group.proofs.Grouping.{walkable, grouped}
-use Rattle.bond_group.proofs.Planned.{carried, packets, packets-few, slots-long, marked-bonded, walked, no-header}
+use Rattle.bond_group.proofs.Planned.{carried, packets, slots-long, marked-bonded, walked, no-header}
 use Rattle.bond.proofs.Demands.{exact, order-within}
-use Rattle.bond_places.proofs.Frames.{frames-few, frames-within}
+use Rattle.bond_places.proofs.Frames.{frames-within}
 
 -- ---- what the headers leave to know
 
@@ -78,7 +78,7 @@ framed-some : (f : ℕ) → (f ≡ 3) ⊎ (f ≡ 4) → 0 < f
 framed-some f (inl e) = omega arith
 framed-some f (inr e) = omega arith
 
--- ---- what the list by a known plan needs, and is
+-- ---- what the lists by a known plan need, and are
 
 module _ (b : Bond) (group : List ℕ) (plan : Plan) (k : Known b group plan) where
   abbrev n : ℕ
@@ -104,15 +104,6 @@ module _ (b : Bond) (group : List ℕ) (plan : Plan) (k : Known b group plan) wh
       marked-bonded b group (k .call .few) (k .call .one) (k .stand) (framePackets * framesBefore (made .frames) i) (omega arith)
       ∙ no-header b group (framesBefore (made .frames) i)
 
-  -- there are no more packets than frames can hold
-  order-few : length (order b group) ≤ framePackets * mostFrames
-  order-few =
-      let a = grouped b group (k .call .few) (k .call .one) (k .stand) .all in
-      let f = frames-few (made .frames) (b .carriers) (walks .short) in
-      let c = k .call .few in
-      let p = packets-few b group n in
-      omega (arith, packets b group (k .call .few) (k .call .one) (k .stand))
-
   pub listable : Listable (b .carriers) (plan .frames) (plan .slots)
   listable =
       subst (λ (p : Plan). Listable (b .carriers) (p .frames) (p .slots)) (sym (k .plan-is))
@@ -120,7 +111,6 @@ module _ (b : Bond) (group : List ℕ) (plan : Plan) (k : Known b group plan) wh
         walk = walks;
         long = slots-long b group (k .call .few) (k .call .one) (k .stand);
         headers = headers-bare;
-        few = rw (walked b group (k .call .few) (k .call .one) (k .stand)) order-few;
       })
 
   pub listed-within : Within (placesFrom (b .carriers) (plan .frames) (plan .slots) 0) group
