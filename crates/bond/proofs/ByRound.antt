@@ -12,8 +12,8 @@ use mir.Syntax.{w16, w64}
 use mir.Val.{Fits}
 use borrow.Author.Tests.{lt-ltb, le-ltb, ltb-true, eq-eqb, ne-eqb, eqb-true, eqb-false}
 use lib.Dec.{ltb, eqb}
-use lib.ListN.{length, getD, take, drop, set, length-append, length-drop, length-set}
-use lib.Seq.{drop-cons, getD-set-same, getD-set-other, take-set-le, take-suc-set}
+use lib.ListN.{length, getD, take, drop, set, length-drop, length-set}
+use lib.Seq.{drop-cons, length-take-le, getD-set-same, getD-set-other, take-set-le, take-suc-set}
 use Rattle.slices.proofs.Any.{both}
 use Rattle.counters.specs.Counters.{lastPosition, lastCarrier}
 use Rattle.bond_places.specs.Order.{picked, framePackets}
@@ -270,41 +270,7 @@ module _ {carriers : ℕ} {frames : List ℕ} (a : Walkable carriers frames) (t 
         subst (Noted carriers frames notes n) (omega arith)
         (noted-less carriers frames c (omega arith) (due-here ∙ ne-eqb (t % share f) 0 (part-not f t (a .framed k l) d)))
 
--- ---- a list, one packet after another
-
--- n packets of the list are there, behind which come those of `rest`; together they are so many
-pub record Listing (whole list rest : List ℕ) (total n : ℕ) : Type 0 where
-  pub same : take n list ++ rest ≡ whole
-  pub counted : n + length rest ≡ total
-
-module _ {whole list rest : List ℕ} {total n : ℕ} (c : Listing whole list rest total n) (h : total < length list) (m : ℕ) (next : List ℕ) where
-  -- a packet is written, and counts
-  pub listing-more : rest ≡ m ∷ next → Listing whole (set list n m) next total (n + 1)
-  listing-more e =
-      let counted = c .counted in
-      let less = ap length e in
-      record {
-        same =
-            ap (λ (k : ℕ). take k (set list n m) ++ next) (add-one n)
-            ∙ ap (λ (l : List ℕ). l ++ next) (take-suc-set list n m (omega arith))
-            ∙ append-assoc (take n list) (m ∷ []) next ∙ ap (λ (l : List ℕ). take n list ++ l) (sym e) ∙ c .same;
-        counted = omega arith;
-      }
-
-  -- or does not
-  pub listing-less : rest ≡ next → Listing whole (set list n m) next total n
-  listing-less e =
-      record {
-        same = ap₂ _++_ (take-set-le n list n m (omega arith)) (sym e) ∙ c .same;
-        counted = ap (λ (l : List ℕ). n + length l) (sym e) ∙ c .counted;
-      }
-
--- nothing more comes
-pub listing-all : {whole list rest : List ℕ} {total n : ℕ} → Listing whole list rest total n → rest ≡ [] → (take n list ≡ whole) × (n ≡ total)
-listing-all {whole} {list} {rest} {total} {n} c e =
-    let counted = c .counted in
-    let none = ap length e in
-    (sym (append-nil (take n list)) ∙ ap (λ (ms : List ℕ). take n list ++ ms) (sym e) ∙ c .same, omega arith)
+-- ---- a round listed, one entry after another
 
 -- what is reckoned for an entry e of x and y in round q
 pub record Reckoned (q e x y : ℕ) : Type 0 where
@@ -324,17 +290,15 @@ pub reckoned : (q e x y : ℕ) → e < roundSteps → x + q * y < framePackets *
 reckoned q e x y h l =
     record { twice = omega arith; beside = omega arith; first = omega arith; on = omega arith; packet = omega arith; listed = omega arith; next = omega arith }
 
-module _ (slots notes list₀ : List ℕ) (q noted listed : ℕ) where
+module _ (slots notes list₀ : List ℕ) (q noted : ℕ) where
   abbrev marked : ℕ → List ℕ
   marked e = markedIn slots notes q e (noted - e)
 
-  abbrev all-marked : List ℕ
-  all-marked = markedIn slots notes q 0 noted
-
-  -- of the entries of a round e were gone through
+  -- e of the entries of a round were gone through, and the n marked packets among theirs are listed
   pub record Going (list : List ℕ) (n e : ℕ) : Type 0 where
-    pub listing : Listing (take listed list₀ ++ markedIn slots notes q 0 noted) list (markedIn slots notes q e (noted - e)) (listed + length (markedIn slots notes q 0 noted)) n
-    pub few : e ≤ noted
+    pub same : take n list ++ markedIn slots notes q e (noted - e) ≡ markedIn slots notes q 0 noted
+    pub few : n ≤ e
+    pub early : e ≤ noted
     pub long : length list ≡ length list₀
 
   -- from an entry on: its packet, where that is marked, and those from the next on
@@ -345,39 +309,55 @@ module _ (slots notes list₀ : List ℕ) (q noted listed : ℕ) where
       let left : noted - e ≡ suc (noted - (e + 1)) = omega arith in
       ap (markedIn slots notes q e) left ∙ ap (λ (b : Bool). cond b (packetIn notes q e ∷ []) [] ++ marked (e + 1)) i
 
-  pub going-none : Going list₀ listed 0
+  pub going-none : Going list₀ 0 0
   going-none =
       let all : noted - 0 ≡ noted = omega arith in
-      record {
-        listing = record { same = ap (λ (k : ℕ). take listed list₀ ++ markedIn slots notes q 0 k) all; counted = ap (λ (k : ℕ). listed + length (markedIn slots notes q 0 k)) all };
-        few = omega arith;
-        long = refl;
-      }
+      record { same = ap (markedIn slots notes q 0) all; few = omega arith; early = omega arith; long = refl }
 
-  module _ {list : List ℕ} {n e : ℕ} (g : Going list n e) where
+  module _ (room : noted < length list₀) {list : List ℕ} {n e : ℕ} (g : Going list n e) where
     pub going-all : noted ≤ e
-        → (take n list ≡ take listed list₀ ++ markedIn slots notes q 0 noted) × (n ≡ listed + length (markedIn slots notes q 0 noted))
+        → (take n list ≡ markedIn slots notes q 0 noted) × ((n ≡ length (markedIn slots notes q 0 noted)) × (n ≤ noted))
     unfolding markedIn
     going-all h =
         let none : noted - e ≡ 0 = omega arith in
-        listing-all (g .listing) (ap (markedIn slots notes q e) none)
+        let is : take n list ≡ markedIn slots notes q 0 noted =
+        sym (append-nil (take n list)) ∙ ap (λ (k : ℕ). take n list ++ markedIn slots notes q e k) (sym none) ∙ g .same in
+        let few = g .few in
+        let early = g .early in
+        let long = g .long in
+        (is, (sym (length-take-le n list (omega arith)) ∙ ap length is, omega arith))
 
-    module _ (room : listed + length (markedIn slots notes q 0 noted) < length list₀) where
+    module _ (h : e < noted) where
       pub going-room : n < length list
-      going-room = let counted = g .listing .counted in let long = g .long in omega arith
+      going-room = let few = g .few in let long = g .long in omega arith
 
-      module _ (h : e < noted) where
-        longer : length (set list n (packetIn notes q e)) ≡ length list₀
-        longer = length-set list n (packetIn notes q e) ∙ g .long
+      longer : length (set list n (packetIn notes q e)) ≡ length list₀
+      longer = length-set list n (packetIn notes q e) ∙ g .long
 
-        within : listed + length (markedIn slots notes q 0 noted) < length list
-        within = let long = g .long in omega arith
+      pub going-more : isMarked slots (packetIn notes q e) ≡ true → Going (set list n (packetIn notes q e)) (n + 1) (e + 1)
+      going-more t =
+          let m = packetIn notes q e in
+          let few = g .few in
+          record {
+            same =
+                ap (λ (k : ℕ). take k (set list n m) ++ marked (e + 1)) (add-one n)
+                ∙ ap (λ (l : List ℕ). l ++ marked (e + 1)) (take-suc-set list n m going-room)
+                ∙ append-assoc (take n list) (m ∷ []) (marked (e + 1)) ∙ ap (λ (l : List ℕ). take n list ++ l) (sym (marked-from e h t)) ∙ g .same;
+            few = omega arith;
+            early = omega arith;
+            long = longer;
+          }
 
-        pub going-more : isMarked slots (packetIn notes q e) ≡ true → Going (set list n (packetIn notes q e)) (n + 1) (e + 1)
-        going-more t = record { listing = listing-more (g .listing) within _ _ (marked-from e h t); few = omega arith; long = longer }
-
-        pub going-less : isMarked slots (packetIn notes q e) ≡ false → Going (set list n (packetIn notes q e)) n (e + 1)
-        going-less t = record { listing = listing-less (g .listing) within _ _ (marked-from e h t); few = omega arith; long = longer }
+      pub going-less : isMarked slots (packetIn notes q e) ≡ false → Going (set list n (packetIn notes q e)) n (e + 1)
+      going-less t =
+          let m = packetIn notes q e in
+          let few = g .few in
+          record {
+            same = ap₂ _++_ (take-set-le n list n m (omega arith)) (sym (marked-from e h t)) ∙ g .same;
+            few = omega arith;
+            early = omega arith;
+            long = longer;
+          }
 
 -- ---- the rounds
 
@@ -430,14 +410,9 @@ module _ (carriers : ℕ) (frames slots : List ℕ) (a : Listable carriers frame
       by-test false = refl
 
   -- behind the last round are none
-  places-none : (q : ℕ) → q ≡ framePackets → places (roundSteps * q) ≡ []
+  pub places-none : (q : ℕ) → q ≡ framePackets → placesFrom carriers frames slots (roundSteps * q) ≡ []
   unfolding stops picked
   places-none q e = ap (λ (i : ℕ). places (roundSteps * i)) e
-
-  pub listing-end : {list : List ℕ} {total n : ℕ} (q : ℕ) → q ≡ framePackets
-      → Listing (placesFrom carriers frames slots 0) list (placesFrom carriers frames slots (roundSteps * q)) total n
-      → (take n list ≡ placesFrom carriers frames slots 0) × (n ≡ total)
-  listing-end q e l = listing-all l (places-none q e)
 
   -- what these steps find in round q
   found : ℕ → List ℕ → List ℕ
@@ -511,27 +486,3 @@ module _ (carriers : ℕ) (frames slots : List ℕ) (a : Listable carriers frame
           ap places (omega arith) ∙ rounds-from q 0 roundSteps h refl
           ∙ ap (λ (vs : List ℕ). found q vs ++ places (roundSteps * (q + 1))) (sym due-all)
           ∙ ap (λ (ms : List ℕ). ms ++ places (roundSteps * (q + 1))) (sym (entries-from 0 n (omega arith)))
-
-      -- one round is listed
-      module _ {list : List ℕ} {total listed : ℕ} (l : Listing (placesFrom carriers frames slots 0) list (placesFrom carriers frames slots (roundSteps * q)) total listed) where
-        abbrev these : List ℕ
-        these = markedIn slots notes q 0 n
-
-        round-long : length (placesFrom carriers frames slots (roundSteps * q)) ≡ length these + length (placesFrom carriers frames slots (roundSteps * (q + 1)))
-        round-long = ap length round-is ∙ length-append these (places (roundSteps * (q + 1)))
-
-        pub listing-room : listed + length (markedIn slots notes q 0 n) ≤ total
-        listing-room = let counted = l .counted in omega (arith, round-long)
-
-        pub listing-round : {next : List ℕ} {r : ℕ} → take r next ≡ take listed list ++ markedIn slots notes q 0 n
-            → r ≡ listed + length (markedIn slots notes q 0 n)
-            → Listing (placesFrom carriers frames slots 0) next (placesFrom carriers frames slots (roundSteps * (q + 1))) total r
-        listing-round e r =
-            let counted = l .counted in
-            record {
-              same =
-                  ap (λ (ms : List ℕ). ms ++ places (roundSteps * (q + 1))) e
-                  ∙ append-assoc (take listed list) these (places (roundSteps * (q + 1)))
-                  ∙ ap (λ (ms : List ℕ). take listed list ++ ms) (sym round-is) ∙ l .same;
-              counted = omega (arith, round-long);
-            }

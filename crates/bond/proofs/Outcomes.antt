@@ -1,34 +1,35 @@
 -- What a spread and a gather answer and leave, by the check that they stopped at. Assumes nothing.
 use Prim.Native.Nat.{ℕ, _*_, _%_, _≤_, _<_}
-use mathlib.Core.Path.{_≡_, refl, sym, ap, subst, _∙_}
+use mathlib.Core.Path.{_≡_, refl, sym, ap, ap₂, subst, _∙_}
 use mathlib.Core.Bool.{Bool, false, cond, not}
 use mathlib.Core.Logic.{_⊎_, inl, inr}
 use mathlib.Core.List.{List, [], _∷_}
 use native.Mathlib.Omega.{arith}
 use borrow.Author.Tests.{ltb-false, eq-eqb, ne-eqb}
 use lib.Dec.{ltb, eqb}
-use lib.ListN.{length, getD}
+use lib.ListN.{length, getD, replicate}
 use Rattle.slices.specs.Slices.{copied}
+use Rattle.slices.proofs.Front.{copied-over}
+use Rattle.counters.specs.Counters.{lastCarrier}
 use Rattle.setting.specs.Refusal.{Check, NoneHolds, firstOf}
 use Rattle.setting.proofs.Refusals.{answers, passed, onward, at-once, none-first, none-at, none-before, none-behind}
 use Rattle.packet.specs.Packets.{packetLength, someUnfitIn}
 use Rattle.bond_group.specs.declared.Bond.{Bond}
-use Rattle.bond_group.specs.declared.headers.Plan.{Plan}
-use Rattle.bond_group.specs.declared.headers.Planned.{Planned}
+use Rattle.bond_group.specs.declared.headers.Headers.{Headers}
 use Rattle.bond_group.specs.Group.{framesIn, order}
 use Rattle.bond_group.specs.Standing.{callChecks, groupChecks, planChecks, someCarries}
 use Rattle.bond.specs.Bonding.{spreadChecks, gatherChecks, spreadOver, gathered, spreadRefusal, spreadOf, spreadGroup, gatherRefusal, gatherOf, gatherBuffer}
 use Rattle.bond_places.specs.Order.{framePackets}
 use Rattle.bond_places.specs.Walk.{mostFrames, framesBefore, isMarked, Walkable}
 use Rattle.bond.specs.Listing.{Within, placesFrom, Listable}
-use Rattle.bond_group.specs.Plan.{planAfter, plannedOf}
+use Rattle.bond_group.specs.Plan.{Plan, headersOf, planAfter, plannedOf}
 use Rattle.bond_group.proofs.Passing.{Called, called, numbered-plan}
 use Rattle.bond.proofs.Passing.{spread-none, gather-none}
 use Rattle.bond_group.proofs.Standing.{Whole, whole}
 use Rattle.bond_group.proofs.Grouping.{walkable, grouped}
-use Rattle.bond_group.proofs.Planned.{carried, packets, packets-few, slots-long, marked-bonded, walked, no-header}
+use Rattle.bond_group.proofs.Planned.{carried, packets, frames-long, slots-long, marked-bonded, walked, no-header}
 use Rattle.bond.proofs.Demands.{exact, order-within}
-use Rattle.bond_places.proofs.Frames.{frames-few, frames-within}
+use Rattle.bond_places.proofs.Frames.{frames-within}
 
 -- ---- what the headers leave to know
 
@@ -39,28 +40,31 @@ spreadRest b is-carried n stream = (13, not is-carried) ∷ (15, not (eqb (lengt
 abbrev pub gatherRest : Bool → ℕ → ℕ → List Check
 gatherRest is-carried n out = (13, not is-carried) ∷ (15, ltb out (packetLength * n)) ∷ []
 
--- the plan of a group that was not refused
-pub record Known (b : Bond) (group : List ℕ) (plan : Plan) : Type 0 where
+-- a group that was not refused: what its headers answered, and the plan that they left
+pub record Known (b : Bond) (group : List ℕ) (h : Headers) (frames slots : List ℕ) : Type 0 where
   pub none-holds : NoneHolds (planChecks b group)
   pub call : Called b (length group)
   pub stand : Whole b group
-  pub plan-is : plan ≡ planAfter b group (framesIn group)
-  pub carried-is : plan .«is_carried» ≡ someCarries b group
-  pub packets-are : plan .packets ≡ length (order b group)
+  pub frames-are : frames ≡ planAfter b group (framesIn group) .frames
+  pub slots-are : slots ≡ planAfter b group (framesIn group) .slots
+  pub carried-is : h .«is_carried» ≡ someCarries b group
+  pub packets-are : h .packets ≡ length (order b group)
 
-module _ (b : Bond) (group : List ℕ) (p : Planned) (e : p ≡ plannedOf b group) where
-  pub refusal-is : p .refusal ≡ firstOf (planChecks b group)
+module _ (b : Bond) (group : List ℕ) {h : Headers} (e : h ≡ headersOf (plannedOf b group)) where
+  pub refusal-is : h .refusal ≡ firstOf (planChecks b group)
   unfolding plannedOf
-  refusal-is = ap (λ (x : Planned). x .refusal) e
+  refusal-is = ap (λ (x : Headers). x .refusal) e
 
-  module _ (z : p .refusal ≡ 0) where
-    plan-known : p .plan ≡ planAfter b group (framesIn group)
+  module _ (z : h .refusal ≡ 0) where
+    plan-known : plannedOf b group .plan ≡ planAfter b group (framesIn group)
     unfolding plannedOf
-    plan-known = ap (λ (x : Planned). x .plan) e ∙ rw (sym refusal-is ∙ z) refl
+    plan-known = rw (sym refusal-is ∙ z) refl
 
-    pub known : Known b group (p .plan)
+    pub known : {frames slots : List ℕ} → frames ≡ copied (replicate lastCarrier 0) (plannedOf b group .plan .frames)
+        → slots ≡ copied (replicate mostFrames 0) (plannedOf b group .plan .slots) → Known b group h frames slots
     unfolding someCarries planChecks
-    known =
+    known f s =
+        let m = framesIn group in
         let n = none-first (planChecks b group) (numbered-plan b group) (sym refusal-is ∙ z) in
         let c = called b (length group) (none-before (callChecks b (length group)) (groupChecks b group) n) in
         let w = whole b group (none-behind (callChecks b (length group)) n) in
@@ -68,9 +72,14 @@ module _ (b : Bond) (group : List ℕ) (p : Planned) (e : p ≡ plannedOf b grou
           none-holds = n;
           call = c;
           stand = w;
-          plan-is = plan-known;
-          carried-is = ap (λ (x : Plan). x .«is_carried») plan-known ∙ carried b group (framesIn group);
-          packets-are = ap (λ (x : Plan). x .packets) plan-known ∙ packets b group (c .few) (c .one) w;
+          frames-are =
+              f ∙ ap (λ (p : Plan). copied (replicate lastCarrier 0) (p .frames)) plan-known
+              ∙ copied-over (replicate lastCarrier 0) (planAfter b group m .frames) (sym (frames-long b group m));
+          slots-are =
+              s ∙ ap (λ (p : Plan). copied (replicate mostFrames 0) (p .slots)) plan-known
+              ∙ copied-over (replicate mostFrames 0) (planAfter b group m .slots) (sym (slots-long b group m));
+          carried-is = ap (λ (x : Headers). x .«is_carried») e ∙ ap (λ (p : Plan). p .«is_carried») plan-known ∙ carried b group m;
+          packets-are = ap (λ (x : Headers). x .packets) e ∙ ap (λ (p : Plan). p .packets) plan-known ∙ packets b group (c .few) (c .one) w;
         }
 
 -- a carrier has some frames
@@ -78,9 +87,9 @@ framed-some : (f : ℕ) → (f ≡ 3) ⊎ (f ≡ 4) → 0 < f
 framed-some f (inl e) = omega arith
 framed-some f (inr e) = omega arith
 
--- ---- what the list by a known plan needs, and is
+-- ---- what the lists by a known plan need, and are
 
-module _ (b : Bond) (group : List ℕ) (plan : Plan) (k : Known b group plan) where
+module _ (b : Bond) (group : List ℕ) {h : Headers} {frames slots : List ℕ} (k : Known b group h frames slots) where
   abbrev n : ℕ
   n = framesIn group
 
@@ -90,9 +99,9 @@ module _ (b : Bond) (group : List ℕ) (plan : Plan) (k : Known b group plan) wh
   walks : Walkable (b .carriers) (made .frames)
   walks = walkable b group (k .call .few) (k .call .one) (k .stand)
 
-  pub listed-by : placesFrom (b .carriers) (plan .frames) (plan .slots) 0 ≡ order b group
+  pub listed-by : placesFrom (b .carriers) frames slots 0 ≡ order b group
   listed-by =
-      ap (λ (p : Plan). placesFrom (b .carriers) (p .frames) (p .slots) 0) (k .plan-is) ∙ walked b group (k .call .few) (k .call .one) (k .stand)
+      ap₂ (λ (fs ss : List ℕ). placesFrom (b .carriers) fs ss 0) (k .frames-are) (k .slots-are) ∙ walked b group (k .call .few) (k .call .one) (k .stand)
 
   -- no header is marked
   headers-bare : (i : ℕ) → i < b .carriers → isMarked (made .slots) (framePackets * framesBefore (made .frames) i) ≡ false
@@ -104,26 +113,10 @@ module _ (b : Bond) (group : List ℕ) (plan : Plan) (k : Known b group plan) wh
       marked-bonded b group (k .call .few) (k .call .one) (k .stand) (framePackets * framesBefore (made .frames) i) (omega arith)
       ∙ no-header b group (framesBefore (made .frames) i)
 
-  -- there are no more packets than frames can hold
-  order-few : length (order b group) ≤ framePackets * mostFrames
-  order-few =
-      let a = grouped b group (k .call .few) (k .call .one) (k .stand) .all in
-      let f = frames-few (made .frames) (b .carriers) (walks .short) in
-      let c = k .call .few in
-      let p = packets-few b group n in
-      omega (arith, packets b group (k .call .few) (k .call .one) (k .stand))
+  pub listable : Listable (b .carriers) frames slots
+  listable = rw (k .frames-are, k .slots-are) (record { walk = walks; long = slots-long b group n; headers = headers-bare })
 
-  pub listable : Listable (b .carriers) (plan .frames) (plan .slots)
-  listable =
-      subst (λ (p : Plan). Listable (b .carriers) (p .frames) (p .slots)) (sym (k .plan-is))
-      (record {
-        walk = walks;
-        long = slots-long b group (k .call .few) (k .call .one) (k .stand);
-        headers = headers-bare;
-        few = rw (walked b group (k .call .few) (k .call .one) (k .stand)) order-few;
-      })
-
-  pub listed-within : Within (placesFrom (b .carriers) (plan .frames) (plan .slots) 0) group
+  pub listed-within : Within (placesFrom (b .carriers) frames slots 0) group
   listed-within = subst (λ (ms : List ℕ). Within ms group) (sym listed-by) (order-within b group (k .call .frames))
 
 -- ---- spread
@@ -151,8 +144,8 @@ module _ (b : Bond) (group stream : List ℕ) where
     unfolding spreadRefusal spreadChecks
     spread-headed d = passed 1 _ cut ∙ at-once (planChecks b group) _ d
 
-    module _ (plan : Plan) (k : Known b group plan) where
-      pub spread-rest : spreadRefusal b group stream ≡ firstOf (spreadRest b (plan .«is_carried») (plan .packets) stream)
+    module _ {h : Headers} {frames slots : List ℕ} (k : Known b group h frames slots) where
+      pub spread-rest : spreadRefusal b group stream ≡ firstOf (spreadRest b (h .«is_carried») (h .packets) stream)
       unfolding spreadRefusal spreadChecks
       spread-rest = passed 1 _ cut ∙ onward _ (k .none-holds) ∙ sym (λ i. firstOf (spreadRest b (k .carried-is i) (k .packets-are i) stream))
 
@@ -165,16 +158,16 @@ module _ (b : Bond) (group stream : List ℕ) where
   spread-made e = sym (rw e refl)
 
   -- what the code that writes asks
-  module _ (plan : Plan) (k : Known b group plan) (z : spreadRefusal b group stream ≡ 0) where
-    pub to-spread : Listable (b .carriers) (plan .frames) (plan .slots)
-        × ((length stream ≡ packetLength * length (placesFrom (b .carriers) (plan .frames) (plan .slots) 0))
-        × Within (placesFrom (b .carriers) (plan .frames) (plan .slots) 0) group)
+  module _ {h : Headers} {frames slots : List ℕ} (k : Known b group h frames slots) (z : spreadRefusal b group stream ≡ 0) where
+    pub to-spread : Listable (b .carriers) frames slots
+        × ((length stream ≡ packetLength * length (placesFrom (b .carriers) frames slots 0))
+        × Within (placesFrom (b .carriers) frames slots 0) group)
     unfolding spreadRefusal
     to-spread = (
-      listable b group plan k,
+      listable b group k,
       (
-        exact b group stream (spread-none b group stream z) ∙ ap (λ (ms : List ℕ). packetLength * length ms) (sym (listed-by b group plan k)),
-        listed-within b group plan k,
+        exact b group stream (spread-none b group stream z) ∙ ap (λ (ms : List ℕ). packetLength * length ms) (sym (listed-by b group k)),
+        listed-within b group k,
       ),
     )
 
@@ -195,8 +188,8 @@ module _ (b : Bond) (group out : List ℕ) where
   unfolding gatherRefusal gatherChecks
   gather-headed d = at-once (planChecks b group) _ d
 
-  module _ (plan : Plan) (k : Known b group plan) where
-    pub gather-rest : gatherRefusal b group (length out) ≡ firstOf (gatherRest (plan .«is_carried») (plan .packets) (length out))
+  module _ {h : Headers} {frames slots : List ℕ} (k : Known b group h frames slots) where
+    pub gather-rest : gatherRefusal b group (length out) ≡ firstOf (gatherRest (h .«is_carried») (h .packets) (length out))
     unfolding gatherRefusal gatherChecks
     gather-rest = onward _ (k .none-holds) ∙ sym (λ i. firstOf (gatherRest (k .carried-is i) (k .packets-are i) (length out)))
 
@@ -209,14 +202,14 @@ module _ (b : Bond) (group out : List ℕ) where
   gather-made e = sym (rw e refl)
 
   -- what the code that copies asks
-  module _ (plan : Plan) (k : Known b group plan) (z : gatherRefusal b group (length out) ≡ 0) where
+  module _ {h : Headers} {frames slots : List ℕ} (k : Known b group h frames slots) (z : gatherRefusal b group (length out) ≡ 0) where
     room : packetLength * length (order b group) ≤ length out
     unfolding gatherRefusal gatherChecks
     room =
         ltb-false (length out) (packetLength * length (order b group))
         (none-at (none-behind (planChecks b group) (gather-none b group (length out) z)) 1)
 
-    pub to-gather : Listable (b .carriers) (plan .frames) (plan .slots)
-        × ((packetLength * length (placesFrom (b .carriers) (plan .frames) (plan .slots) 0) ≤ length out)
-        × Within (placesFrom (b .carriers) (plan .frames) (plan .slots) 0) group)
-    to-gather = (listable b group plan k, (rw (listed-by b group plan k) room, listed-within b group plan k))
+    pub to-gather : Listable (b .carriers) frames slots
+        × ((packetLength * length (placesFrom (b .carriers) frames slots 0) ≤ length out)
+        × Within (placesFrom (b .carriers) frames slots 0) group)
+    to-gather = (listable b group k, (rw (listed-by b group k) room, listed-within b group k))

@@ -28,7 +28,7 @@ module _ (n : ℕ) (p g : List ℕ) (l : length p ≡ packetLength) (h : packetL
   front-long : length (take at g) ≡ at
   front-long = length-take-le at g (omega arith)
 
-  pub length-over : length (over (packetLength * n) p g) ≡ length g
+  length-over : length (over (packetLength * n) p g) ≡ length g
   unfolding over
   length-over =
       length-append (take at g) (p ++ drop (at + length p) g)

@@ -1,4 +1,4 @@
--- The places of a group as a list, made round by round. This is how the code finds their order; it is no part of what is promised.
+-- The places of a group, listed a round at a time. This is how the code finds their order; it is no part of what is promised.
 use Prim.Native.Nat.{ℕ, zero, suc, _+_, _-_, _*_, _/_, _%_, _≤_, _<_}
 use mathlib.Core.Path.{_≡_}
 use mathlib.Core.Bool.{Bool, true, false, cond, _&&_}
@@ -54,7 +54,7 @@ pub record Noted (carriers : ℕ) (frames notes : List ℕ) (n v : ℕ) : Type 0
   pub each : (e : ℕ) → e < n → Entry carriers frames notes e (getD (due carriers frames 0) e 0)
   pub long : length notes ≡ 2 * roundSteps
 
--- ---- the list
+-- ---- its list
 
 -- the packet of entry e in round q
 abbrev pub packetIn : List ℕ → ℕ → ℕ → ℕ
@@ -70,9 +70,8 @@ markedIn slots notes q e (suc n) =
 abbrev pub placesFrom : ℕ → List ℕ → List ℕ → ℕ → List ℕ
 placesFrom carriers frames slots u = map (packetAt frames) (stops carriers frames slots u)
 
--- what the list is made from: a walk, and marks for each frame, none of them on a header
+-- what the lists are made from: a walk, and marks for each frame, none of them on a header
 pub record Listable (carriers : ℕ) (frames slots : List ℕ) : Type 0 where
   pub walk : Walkable carriers frames
   pub long : length slots ≡ mostFrames
   pub headers : (k : ℕ) → k < carriers → isMarked slots (framePackets * framesBefore frames k) ≡ false
-  pub few : length (placesFrom carriers frames slots 0) ≤ framePackets * mostFrames

@@ -4,6 +4,8 @@ mod moving;
 mod rounds;
 
 use bond_group::Bond;
+use bond_group::headers::CARRIERS;
+use bond_group::headers::FRAMES;
 use packet::PACKET_BYTES;
 ghost use mathlib.Core.Path.{_≡_};
 ghost use lib.ListN.{length};
@@ -26,27 +28,26 @@ pub fn spread(group: &mut [u8], stream: &[u8], b: Bond) -> Moved
             packets: 0,
         };
     }
-    let planned = bond_group::read_headers(group, b);
-    if planned.refusal != 0 {
+    let mut frames = [0u8; CARRIERS];
+    let mut slots = [0u64; FRAMES];
+    let headers = bond_group::read_headers(group, b, &mut frames, &mut slots);
+    if headers.refusal != 0 {
         return Moved {
-            refusal: planned.refusal,
+            refusal: headers.refusal,
             packets: 0,
         };
     }
-    let plan = planned.plan;
-    let last = checks::spread_refusal(plan.is_carried, plan.packets, stream, b.pid);
+    let last = checks::spread_refusal(headers.is_carried, headers.packets, stream, b.pid);
     if last != 0 {
         return Moved {
             refusal: last,
             packets: 0,
         };
     }
-    let frames = plan.frames;
-    let slots = plan.slots;
     moving::spread_over(group, stream, b.carriers as usize, &frames, &slots);
     Moved {
         refusal: 0,
-        packets: plan.packets,
+        packets: headers.packets,
     }
 }
 
@@ -55,26 +56,25 @@ pub fn gather(group: &[u8], out: &mut [u8], b: Bond) -> Moved
     ensures { λ r. ⌜ r ≡ gatherOf b (now (group .entry)) (length (now (out .entry))) ⌝ }
     ensures { λ _. ⌜ now (out .exit) ≡ gatherBuffer b (now (group .entry)) (now (out .entry)) ⌝ }
 {
-    let planned = bond_group::read_headers(group, b);
-    if planned.refusal != 0 {
+    let mut frames = [0u8; CARRIERS];
+    let mut slots = [0u64; FRAMES];
+    let headers = bond_group::read_headers(group, b, &mut frames, &mut slots);
+    if headers.refusal != 0 {
         return Moved {
-            refusal: planned.refusal,
+            refusal: headers.refusal,
             packets: 0,
         };
     }
-    let plan = planned.plan;
-    let last = checks::gather_refusal(plan.is_carried, plan.packets, out.len());
+    let last = checks::gather_refusal(headers.is_carried, headers.packets, out.len());
     if last != 0 {
         return Moved {
             refusal: last,
             packets: 0,
         };
     }
-    let frames = plan.frames;
-    let slots = plan.slots;
     moving::gather_over(out, group, b.carriers as usize, &frames, &slots);
     Moved {
         refusal: 0,
-        packets: plan.packets,
+        packets: headers.packets,
     }
 }

@@ -1,28 +1,26 @@
-// The marked places of a group as a list, in order. A super frame is 53 rounds, and a round is twelve parts, called twelfths. A carrier with
-// F frames has F places in a round, at the same twelfths in every round; from one round to the next each place moves on by F packets. So the
-// places of the first round are noted, and then used for every round.
+// The marked places of a group, listed in order, a round at a time. A super frame is 53 rounds, and a round is twelve parts, called twelfths.
+// A carrier with F frames has F places in a round, at the same twelfths in every round; from one round to the next each place moves on by F
+// packets. So the places of the first round are noted, and then used for every round.
 use bond_group::headers::CARRIERS;
-use bond_group::headers::FRAMES;
 use counters::SLOTS;
 ghost use mathlib.Core.Path.{_≡_};
-ghost use mathlib.Core.List.{_++_};
 ghost use Prim.Native.Nat.{ℕ, _+_, _*_, _≤_, _<_};
 ghost use lib.ListN.{length, take};
 ghost use Rattle.bond_places.specs.Order.{framePackets};
 ghost use Rattle.counters.specs.Counters.{lastCarrier};
 ghost use Rattle.bond_places.specs.Walk.{mostFrames, isMarked, Walkable};
-ghost use Rattle.bond.specs.Listing.{roundTwelfths, roundSteps, Noted, packetIn, markedIn, placesFrom, Listable};
+ghost use Rattle.bond.specs.Listing.{roundTwelfths, roundSteps, Noted, packetIn, markedIn};
 
 // The packets of a frame. A super frame has as many rounds.
-const FRAME_PACKETS: usize = SLOTS + 1;
+pub(crate) const FRAME_PACKETS: usize = SLOTS + 1;
 
 // The twelfths of a round, and room for its notes: two numbers for each place that it can have.
 const ROUND_TWELFTHS: usize = 12;
 
-const NOTES: usize = 2 * CARRIERS * ROUND_TWELFTHS;
+pub(crate) const NOTES: usize = 2 * CARRIERS * ROUND_TWELFTHS;
 
-// Room for each packet of a group, and for one more: a packet is listed first and tested afterwards.
-pub(crate) const LISTED: usize = FRAME_PACKETS * FRAMES + 1;
+// Room for each place of a round, and for one more: a packet is listed first and tested afterwards.
+pub(crate) const LISTED: usize = CARRIERS * ROUND_TWELFTHS + 1;
 
 // Notes the places at one twelfth of the first round, behind those noted before. A note is the place's packet, and how many packets it moves
 // on in each round. Answers how many places are noted now.
@@ -55,8 +53,8 @@ fn note_twelfth(
     n
 }
 
-// Notes the places of the first round.
-fn note_round(notes: &mut [u16], carriers: usize, frames: &[u8]) -> usize
+// Notes the places of the first round. Answers how many there are.
+pub(crate) fn note_round(notes: &mut [u16], carriers: usize, frames: &[u8]) -> usize
     requires { ⌜ Walkable carriers (now frames) ⌝ }
     requires { ⌜ length (now notes) ≡ 2 * roundSteps ⌝ }
     ensures { λ r. ⌜ Noted carriers (now (frames .entry)) (now (notes .exit)) r roundSteps ⌝ }
@@ -78,11 +76,10 @@ fn is_marked(slots: &[u64], m: usize) -> bool
     (slots[m / FRAME_PACKETS] >> ((m % FRAME_PACKETS) as u32)) % 2 == 1
 }
 
-// Lists the marked packets of a round behind those listed before. Answers how many are listed now. Every packet is written to the list, and
-// counted only if it is marked: this spares the processor a branch that it cannot predict.
-fn list_round(
+// Lists the marked packets of a round. Answers how many there are. Every packet is written to the list, and counted only if it is marked:
+// this spares the processor a branch that it cannot predict.
+pub(crate) fn list_round(
     list: &mut [u16],
-    listed: usize,
     round: usize,
     noted: usize,
     notes: &[u16],
@@ -90,11 +87,12 @@ fn list_round(
 ) -> usize
     requires { ⌜ (noted ≤ roundSteps) × (length (now notes) ≡ 2 * roundSteps) × (length (now slots) ≡ mostFrames) ⌝ }
     requires { ⌜ ((e : ℕ) → e < noted → packetIn (now notes) round e < framePackets * mostFrames) ⌝ }
-    requires { ⌜ listed + length (markedIn (now slots) (now notes) round 0 noted) < length (now list) ⌝ }
-    ensures { λ r. ⌜ take r (now (list .exit)) ≡ take listed (now (list .entry)) ++ markedIn (now (slots .entry)) (now (notes .entry)) round 0 noted ⌝ }
-    ensures { λ r. ⌜ r ≡ listed + length (markedIn (now (slots .entry)) (now (notes .entry)) round 0 noted) ⌝ }
+    requires { ⌜ roundSteps < length (now list) ⌝ }
+    ensures { λ r. ⌜ take r (now (list .exit)) ≡ markedIn (now (slots .entry)) (now (notes .entry)) round 0 noted ⌝ }
+    ensures { λ r. ⌜ r ≡ length (markedIn (now (slots .entry)) (now (notes .entry)) round 0 noted) ⌝ }
+    ensures { λ r. ⌜ r ≤ noted ⌝ }
 {
-    let mut n = listed;
+    let mut n = 0;
     let mut e = 0;
     while e < noted {
         let m = notes[2 * e] as usize + round * notes[2 * e + 1] as usize;
@@ -105,22 +103,4 @@ fn list_round(
         e += 1;
     }
     n
-}
-
-// Lists the marked packets of the group in the order of their places. Answers how many there are.
-pub(crate) fn list_places(list: &mut [u16], carriers: usize, frames: &[u8], slots: &[u64]) -> usize
-    requires { ⌜ Listable carriers (now frames) (now slots) ⌝ }
-    requires { ⌜ framePackets * mostFrames < length (now list) ⌝ }
-    ensures { λ r. ⌜ take r (now (list .exit)) ≡ placesFrom carriers (now (frames .entry)) (now (slots .entry)) 0 ⌝ }
-    ensures { λ r. ⌜ r ≡ length (placesFrom carriers (now (frames .entry)) (now (slots .entry)) 0) ⌝ }
-{
-    let mut notes = [0u16; NOTES];
-    let noted = note_round(&mut notes, carriers, frames);
-    let mut listed = 0;
-    let mut round = 0;
-    while round < FRAME_PACKETS {
-        listed = list_round(list, listed, round, noted, &notes, slots);
-        round += 1;
-    }
-    listed
 }

@@ -22,7 +22,10 @@ pub extern "C" fn niranbok_read_headers(
     ensures { λ _. ⌜ now («is_carried» .exit) ≡ cond (plannedOf (bondOf carriers pid «ts_id» «original_network_id») (now (group .entry)) .plan .«is_carried») 1 0 ⌝ }
     ensures { λ _. ⌜ now (packets .exit) ≡ plannedOf (bondOf carriers pid «ts_id» «original_network_id») (now (group .entry)) .plan .packets ⌝ }
 {
-    let planned = bond_group::read_headers(
+    // This call answers numbers only: it lends no room for the plan.
+    let mut frames = [0u8; 1];
+    let mut slots = [0u64; 1];
+    let headers = bond_group::read_headers(
         group,
         Bond {
             carriers,
@@ -30,14 +33,15 @@ pub extern "C" fn niranbok_read_headers(
             ts_id,
             original_network_id,
         },
+        &mut frames[0..0],
+        &mut slots[0..0],
     );
-    let plan = planned.plan;
     *is_carried = 0;
-    if plan.is_carried {
+    if headers.is_carried {
         *is_carried = 1;
     }
-    *packets = plan.packets;
-    planned.refusal
+    *packets = headers.packets;
+    headers.refusal
 }
 
 // Writes a stream's packets into the bonded slots of a group, in order.

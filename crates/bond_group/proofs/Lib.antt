@@ -3,4 +3,5 @@ pub mod Grouping
 pub mod Marks
 pub mod Planned
 pub mod Passing
+pub mod Lent
 pub mod Through

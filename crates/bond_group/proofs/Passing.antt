@@ -15,10 +15,9 @@ use Rattle.setting.proofs.Fields.{at-most}
 use Rattle.header_layout.specs.Header.{packetChecks}
 use Rattle.packet.specs.Packets.{frameLength}
 use Rattle.bond_group.specs.declared.Bond.{Bond}
-use Rattle.bond_group.specs.declared.headers.Planned.{Planned}
 use Rattle.bond_group.specs.Group.{framesIn}
 use Rattle.bond_group.specs.Standing.{standingChecks, callChecks, headerChecks, headersChecks, groupChecks, planChecks}
-use Rattle.bond_group.specs.Plan.{nothingSeen, planAfter, plannedBy, plannedOf}
+use Rattle.bond_group.specs.Plan.{nothingSeen, noPlan, planAfter, plannedBy, plannedOf}
 use Rattle.bond_group.proofs.Standing.{at-least}
 
 -- ---- no check has the number 0
@@ -69,18 +68,18 @@ call-none b group e = none-first (callChecks b group) refl e
 
 -- ---- the answer of a call that reads the headers
 
-module _ (b : Bond) (group : List ℕ) (p : Planned) where
+module _ (b : Bond) (group : List ℕ) where
   -- it stopped at its own checks
-  pub call-refused : (x : ℕ) → x ≡ firstOf (callChecks b (length group)) → (x ≡ 0 → ⊥) → p .refusal ≡ x → p .plan ≡ nothingSeen → p ≡ plannedOf b group
+  pub call-refused : (x : ℕ) → x ≡ firstOf (callChecks b (length group)) → (x ≡ 0 → ⊥) → noPlan x ≡ plannedOf b group
   unfolding plannedOf planChecks
-  call-refused x e d r q =
+  call-refused x e d =
       let f : firstOf (callChecks b (length group) ++ groupChecks b group) ≡ x = at-once (callChecks b (length group)) (groupChecks b group) (λ z. d (e ∙ z)) ∙ sym e in
       let g : cond (eqb (firstOf (callChecks b (length group) ++ groupChecks b group)) 0) (planAfter b group (framesIn group)) nothingSeen ≡ nothingSeen = rw (f, ne-eqb x 0 d) refl in
-      λ i. record { refusal = (r ∙ sym f) i; plan = (q ∙ sym g) i }
+      λ i. record { refusal = sym f i; plan = sym g i }
 
   -- it went on to the headers
-  pub headers-answer : NoneHolds (callChecks b (length group)) → p ≡ plannedBy b group → p ≡ plannedOf b group
+  pub headers-answer : NoneHolds (callChecks b (length group)) → plannedBy b group ≡ plannedOf b group
   unfolding plannedOf plannedBy planChecks
-  headers-answer n e =
+  headers-answer n =
       let f : firstOf (groupChecks b group) ≡ firstOf (callChecks b (length group) ++ groupChecks b group) = sym (onward (groupChecks b group) n) in
-      e ∙ (λ i. record { refusal = f i; plan = cond (eqb (f i) 0) (planAfter b group (framesIn group)) nothingSeen })
+      λ i. record { refusal = f i; plan = cond (eqb (f i) 0) (planAfter b group (framesIn group)) nothingSeen }

@@ -1,5 +1,5 @@
 -- The plan of a group that passes the checks: its marks are the bonded packets, and the walk by it finds them in order. Assumes nothing.
-use Prim.Native.Nat.{ℕ, zero, suc, _+_, _*_, _/_, _%_, _≤_, _<_}
+use Prim.Native.Nat.{ℕ, zero, suc, _+_, _-_, _*_, _/_, _%_, _≤_, _<_}
 use mathlib.Core.Path.{_≡_, refl, sym, ap, ap₂, _∙_}
 use mathlib.Core.Logic.{_⊎_, inl, inr}
 use mathlib.Core.Bool.{Bool, true, false, cond, _&&_, _||_, true≢false}
@@ -116,32 +116,33 @@ module _ (b : Bond) (group : List ℕ) where
   pub packets-few : (j : ℕ) → planAfter b group j .packets ≤ framePackets * j
   packets-few j = rw (counted j) (picked-few (bonded b group) 0 (framePackets * j))
 
+  -- a number for each carrier and for each frame
+  pub frames-long : (j : ℕ) → length (planAfter b group j .frames) ≡ lastCarrier
+  unfolding planAfter nothingSeen seen
+  frames-long zero = length-replicate {A = ℕ} lastCarrier 0
+  frames-long (suc j) = length-set (planAfter b group j .frames) (said group j .«carrier_sequence» - 1) (said group j .«number_of_frames») ∙ frames-long j
+
+  pub slots-long : (j : ℕ) → length (planAfter b group j .slots) ≡ mostFrames
+  unfolding planAfter nothingSeen seen
+  slots-long zero = length-replicate {A = ℕ} mostFrames 0
+  slots-long (suc j) = length-set (planAfter b group j .slots) j (marks b (said group j)) ∙ slots-long j
+
   pub no-header : NoHeader (bonded b group)
   unfolding bonded bondedSlot
   no-header q = let r : (framePackets * q) % framePackets ≡ 0 = omega arith in rw r
 
   module _ (few : b .carriers ≤ lastCarrier) where
     -- the marks of each frame gone through
-    record Marked (j : ℕ) : Type 0 where
-      long : length (planAfter b group j .slots) ≡ mostFrames
-      each : (i : ℕ) → i < j → getD (planAfter b group j .slots) i 0 ≡ marks b (said group i)
-
-    marked : (j : ℕ) → ((i : ℕ) → i < j → Stands b group i) → Marked j
-    unfolding planAfter nothingSeen seen
-    marked zero stand = record { long = length-replicate {A = ℕ} mostFrames 0; each = λ i l. absurd (omega arith) }
-    marked (suc j) stand = step (marked j (λ i l. stand i (omega arith))) (frames-fit b group few j stand)
+    marked : (j : ℕ) → ((i : ℕ) → i < j → Stands b group i) → (i : ℕ) → i < j → getD (planAfter b group j .slots) i 0 ≡ marks b (said group i)
+    unfolding planAfter seen
+    marked zero stand i l = absurd (omega arith)
+    marked (suc j) stand i l = at (marked j (λ i l. stand i (omega arith))) (ℕ-discrete i j)
       where
-        step : Marked j → j < mostFrames → Marked (suc j)
-        step m fit =
-            record {
-              long = length-set (planAfter b group j .slots) j (marks b (said group j)) ∙ m .long;
-              each = λ i l. at i l (ℕ-discrete i j);
-            }
-          where
-            at : (i : ℕ) → i < suc j → Dec (i ≡ j) → getD (set (planAfter b group j .slots) j (marks b (said group j))) i 0 ≡ marks b (said group i)
-            at i l (yes e) =
-                rw e (getD-set-same (planAfter b group j .slots) j (marks b (said group j)) 0 (rw (m .long) fit))
-            at i l (no d) = getD-set-other (planAfter b group j .slots) j i (marks b (said group j)) 0 d ∙ m .each i (omega arith)
+        at : ((i : ℕ) → i < j → getD (planAfter b group j .slots) i 0 ≡ marks b (said group i)) → Dec (i ≡ j)
+            → getD (set (planAfter b group j .slots) j (marks b (said group j))) i 0 ≡ marks b (said group i)
+        at each (yes e) =
+            rw e (getD-set-same (planAfter b group j .slots) j (marks b (said group j)) 0 (rw (slots-long j) (frames-fit b group few j stand)))
+        at each (no d) = getD-set-other (planAfter b group j .slots) j i (marks b (said group j)) 0 d ∙ each i (omega arith)
 
     module _ (some : 1 ≤ b .carriers) (w : Whole b group) where
       abbrev n : ℕ
@@ -153,14 +154,11 @@ module _ (b : Bond) (group : List ℕ) where
       abbrev slots : List ℕ
       slots = planAfter b group n .slots
 
-      pub slots-long : length slots ≡ mostFrames
-      slots-long = marked n (w .each) .long
-
       -- marked and bonded are the same
       pub marked-bonded : (m : ℕ) → m < framePackets * n → isMarked slots m ≡ bonded b group m
       unfolding isMarked bonded marks
       marked-bonded m l =
-          rw (marked n (w .each) .each (m / framePackets) (omega arith))
+          rw (marked n (w .each) (m / framePackets) (omega arith))
           (marks-bit (bondedSlot b (said group (m / framePackets))) (header-bare (said group (m / framePackets))) (m % framePackets) (omega arith))
 
       all : Grouped (b .carriers) frames n (placeIn group)

@@ -24,12 +24,10 @@ use Rattle.header_layout.proofs.Calls.{right-call}
 use Rattle.packet.specs.Packets.{packetLength, frameLength, slot}
 use Rattle.bond_group.specs.declared.Bond.{Bond}
 use Rattle.bond_group.specs.declared.headers.Shown.{Shown}
-use Rattle.bond_group.specs.declared.headers.Plan.{Plan}
-use Rattle.bond_group.specs.declared.headers.Planned.{Planned}
 use Rattle.bond_places.specs.Order.{framePackets}
 use Rattle.bond_group.specs.Group.{framesIn, said}
 use Rattle.bond_group.specs.Standing.{shownBy, before, isEnd, standingChecks, headerChecks, headersChecks, groupChecks}
-use Rattle.bond_group.specs.Plan.{nothingSeen, seen, planAfter, plannedBy}
+use Rattle.bond_group.specs.Plan.{nothingSeen, noPlan, planAfter, plannedBy}
 use Rattle.bond_group.proofs.Standing.{Stands, stands, headers-each}
 use Rattle.bond_group.proofs.Grouping.{framed-short}
 
@@ -89,17 +87,16 @@ module _ (b : Bond) (group : List ℕ) where
 
   -- ---- behind j headers
 
-  pub record Through (plan : Plan) (behind : Shown) (group-id j : ℕ) : Type 0 where
-    pub plan-is : plan ≡ planAfter b group j
+  pub record Through (behind : Shown) (group-id j : ℕ) : Type 0 where
     pub behind-is : behind ≡ before group j
     pub group-is : 0 < j → group-id ≡ said group 0 .«group_id»
     pub passed : NoneHolds (headersChecks b group 0 j)
     pub within : j ≤ framesIn group
 
-  pub through-none : (plan : Plan) (behind : Shown) (group-id : ℕ) → plan ≡ nothingSeen → behind ≡ shownBy blank → Through plan behind group-id 0
-  unfolding planAfter before headersChecks
-  through-none plan behind group-id p h =
-      record { plan-is = p; behind-is = h; group-is = λ l. absurd (omega arith); passed = NoneHolds.none; within = omega arith }
+  pub through-none : (behind : Shown) (group-id : ℕ) → behind ≡ shownBy blank → Through behind group-id 0
+  unfolding before headersChecks
+  through-none behind group-id h =
+      record { behind-is = h; group-is = λ l. absurd (omega arith); passed = NoneHolds.none; within = omega arith }
 
   -- ---- the header of frame j
 
@@ -146,7 +143,7 @@ module _ (b : Bond) (group : List ℕ) where
     unfolding said
     said-is r e z = parts-are Kind.Extended (b .pid) (part j) r e z ∙ ap (λ (p : List ℕ). partsOf 0 (reading Kind.Extended p)) (part-is j)
 
-    module _ (plan : Plan) (behind : Shown) (group-id : ℕ) (t : Through plan behind group-id j) where
+    module _ (behind : Shown) (group-id : ℕ) (t : Through behind group-id j) where
       -- the answer where this header is refused
       answer : (x : ℕ) → firstOf (headerChecks b group j) ≡ x → (x ≡ 0 → ⊥) → firstOf (groupChecks b group) ≡ x
       unfolding groupChecks
@@ -188,13 +185,12 @@ module _ (b : Bond) (group : List ℕ) where
               let o : 0 + i ≡ i = omega arith in
               stands b group i (subst (λ (x : ℕ). NoneHolds (headerChecks b group x)) o (headers-each b group 0 (suc j) passed-more i h))
 
-          pub through-more : (plan′ : Plan) (behind′ : Shown) (group-id′ j′ : ℕ) → plan′ ≡ seen b plan j (said group j) → behind′ ≡ shownBy (said group j)
-              → group-id′ ≡ said group 0 .«group_id» → j′ ≡ j + 1 → Through plan′ behind′ group-id′ j′
-          unfolding planAfter before
-          through-more plan′ behind′ group-id′ j′ p h g n =
-              subst (Through plan′ behind′ group-id′) (sym (n ∙ add-one j))
+          pub through-more : (behind′ : Shown) (group-id′ : ℕ) → behind′ ≡ shownBy (said group j) → group-id′ ≡ said group 0 .«group_id»
+              → Through behind′ group-id′ (j + 1)
+          unfolding before
+          through-more behind′ group-id′ h g =
+              subst (Through behind′ group-id′) (sym (add-one j))
               (record {
-                plan-is = p ∙ ap (λ (x : Plan). seen b x j (said group j)) (t .plan-is);
                 behind-is = h;
                 group-is = λ m. g;
                 passed = passed-more;
@@ -202,9 +198,9 @@ module _ (b : Bond) (group : List ℕ) where
               })
 
   -- what was shown last is within its counts
-  pub behind-few : (plan : Plan) (behind : Shown) (group-id j : ℕ) → Through plan behind group-id j
+  pub behind-few : (behind : Shown) (group-id j : ℕ) → Through behind group-id j
       → (behind .«carrier_sequence» ≤ lastCarrier) × (behind .«frame_position» .0 ≤ lastPosition)
-  behind-few plan behind group-id j t = rw (t .behind-is) (by-count j (t .passed))
+  behind-few behind group-id j t = rw (t .behind-is) (by-count j (t .passed))
     where
       by-count : (j : ℕ) → NoneHolds (headersChecks b group 0 j) → (before group j .«carrier_sequence» ≤ lastCarrier) × (before group j .«frame_position» .0 ≤ lastPosition)
       by-count zero n = first-few
@@ -212,7 +208,7 @@ module _ (b : Bond) (group : List ℕ) where
 
   -- ---- behind all of them
 
-  module _ (plan : Plan) (behind : Shown) (group-id j : ℕ) (t : Through plan behind group-id j) (all : framesIn group ≤ j) where
+  module _ (behind : Shown) (group-id j : ℕ) (t : Through behind group-id j) (all : framesIn group ≤ j) where
     all-passed : NoneHolds (headersChecks b group 0 (framesIn group))
     all-passed = let e : j ≡ framesIn group = omega (arith, t .within) in subst (λ (n : ℕ). NoneHolds (headersChecks b group 0 n)) e (t .passed)
 
@@ -228,20 +224,17 @@ module _ (b : Bond) (group : List ℕ) where
     unfolding groupChecks
     none-missing e = first-none (none-append all-passed (NoneHolds.more (ap not (sym (ap (isEnd (b .carriers)) last-shown) ∙ e)) NoneHolds.none))
 
-    pub all-planned : plan ≡ planAfter b group (framesIn group)
-    all-planned = let e : j ≡ framesIn group = omega (arith, t .within) in t .plan-is ∙ ap (planAfter b group) e
-
 -- ---- the plan as it is answered
 
-module _ (b : Bond) (group : List ℕ) (p : Planned) where
-  pub planned-refused : (x : ℕ) → firstOf (groupChecks b group) ≡ x → (x ≡ 0 → ⊥) → p .refusal ≡ x → p .plan ≡ nothingSeen → p ≡ plannedBy b group
+module _ (b : Bond) (group : List ℕ) where
+  pub planned-refused : (x : ℕ) → firstOf (groupChecks b group) ≡ x → (x ≡ 0 → ⊥) → noPlan x ≡ plannedBy b group
   unfolding plannedBy
-  planned-refused x e d r q =
+  planned-refused x e d =
       let f : cond (eqb (firstOf (groupChecks b group)) 0) (planAfter b group (framesIn group)) nothingSeen ≡ nothingSeen = rw (e, ne-eqb x 0 d) refl in
-      λ i. record { refusal = (r ∙ sym e) i; plan = (q ∙ sym f) i }
+      λ i. record { refusal = sym e i; plan = sym f i }
 
-  pub planned-all : firstOf (groupChecks b group) ≡ 0 → p .refusal ≡ 0 → p .plan ≡ planAfter b group (framesIn group) → p ≡ plannedBy b group
+  pub planned-all : firstOf (groupChecks b group) ≡ 0 → record { refusal = 0; plan = planAfter b group (framesIn group) } ≡ plannedBy b group
   unfolding plannedBy
-  planned-all e r q =
+  planned-all e =
       let f : cond (eqb (firstOf (groupChecks b group)) 0) (planAfter b group (framesIn group)) nothingSeen ≡ planAfter b group (framesIn group) = rw e refl in
-      λ i. record { refusal = (r ∙ sym e) i; plan = (q ∙ sym f) i }
+      λ i. record { refusal = sym e i; plan = sym f i }

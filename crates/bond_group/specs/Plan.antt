@@ -10,11 +10,27 @@ use Rattle.counters.specs.Counters.{firstSlot, lastSlot, lastCarrier}
 use Rattle.setting.specs.declared.Setting.{Setting}
 use Rattle.setting.specs.Refusal.{firstOf}
 use Rattle.bond_group.specs.declared.Bond.{Bond}
-use Rattle.bond_group.specs.declared.headers.Plan.{Plan}
-use Rattle.bond_group.specs.declared.headers.Planned.{Planned}
+use Rattle.bond_group.specs.declared.headers.Headers.{Headers}
 use Rattle.bond_places.specs.Walk.{mostFrames}
 use Rattle.bond_group.specs.Group.{framesIn, said, carries, bondedSlot}
 use Rattle.bond_group.specs.Standing.{groupChecks, planChecks}
+
+-- what the headers say of the group and the stream: each carrier's number of frames; the bonded slots of each frame, slot i in bit i;
+-- whether one of them carries the stream; and how many bonded slots there are
+pub record Plan : Type 0 where
+  pub frames : List ℕ
+  pub slots : List ℕ
+  pub «is_carried» : Bool
+  pub packets : ℕ
+
+-- refusal 0 and the plan, or the refusal's number and an empty plan
+pub record Planned : Type 0 where
+  pub refusal : ℕ
+  pub plan : Plan
+
+-- what a call answers of that
+abbrev pub headersOf : Planned → Headers
+headersOf p = record { refusal = p .refusal; «is_carried» = p .plan .«is_carried»; packets = p .plan .packets }
 
 -- for n slots from i on: whether each passes the test
 unfoldable pub passing : (ℕ → Bool) → ℕ → ℕ → List Bool
@@ -29,6 +45,10 @@ marks b s = slotsAsBits (passing (bondedSlot b s) firstSlot lastSlot)
 unfoldable pub nothingSeen : Plan
 nothingSeen =
     record { frames = replicate lastCarrier 0; slots = replicate mostFrames 0; «is_carried» = false; packets = 0 }
+
+-- a refusal and an empty plan
+abbrev pub noPlan : ℕ → Planned
+noPlan refusal = record { refusal = refusal; plan = nothingSeen }
 
 -- the plan with the header of frame j added
 unfoldable pub seen : Bond → Plan → ℕ → Setting → Plan

@@ -13,9 +13,10 @@ use setting::limits;
 ghost use mathlib.Core.Path.{_≡_};
 ghost use mathlib.Core.Bool.{true};
 ghost use Prim.Native.Nat.{_≤_, _%_};
-ghost use lib.ListN.{length};
+ghost use lib.ListN.{length, set};
 ghost use lib.Count.{ones};
 ghost use Rattle.counters.specs.Counters.{firstSlot, lastSlot, lastStream, lastPosition, lastCarrier};
+ghost use Rattle.slices.specs.Slices.{copied};
 ghost use Rattle.slot_bits.specs.Bits.{slotsAsBits};
 ghost use Rattle.setting.specs.declared.Setting.{Setting};
 ghost use Rattle.setting.specs.Setting.{blank};
@@ -26,7 +27,7 @@ ghost use Rattle.packet.specs.Packets.{frameLength};
 ghost use Rattle.bond_places.specs.Order.{framePackets};
 ghost use Rattle.bond_group.specs.Group.{hasNumber, numberOf, carries};
 ghost use Rattle.bond_group.specs.Standing.{shownBy, isLast, isEnd, nextCarrier, nextPosition, standingChecks};
-ghost use Rattle.bond_group.specs.Plan.{passing, marks, nothingSeen, plannedBy};
+ghost use Rattle.bond_group.specs.Plan.{passing, marks, nothingSeen, headersOf, noPlan, plannedBy};
 
 // The most carriers of a group, and the most frames.
 pub const CARRIERS: usize = limits::LAST_CARRIER as usize;
@@ -42,20 +43,12 @@ pub struct Shown {
     pub frame_position: FramePosition,
 }
 
-// What the headers say of the group and the stream.
-pub struct Plan {
-    // Each carrier's number of frames.
-    pub frames: [u8; CARRIERS],
-    // The bonded slots of each frame, slot i in bit i.
-    pub slots: [u64; FRAMES],
+// What the headers of a group say of a stream: refusal 0, whether one of them carries it, and how many bonded slots there are; or the
+// refusal's number and zeros.
+pub struct Headers {
+    pub refusal: u8,
     pub is_carried: bool,
     pub packets: usize,
-}
-
-// Refusal 0 and the plan, or the refusal's number and an empty plan.
-pub struct Planned {
-    pub refusal: u8,
-    pub plan: Plan,
 }
 
 // The stream's relative number in a header, or 0 if the header does not carry it. The contract says so for every setting with these parts.
@@ -217,35 +210,61 @@ fn standing_refusal(h: Shown, behind: Shown, carriers: u8, group_id: u8) -> u8
     0
 }
 
-// The plan before the first header is read.
-fn nothing_seen() -> Plan
-    ensures { λ r. ⌜ r ≡ nothingSeen ⌝ }
+// Sets number i to v, if there is room for it.
+fn set_frames(frames: &mut [u8], i: usize, v: u8)
+    ensures { λ _. ⌜ now (frames .exit) ≡ set (now (frames .entry)) i v ⌝ }
 {
-    Plan {
-        frames: [0u8; CARRIERS],
-        slots: [0u64; FRAMES],
+    if i < frames.len() {
+        frames[i] = v;
+    }
+}
+
+fn set_slots(slots: &mut [u64], i: usize, v: u64)
+    ensures { λ _. ⌜ now (slots .exit) ≡ set (now (slots .entry)) i v ⌝ }
+{
+    if i < slots.len() {
+        slots[i] = v;
+    }
+}
+
+// Writes the numbers of the plan before the first header is read: zeros, as many as there is room for.
+fn clear(frames: &mut [u8], slots: &mut [u64])
+    ensures { λ _. ⌜ now (frames .exit) ≡ copied (now (frames .entry)) (nothingSeen .frames) ⌝ }
+    ensures { λ _. ⌜ now (slots .exit) ≡ copied (now (slots .entry)) (nothingSeen .slots) ⌝ }
+{
+    let zeros = [0u8; CARRIERS];
+    slices::copy(frames, &zeros);
+    let mut j = 0;
+    while j < FRAMES {
+        set_slots(slots, j, 0);
+        j += 1;
+    }
+}
+
+pub(crate) fn refused(refusal: u8, frames: &mut [u8], slots: &mut [u64]) -> Headers
+    ensures { λ r. ⌜ r ≡ headersOf (noPlan refusal) ⌝ }
+    ensures { λ _. ⌜ now (frames .exit) ≡ copied (now (frames .entry)) (nothingSeen .frames) ⌝ }
+    ensures { λ _. ⌜ now (slots .exit) ≡ copied (now (slots .entry)) (nothingSeen .slots) ⌝ }
+{
+    clear(frames, slots);
+    Headers {
+        refusal,
         is_carried: false,
         packets: 0,
     }
 }
 
-pub(crate) fn refused(refusal: u8) -> Planned
-    ensures { λ r. ⌜ (r .refusal ≡ refusal) × (r .plan ≡ nothingSeen) ⌝ }
-{
-    let plan = nothing_seen();
-    Planned { refusal, plan }
-}
-
 // Checks the headers of the group, one after another: each for 3 to 11 and then for 14, where its frame stands. At the end 14 again, for
-// missing frames.
-pub(crate) fn plan_of(group: &[u8], b: Bond) -> Planned
+// missing frames. Writes each carrier's number of frames and the bonded slots of each frame, slot i in bit i, into what the caller lends.
+pub(crate) fn plan_of(group: &[u8], b: Bond, frames: &mut [u8], slots: &mut [u64]) -> Headers
     requires { ⌜ (length (now group) % frameLength ≡ 0) × (pidAllowed (b .pid) ≡ true) ⌝ }
     requires { ⌜ (1 ≤ b .carriers) × (b .carriers ≤ lastCarrier) ⌝ }
-    ensures { λ r. ⌜ r ≡ plannedBy b (now (group .entry)) ⌝ }
+    ensures { λ r. ⌜ r ≡ headersOf (plannedBy b (now (group .entry))) ⌝ }
+    ensures { λ _. ⌜ now (frames .exit) ≡ copied (now (frames .entry)) (plannedBy b (now (group .entry)) .plan .frames) ⌝ }
+    ensures { λ _. ⌜ now (slots .exit) ≡ copied (now (slots .entry)) (plannedBy b (now (group .entry)) .plan .slots) ⌝ }
 {
     let count = group.len() / FRAME_BYTES;
-    let mut frames = [0u8; CARRIERS];
-    let mut slots = [0u64; FRAMES];
+    clear(frames, slots);
     let mut is_carried = false;
     let mut packets = 0;
     let mut behind = nothing_shown();
@@ -255,7 +274,7 @@ pub(crate) fn plan_of(group: &[u8], b: Bond) -> Planned
         let at = FRAME_BYTES * j;
         let heard = header_check::check(&group[at..at + PACKET_BYTES], b.pid, Kind::Extended);
         if heard.refusal != 0 {
-            return refused(heard.refusal);
+            return refused(heard.refusal, frames, slots);
         }
         let shown = shown_by(heard);
         if j == 0 {
@@ -263,24 +282,23 @@ pub(crate) fn plan_of(group: &[u8], b: Bond) -> Planned
         }
         let standing = standing_refusal(shown, behind, b.carriers, group_id);
         if standing != 0 {
-            return refused(standing);
+            return refused(standing, frames, slots);
         }
         let bonded = bonded_by(heard, b);
-        frames[shown.carrier_sequence as usize - 1] = shown.number_of_frames;
-        slots[j] = bonded.marks;
+        let carrier = shown.carrier_sequence as usize - 1;
+        set_frames(frames, carrier, shown.number_of_frames);
+        set_slots(slots, j, bonded.marks);
         is_carried = is_carried | bonded.is_carried;
         packets += u64::count_ones(bonded.marks) as usize;
         behind = shown;
         j += 1;
     }
     if !is_end(behind, b.carriers) {
-        return refused(14);
+        return refused(14, frames, slots);
     }
-    let plan = Plan {
-        frames,
-        slots,
+    Headers {
+        refusal: 0,
         is_carried,
         packets,
-    };
-    Planned { refusal: 0, plan }
+    }
 }

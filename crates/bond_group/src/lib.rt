@@ -2,9 +2,10 @@
 mod checks;
 pub mod headers;
 
-use headers::Planned;
+use headers::Headers;
 ghost use mathlib.Core.Path.{_≡_};
-ghost use Rattle.bond_group.specs.Plan.{plannedOf};
+ghost use Rattle.slices.specs.Slices.{copied};
+ghost use Rattle.bond_group.specs.Plan.{headersOf, plannedOf};
 
 // A bond: the number of carriers, the header PID, and the stream's identifiers.
 pub struct Bond {
@@ -14,14 +15,17 @@ pub struct Bond {
     pub original_network_id: u16,
 }
 
-// Reads the headers of the group, once each. Answers refusal 0 and the plan of the bonded slots, or the refusal's number and an
-// empty plan.
-pub fn read_headers(group: &[u8], b: Bond) -> Planned
-    ensures { λ r. ⌜ r ≡ plannedOf b (now (group .entry)) ⌝ }
+// Reads the headers of the group, once each. Answers refusal 0 and what they say of the stream, or the refusal's number and zeros. Writes
+// the plan of the bonded slots into what the caller lends: each carrier's number of frames, and the bonded slots of each frame, slot i in
+// bit i; zeros if it refuses. As many numbers are written as there is room for.
+pub fn read_headers(group: &[u8], b: Bond, frames: &mut [u8], slots: &mut [u64]) -> Headers
+    ensures { λ r. ⌜ r ≡ headersOf (plannedOf b (now (group .entry))) ⌝ }
+    ensures { λ _. ⌜ now (frames .exit) ≡ copied (now (frames .entry)) (plannedOf b (now (group .entry)) .plan .frames) ⌝ }
+    ensures { λ _. ⌜ now (slots .exit) ≡ copied (now (slots .entry)) (plannedOf b (now (group .entry)) .plan .slots) ⌝ }
 {
     let call = checks::call_refusal(b, group.len());
     if call != 0 {
-        return headers::refused(call);
+        return headers::refused(call, frames, slots);
     }
-    headers::plan_of(group, b)
+    headers::plan_of(group, b, frames, slots)
 }

@@ -10,14 +10,24 @@ use Rattle.bond.proofs.Outcomes.{Known, refusal-is, known, gather-refus
 use Rattle.bond.proofs.gather.Statement.{statement}
 use Rattle.bond.proofs.gather.Tie as tie
 
+slice-aggregate-read-headers : tie.Need-slice-aggregate-read-headers
+slice-aggregate-read-headers c = search needs
+
+slice-aggregate-read-headers-2 : tie.Need-slice-aggregate-read-headers-2
+slice-aggregate-read-headers-2 c = search needs
+
 read-headers-requires : tie.Need-read-headers-requires
 read-headers-requires c κs = search needs
 
+-- what the call was given
+abbrev start : tie.After-read-headers → tie.Start
+start c = c .before .before .before .before .before
+
 returns : tie.Need-returns
 returns c =
-    let p = c .before .before in
-    let s = p .before .before .before in
-    let i = refusal-is (s .args .b) (s .args .group .now) (p .read-headers .result) (p .read-headers .ensures) in
+    let p = c .before .before .before .before in
+    let s = start p in
+    let i = refusal-is (s .args .b) (s .args .group .now) (p .read-headers .ensures .0) in
     let e = gather-headed (s .args .b) (s .args .group .now) (s .args .out .now) (λ z. c .if1 .taken (i ∙ z)) ∙ sym i in (
       gather-refused (s .args .b) (s .args .group .now) (s .args .out .now) (p .read-headers .result .refusal) e (c .if1 .taken),
       gather-left (s .args .b) (s .args .group .now) (s .args .out .now) (p .read-headers .result .refusal) e (c .if1 .taken),
@@ -26,24 +36,29 @@ returns c =
 gather-refusal-requires : tie.Need-gather-refusal-requires
 gather-refusal-requires c κs = search needs
 
--- what the plan says that was read
-planned : (c : tie.Else1) → Known (c .before .before .before .before .before .args .b) (c .before .before .before .before .before .args .group .now) (c .before .before .read-headers .result .plan)
+-- what the headers said
+abbrev heard : tie.Else1 → tie.After-read-headers
+heard c = c .before .before .before .before
+
+planned : (c : tie.Else1)
+    → Known (start (heard c) .args .b) (start (heard c) .args .group .now) (heard c .read-headers .result) (heard c .read-headers .last .1 .1 .0) (heard c .read-headers .last .1 .1 .1 .0)
 planned c =
-    let p = c .before .before in
-    let s = p .before .before .before in
-    known (s .args .b) (s .args .group .now) (p .read-headers .result) (p .read-headers .ensures) (c .if1 .left)
+    let p = heard c in
+    let s = start p in
+    let e = p .read-headers .ensures in
+    known (s .args .b) (s .args .group .now) (e .0) (c .if1 .left) (e .1 .0) (e .1 .1)
 
 -- what the checks behind the headers answered
-rest : (c : tie.After-gather-refusal) → gatherRefusal (c .before .before .before .before .before .before .before .args .b) (c .before .before .before .before .before .before .before .args .group .now) (length (c .before .before .before .before .before .before .before .args .out .now)) ≡ c .gather-refusal .result
+rest : (c : tie.After-gather-refusal)
+    → gatherRefusal (start (heard (c .before)) .args .b) (start (heard (c .before)) .args .group .now) (length (start (heard (c .before)) .args .out .now)) ≡ c .gather-refusal .result
 rest c =
-    let d = c .before .before in
-    let s = d .before .before .before .before .before in
-    gather-rest (s .args .b) (s .args .group .now) (s .args .out .now) (d .before .before .read-headers .result .plan) (planned d) ∙ sym (c .gather-refusal .ensures)
+    let s = start (heard (c .before)) in
+    gather-rest (s .args .b) (s .args .group .now) (s .args .out .now) (planned (c .before)) ∙ sym (c .gather-refusal .ensures)
 
 returns-2 : tie.Need-returns-2
 returns-2 c =
     let r = c .before in
-    let s = r .before .before .before .before .before .before .before in (
+    let s = start (heard (r .before)) in (
       gather-refused (s .args .b) (s .args .group .now) (s .args .out .now) (r .gather-refusal .result) (rest r) (c .if2 .taken),
       gather-left (s .args .b) (s .args .group .now) (s .args .out .now) (r .gather-refusal .result) (rest r) (c .if2 .taken),
     )
@@ -59,10 +74,10 @@ slice-aggregate-gather-over-2 c = search needs
 
 gather-over-requires : tie.Need-gather-over-requires
 gather-over-requires c κs =
-    let t = c .before .before .before .before .before .before in
-    let d = t .before .before .before in
-    let s = d .before .before .before .before .before in
-    to-gather (s .args .b) (s .args .group .now) (s .args .out .now) (d .before .before .read-headers .result .plan) (planned d) (rest (t .before) ∙ t .if2 .left)
+    let t = c .before .before .before .before in
+    let d = t .before .before in
+    let s = start (heard d) in
+    to-gather (s .args .b) (s .args .group .now) (s .args .out .now) (planned d) (rest (t .before) ∙ t .if2 .left)
 
 same-length : tie.Need-same-length
 same-length c = search needs
@@ -70,13 +85,12 @@ same-length c = search needs
 returns-3 : tie.Need-returns-3
 returns-3 c =
     let o = c .before .before in
-    let t = o .before .before .before .before .before .before .before in
-    let d = t .before .before .before in
-    let s = d .before .before .before .before .before in
-    let plan = d .before .before .read-headers .result .plan in
+    let t = o .before .before .before .before .before in
+    let d = t .before .before in
+    let s = start (heard d) in
     let granted = rest (t .before) ∙ t .if2 .left in (
-      gather-granted (s .args .b) (s .args .group .now) (s .args .out .now) (plan .packets) granted (planned d .packets-are),
-      o .gather-over .ensures ∙ ap (λ (ms : List ℕ). copied (s .args .out .now) (gathered ms (s .args .group .now))) (listed-by (s .args .b) (s .args .group .now) plan (planned d))
+      gather-granted (s .args .b) (s .args .group .now) (s .args .out .now) (heard d .read-headers .result .packets) granted (planned d .packets-are),
+      o .gather-over .ensures ∙ ap (λ (ms : List ℕ). copied (s .args .out .now) (gathered ms (s .args .group .now))) (listed-by (s .args .b) (s .args .group .now) (planned d))
           ∙ gather-made (s .args .b) (s .args .group .now) (s .args .out .now) granted,
     )
 
@@ -84,6 +98,8 @@ pub gather-spec : {M : Type 1} → statement M
 gather-spec =
     tie.close
     (tie.spec
+    slice-aggregate-read-headers
+    slice-aggregate-read-headers-2
     read-headers-requires
     returns
     gather-refusal-requires

@@ -15,19 +15,31 @@ returns c =
     let e = spread-uncut (s .args .b) (s .args .group .now) (s .args .stream .now) (c .if1 .taken) in
     (spread-refused (s .args .b) (s .args .group .now) (s .args .stream .now) 1 e (λ z. omega arith), spread-left (s .args .b) (s .args .group .now) (s .args .stream .now) 1 e (λ z. omega arith))
 
+slice-aggregate-read-headers : tie.Need-slice-aggregate-read-headers
+slice-aggregate-read-headers c = search needs
+
+slice-aggregate-read-headers-2 : tie.Need-slice-aggregate-read-headers-2
+slice-aggregate-read-headers-2 c = search needs
+
 read-headers-requires : tie.Need-read-headers-requires
 read-headers-requires c κs = search needs
+
+-- the stream was found to be whole packets, and what the call was given
+abbrev cut : tie.After-read-headers → tie.Else1
+cut c = c .before .before .before .before
+
+abbrev start : tie.After-read-headers → tie.Start
+start c = cut c .before .before .before
 
 same-length : tie.Need-same-length
 same-length c = search needs
 
 returns-2 : tie.Need-returns-2
 returns-2 c =
-    let p = c .before .before in
-    let a = p .before .before in
-    let s = a .before .before .before in
-    let i = refusal-is (s .args .b) (s .args .group .now) (p .read-headers .result) (p .read-headers .ensures) in
-    let e = spread-headed (s .args .b) (s .args .group .now) (s .args .stream .now) (a .if1 .left) (λ z. c .if2 .taken (i ∙ z)) ∙ sym i in (
+    let p = c .before .before .before .before in
+    let s = start p in
+    let i = refusal-is (s .args .b) (s .args .group .now) (p .read-headers .ensures .0) in
+    let e = spread-headed (s .args .b) (s .args .group .now) (s .args .stream .now) (cut p .if1 .left) (λ z. c .if2 .taken (i ∙ z)) ∙ sym i in (
       spread-refused (s .args .b) (s .args .group .now) (s .args .stream .now) (p .read-headers .result .refusal) e (c .if2 .taken),
       spread-left (s .args .b) (s .args .group .now) (s .args .stream .now) (p .read-headers .result .refusal) e (c .if2 .taken),
     )
@@ -38,25 +50,30 @@ spread-refusal-requires c κs = search needs
 same-length-2 : tie.Need-same-length-2
 same-length-2 c = search needs
 
--- what the plan says that was read
-planned : (c : tie.Else2) → Known (c .before .before .before .before .before .before .before .args .b) (c .before .before .before .before .before .before .before .args .group .now) (c .before .before .read-headers .result .plan)
+-- what the headers said
+abbrev heard : tie.Else2 → tie.After-read-headers
+heard c = c .before .before .before .before
+
+planned : (c : tie.Else2)
+    → Known (start (heard c) .args .b) (start (heard c) .args .group .now) (heard c .read-headers .result) (heard c .read-headers .last .1 .1 .0) (heard c .read-headers .last .1 .1 .1 .0)
 planned c =
-    let p = c .before .before in
-    let s = p .before .before .before .before .before in
-    known (s .args .b) (s .args .group .now) (p .read-headers .result) (p .read-headers .ensures) (c .if2 .left)
+    let p = heard c in
+    let s = start p in
+    let e = p .read-headers .ensures in
+    known (s .args .b) (s .args .group .now) (e .0) (c .if2 .left) (e .1 .0) (e .1 .1)
 
 -- what the checks behind the headers answered
-rest : (c : tie.After-spread-refusal) → spreadRefusal (c .before .before .before .before .before .before .before .before .before .args .b) (c .before .before .before .before .before .before .before .before .before .args .group .now) (c .before .before .before .before .before .before .before .before .before .args .stream .now) ≡ c .spread-refusal .result
+rest : (c : tie.After-spread-refusal)
+    → spreadRefusal (start (heard (c .before)) .args .b) (start (heard (c .before)) .args .group .now) (start (heard (c .before)) .args .stream .now) ≡ c .spread-refusal .result
 rest c =
-    let d = c .before .before in
-    let a = d .before .before .before .before in
-    let s = a .before .before .before in
-    spread-rest (s .args .b) (s .args .group .now) (s .args .stream .now) (a .if1 .left) (d .before .before .read-headers .result .plan) (planned d) ∙ sym (c .spread-refusal .ensures)
+    let p = heard (c .before) in
+    let s = start p in
+    spread-rest (s .args .b) (s .args .group .now) (s .args .stream .now) (cut p .if1 .left) (planned (c .before)) ∙ sym (c .spread-refusal .ensures)
 
 returns-3 : tie.Need-returns-3
 returns-3 c =
     let r = c .before in
-    let s = r .before .before .before .before .before .before .before .before .before in (
+    let s = start (heard (r .before)) in (
       spread-refused (s .args .b) (s .args .group .now) (s .args .stream .now) (r .spread-refusal .result) (rest r) (c .if3 .taken),
       spread-left (s .args .b) (s .args .group .now) (s .args .stream .now) (r .spread-refusal .result) (rest r) (c .if3 .taken),
     )
@@ -72,10 +89,10 @@ slice-aggregate-spread-over-2 c = search needs
 
 spread-over-requires : tie.Need-spread-over-requires
 spread-over-requires c κs =
-    let t = c .before .before .before .before .before .before in
-    let d = t .before .before .before in
-    let s = d .before .before .before .before .before .before .before in
-    to-spread (s .args .b) (s .args .group .now) (s .args .stream .now) (d .before .before .read-headers .result .plan) (planned d) (rest (t .before) ∙ t .if3 .left)
+    let t = c .before .before .before .before in
+    let d = t .before .before in
+    let s = start (heard d) in
+    to-spread (s .args .b) (s .args .group .now) (s .args .stream .now) (planned d) (rest (t .before) ∙ t .if3 .left)
 
 same-length-3 : tie.Need-same-length-3
 same-length-3 c = search needs
@@ -83,13 +100,12 @@ same-length-3 c = search needs
 returns-4 : tie.Need-returns-4
 returns-4 c =
     let o = c .before .before in
-    let t = o .before .before .before .before .before .before .before in
-    let d = t .before .before .before in
-    let s = d .before .before .before .before .before .before .before in
-    let plan = d .before .before .read-headers .result .plan in
+    let t = o .before .before .before .before .before in
+    let d = t .before .before in
+    let s = start (heard d) in
     let granted = rest (t .before) ∙ t .if3 .left in (
-      spread-granted (s .args .b) (s .args .group .now) (s .args .stream .now) (plan .packets) granted (planned d .packets-are),
-      o .spread-over .ensures ∙ ap (λ (ms : List ℕ). spreadOver ms (s .args .stream .now) (s .args .group .now)) (listed-by (s .args .b) (s .args .group .now) plan (planned d))
+      spread-granted (s .args .b) (s .args .group .now) (s .args .stream .now) (heard d .read-headers .result .packets) granted (planned d .packets-are),
+      o .spread-over .ensures ∙ ap (λ (ms : List ℕ). spreadOver ms (s .args .stream .now) (s .args .group .now)) (listed-by (s .args .b) (s .args .group .now) (planned d))
           ∙ spread-made (s .args .b) (s .args .group .now) (s .args .stream .now) granted,
     )
 
@@ -98,6 +114,8 @@ spread-spec =
     tie.close
     (tie.spec
     returns
+    slice-aggregate-read-headers
+    slice-aggregate-read-headers-2
     read-headers-requires
     same-length
     returns-2

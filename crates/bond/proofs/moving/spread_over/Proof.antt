@@ -1,82 +1,138 @@
--- `spread_over` meets its contract: k packets of the stream were written. Assumes nothing.
-use Prim.Native.Nat.{_+_, _-_, _*_, _≤_}
+-- `spread_over` meets its contract: the packets of the rounds before this one were written. Assumes nothing.
+use Prim.Native.Nat.{ℕ, _+_, _-_, _*_}
+use mathlib.Core.Path.{_≡_, refl, sym, ap, _∙_}
+use mathlib.Core.List.{List}
 use native.Mathlib.Omega.{arith}
 use borrow.Author.Needs.{needs}
-use lib.ListN.{length, getD}
-use Rattle.packet.specs.Packets.{packetLength}
-use Rattle.bond.specs.Listing.{placesFrom}
-use Rattle.bond.proofs.Moves.{Listed, Spreading, spreading-none, spreading-more, all-spread, place-in, packet-in}
+use lib.ListN.{length, take}
+use Rattle.bond_places.specs.Order.{framePackets}
+use Rattle.bond.specs.Bonding.{spreadOver}
+use Rattle.bond.specs.Listing.{roundSteps, placesFrom}
+use Rattle.bond.proofs.ByRound.{entry-few}
+use Rattle.bond.proofs.Moves.{Turn, turn-few, turn-within, part-long, spread-part, Rounds, rounds-none, rounds-turn, rounds-more, rounds-all}
 use Rattle.bond.proofs.moving.spread_over.Statement.{statement}
 use Rattle.bond.proofs.moving.spread_over.Tie as tie
 
 abbrev Inv-loop : tie.InvT-loop
-Inv-loop group₀ stream carriers frames slots list n k₀ group k =
-    Listed (placesFrom carriers frames slots 0) list n × Spreading (placesFrom carriers frames slots 0) stream group₀ group k
+Inv-loop group₀ stream carriers frames slots list₀ notes noted moved₀ round₀ group list moved round =
+    Rounds carriers frames slots list moved round
+    × (length group ≡ length group₀)
+    × (group ≡ spreadOver (take moved (placesFrom carriers frames slots 0)) stream group₀)
 
 abbrev μ-loop : tie.MeasureT-loop
-μ-loop group₀ stream carriers frames slots list n k₀ group k = n - k
+μ-loop group₀ stream carriers frames slots list₀ notes noted moved₀ round₀ group list moved round = framePackets - round
 
 -- what the call was given
 abbrev start : tie.At-loop Inv-loop μ-loop → tie.Start Inv-loop μ-loop
 start c = c .before .before .before .before .before .before .before .before
 
--- the place lies in the group, and a packet of the stream is left
-here : (c : tie.In-loop Inv-loop μ-loop) → packetLength * getD (c .before .before .before .list-places .last .0) (c .before .loop .k) 0 + packetLength ≤ length (c .before .loop .group)
-here c =
-    let l = c .before in
-    let i = l .loop .inv in
-    rw (i .1 .long) (place-in (i .0) (l .loop .k) (c .loop-test .taken) (start l .args .group .now) (start l .pre .1 .1))
+-- the round that is moved in this turn
+abbrev turn : tie.After-list-round Inv-loop μ-loop → tie.At-loop Inv-loop μ-loop
+turn c = c .before .before .before .before
 
-left : (c : tie.In-loop Inv-loop μ-loop) → packetLength * c .before .loop .k + packetLength ≤ length (start (c .before) .args .stream .now)
-left c = let l = c .before in packet-in (l .loop .inv .0) (l .loop .k) (c .loop-test .taken) _ (omega arith)
+these : (c : tie.After-list-round Inv-loop μ-loop)
+    → Turn (placesFrom (start (turn c) .args .carriers) (start (turn c) .args .frames .now) (start (turn c) .args .slots .now) 0)
+    (turn c .loop .moved) (c .list-round .result) (take (c .list-round .result - 0) (c .list-round .last .0))
+    (placesFrom (start (turn c) .args .carriers) (start (turn c) .args .frames .now) (start (turn c) .args .slots .now) (roundSteps * (turn c .loop .round + 1)))
+these c =
+    let l = turn c in
+    let e = c .list-round .ensures in
+    rounds-turn (start l .pre .0) (l .loop .inv .0) (c .list-round .last .0) (c .list-round .result) (l .before .before .note-round .ensures)
+    (c .before .before .before .loop-test .taken) (e .0) (e .1 .0)
 
-slice-aggregate-list-places : tie.Need-slice-aggregate-list-places Inv-loop μ-loop
-slice-aggregate-list-places c = search needs
+slice-aggregate-note-round : tie.Need-slice-aggregate-note-round Inv-loop μ-loop
+slice-aggregate-note-round c = refl
 
-list-places-requires : tie.Need-list-places-requires Inv-loop μ-loop
-list-places-requires c κs = (c .before .before .before .before .before .pre .0, omega arith)
+note-round-requires : tie.Need-note-round-requires Inv-loop μ-loop
+note-round-requires c κs = (c .before .before .before .before .before .pre .0 .walk, refl)
 
 loop-holds : tie.Need-loop-holds Inv-loop μ-loop
-loop-holds c = let e = c .before .list-places .ensures in (record { is = e .0; counted = e .1 }, spreading-none _ _ _)
+unfolding spreadOver
+loop-holds c = (rounds-none _ _ _ refl, refl, refl)
 
-mul-place : tie.Need-mul-place Inv-loop μ-loop
-mul-place c = search needs
+slice-aggregate-list-round : tie.Need-slice-aggregate-list-round Inv-loop μ-loop
+slice-aggregate-list-round c = sym (c .before .before .loop .inv .0 .room)
 
-array-read-place : tie.Need-array-read-place Inv-loop μ-loop
-array-read-place c = let few = start (c .before) .pre .0 .few in omega arith
+slice-aggregate-list-round-2 : tie.Need-slice-aggregate-list-round-2 Inv-loop μ-loop
+slice-aggregate-list-round-2 c = search needs
 
-cast-place : tie.Need-cast-place Inv-loop μ-loop
-cast-place c = let l = here c in omega arith
+list-round-requires : tie.Need-list-round-requires Inv-loop μ-loop
+list-round-requires c κs =
+    let t = c .before .before in
+    let l = t .before in
+    let p = start l .pre .0 in
+    let n = l .before .before .note-round .ensures in
+    let room = l .loop .inv .0 .room in
+    ((n .few, n .long, p .long), (entry-few _ _ _ p n (l .loop .round) (t .loop-test .taken), omega arith))
 
-mul-place-2 : tie.Need-mul-place-2 Inv-loop μ-loop
-mul-place-2 c = let l = here c in omega arith
+mul-spread-listed : tie.Need-mul-spread-listed Inv-loop μ-loop
+mul-spread-listed c = let few = turn-few (these (c .before .before)) in omega arith
 
-mul-move-packet : tie.Need-mul-move-packet Inv-loop μ-loop
-mul-move-packet c = let l = left (c .before) in omega arith
+add-spread-listed : tie.Need-add-spread-listed Inv-loop μ-loop
+add-spread-listed c = let few = turn-few (these (c .before .before)) in omega arith
 
-move-packet-requires : tie.Need-move-packet-requires Inv-loop μ-loop
-move-packet-requires c κs = (here (c .before), left (c .before))
+mul-spread-listed-2 : tie.Need-mul-spread-listed-2 Inv-loop μ-loop
+mul-spread-listed-2 c = let few = turn-few (these (c .before .before)) in omega arith
 
-add-k : tie.Need-add-k Inv-loop μ-loop
-add-k c = search needs
+sub-spread-listed : tie.Need-sub-spread-listed Inv-loop μ-loop
+sub-spread-listed c = search needs
+
+part-spread-listed-start : tie.Need-part-spread-listed-start Inv-loop μ-loop
+part-spread-listed-start c = search needs
+
+part-spread-listed-end : tie.Need-part-spread-listed-end Inv-loop μ-loop
+part-spread-listed-end c = let few = turn-few (these (c .before .before)) in omega arith
+
+sub-spread-listed-2 : tie.Need-sub-spread-listed-2 Inv-loop μ-loop
+sub-spread-listed-2 c = search needs
+
+part-spread-listed-start-2 : tie.Need-part-spread-listed-start-2 Inv-loop μ-loop
+part-spread-listed-start-2 c = search needs
+
+part-spread-listed-end-2 : tie.Need-part-spread-listed-end-2 Inv-loop μ-loop
+part-spread-listed-end-2 c =
+    let o = c .before .before .before .before in
+    let few = turn o .before .before .note-round .ensures .few in
+    let room = turn o .loop .inv .0 .room in
+    omega arith
+
+spread-listed-requires : tie.Need-spread-listed-requires Inv-loop μ-loop
+spread-listed-requires c κs =
+    let o = c .before .before .before .before .before in
+    let l = turn o in
+    let s = start l in
+    (part-long (these o) (s .args .stream .now) (omega arith), rw (l .loop .inv .1) (turn-within (these o) (s .args .group .now) (s .pre .1 .1)))
+
+add-moved : tie.Need-add-moved Inv-loop μ-loop
+add-moved c = let few = turn-few (these (c .before .before .before .before .before .before .before .before)) in omega arith
+
+add-round : tie.Need-add-round Inv-loop μ-loop
+add-round c = search needs
 
 loop-less : tie.Need-loop-less Inv-loop μ-loop
 loop-less c = search needs
 
 loop-again : tie.Need-loop-again Inv-loop μ-loop
 loop-again c =
-    let o = c .before .before in
-    let t = o .before .before in
-    let l = t .before in
-    let i = l .loop .inv in
-    let p = start l .pre .1 in
-    (i .0, rw (o .move-packet .ensures) (spreading-more (i .0) (l .loop .k) (t .loop-test .taken) (i .1) (omega arith) (p .1)))
+    let m = c .before .before in
+    let o = m .before .before .before .before .before .before in
+    let l = turn o in
+    let s = start l in
+    let a = s .args in
+    let i = l .loop .inv in (
+      rounds-more (s .pre .0) (i .0) (these o) (o .before .before .before .loop-test .taken) (omega arith),
+      omega arith,
+      m .spread-listed .ensures ∙ spread-part (these o) (a .stream .now) (a .group .now) (i .2) (omega arith),
+    )
 
 same-length : tie.Need-same-length Inv-loop μ-loop
-same-length c = c .before .loop .inv .1 .long
+same-length c = c .before .loop .inv .1
 
 returns : tie.Need-returns Inv-loop μ-loop
-returns c = let l = c .before in let i = l .loop .inv in all-spread (i .0) (l .loop .k) (omega arith) (i .1)
+returns c =
+    let l = c .before in
+    let a = start l .args in
+    l .loop .inv .2 ∙ ap (λ (ms : List ℕ). spreadOver ms (a .stream .now) (a .group .now)) (rounds-all (start l .pre .0) (l .loop .inv .0) (omega arith))
 
 pub spread-over-spec : {M : Type 1} → statement M
 spread-over-spec =
@@ -84,16 +140,24 @@ spread-over-spec =
     (tie.spec
     Inv-loop
     μ-loop
-    slice-aggregate-list-places
-    list-places-requires
+    slice-aggregate-note-round
+    note-round-requires
     loop-holds
-    mul-place
-    array-read-place
-    cast-place
-    mul-place-2
-    mul-move-packet
-    move-packet-requires
-    add-k
+    slice-aggregate-list-round
+    slice-aggregate-list-round-2
+    list-round-requires
+    mul-spread-listed
+    add-spread-listed
+    mul-spread-listed-2
+    sub-spread-listed
+    part-spread-listed-start
+    part-spread-listed-end
+    sub-spread-listed-2
+    part-spread-listed-start-2
+    part-spread-listed-end-2
+    spread-listed-requires
+    add-moved
+    add-round
     loop-less
     loop-again
     same-length

@@ -10,10 +10,10 @@ use Rattle.bond.proofs.rounds.list_round.Statement.{statement}
 use Rattle.bond.proofs.rounds.list_round.Tie as tie
 
 abbrev Inv-loop : tie.InvT-loop
-Inv-loop list₀ listed round noted notes slots n₀ e₀ list n e = Going slots notes list₀ round noted listed list n e
+Inv-loop list₀ round noted notes slots n₀ e₀ list n e = Going slots notes list₀ round noted list n e
 
 abbrev μ-loop : tie.MeasureT-loop
-μ-loop list₀ listed round noted notes slots n₀ e₀ list n e = noted - e
+μ-loop list₀ round noted notes slots n₀ e₀ list n e = noted - e
 
 -- the turn, and what the call was given
 abbrev turn : tie.After-shared-slice-known3 Inv-loop μ-loop → tie.At-loop Inv-loop μ-loop
@@ -29,6 +29,10 @@ fits c =
     let p = start c .pre in
     reckoned _ (turn c .loop .e) _ _ (omega arith) (p .1 .0 (turn c .loop .e) (c .before .loop-test .taken))
 
+-- every entry's packet has room
+room : (c : tie.Start Inv-loop μ-loop) → c .args .noted < length (c .args .list .now)
+room c = omega arith
+
 there : (c : tie.In-loop Inv-loop μ-loop)
     → (2 * c .before .loop .e < length (c .before .before .before .before .before .args .notes .now))
     × (2 * c .before .loop .e + 1 < length (c .before .before .before .before .before .args .notes .now))
@@ -37,7 +41,7 @@ there c =
     entry-in (s .args .notes .now) (c .before .loop .e) (s .args .noted) (c .loop-test .taken) (s .pre .0 .0) (s .pre .0 .1)
 
 loop-holds : tie.Need-loop-holds Inv-loop μ-loop
-loop-holds c = going-none _ _ _ _ _ _
+loop-holds c = going-none _ _ _ _ _
 
 mul-m : tie.Need-mul-m Inv-loop μ-loop
 mul-m c = search needs
@@ -79,7 +83,7 @@ mul-list : tie.Need-mul-list Inv-loop μ-loop
 mul-list c = search needs
 
 slice-write-list : tie.Need-slice-write-list Inv-loop μ-loop
-slice-write-list c = let o = c .before in going-room _ _ _ _ _ _ (turn o .loop .inv) (start o .pre .1 .1)
+slice-write-list c = let o = c .before in going-room _ _ _ _ _ (room (start o)) (turn o .loop .inv) (o .before .loop-test .taken)
 
 is-marked-requires : tie.Need-is-marked-requires Inv-loop μ-loop
 is-marked-requires c κs = let o = c .before in let p = start o .pre in (p .0 .2, p .1 .0 (turn o .loop .e) (o .before .loop-test .taken))
@@ -98,17 +102,17 @@ loop-again c =
     let m = c .before in
     let o = m .before .before in
     let i = turn o .loop .inv in
-    let room = start o .pre .1 .1 in
+    let r = room (start o) in
     let test = o .before .loop-test .taken in
     let is = sym (m .is-marked .ensures) in
-    ⊎-elim (λ w. rw (w .1) (going-more _ _ _ _ _ _ i room test (is ∙ w .0 .taken))) (λ w. rw (w .1) (going-less _ _ _ _ _ _ i room test (is ∙ w .0 .left)))
+    ⊎-elim (λ w. rw (w .1) (going-more _ _ _ _ _ r i test (is ∙ w .0 .taken))) (λ w. rw (w .1) (going-less _ _ _ _ _ r i test (is ∙ w .0 .left)))
     (c .if1 .came)
 
 same-length : tie.Need-same-length Inv-loop μ-loop
 same-length c = c .before .loop .inv .long
 
 returns : tie.Need-returns Inv-loop μ-loop
-returns c = going-all _ _ _ _ _ _ (c .before .loop .inv) (omega arith)
+returns c = let l = c .before in going-all _ _ _ _ _ (room (l .before .before .before .before)) (l .loop .inv) (omega arith)
 
 pub list-round-spec : {M : Type 1} → statement M
 list-round-spec =

@@ -1,60 +1,66 @@
--- `plan_of` meets its contract: behind j headers the plan is that of j headers. Assumes nothing.
-use Prim.Native.Nat.{ℕ, _+_, _-_, _*_, _≤_, _<_}
-use mathlib.Core.Path.{_≡_, refl, sym, ap, _∙_}
+-- `plan_of` meets its contract: behind j headers the plan of j headers is written. Assumes nothing.
+use Prim.Native.Nat.{ℕ, _-_, _*_, _≤_, _<_}
+use mathlib.Core.Path.{_≡_, sym, ap, _∙_}
 use mathlib.Core.Logic.{⊎-elim}
-use mathlib.Core.Bool.{Bool, false, _||_}
 use mathlib.Core.List.{List}
 use native.Mathlib.Omega.{arith}
 use borrow.Author.Needs.{needs}
 use borrow.Author.Tests.{not-true, not-false}
-use lib.Count.{ones}
-use lib.ListN.{set, replicate}
-use Rattle.setting.specs.declared.Setting.{Setting}
 use Rattle.setting.specs.Refusal.{firstOf}
 use Rattle.header_check.specs.Checking.{partsOf}
 use Rattle.bond_places.specs.Order.{framePackets}
 use Rattle.counters.specs.Counters.{lastCarrier}
 use Rattle.bond_places.specs.Walk.{mostFrames}
-use Rattle.bond_group.specs.declared.Bond.{Bond}
+use Rattle.bond_group.specs.declared.headers.Headers.{Headers}
 use Rattle.bond_group.specs.declared.headers.Shown.{Shown}
-use Rattle.bond_group.specs.declared.headers.Plan.{Plan}
-use Rattle.bond_group.specs.Group.{framesIn, said, carries}
-use Rattle.bond_group.specs.Standing.{shownBy, before, standingChecks}
-use Rattle.bond_group.specs.Plan.{marks, nothingSeen, seen}
+use Rattle.bond_group.specs.Group.{framesIn, said}
+use Rattle.bond_group.specs.Standing.{shownBy, before, standingChecks, groupChecks}
+use Rattle.bond_group.specs.Plan.{noPlan, plannedBy}
 use Rattle.bond_group.proofs.Grouping.{sequence-few, frames-fit}
 use Rattle.bond_group.proofs.Planned.{packets-few}
-use Rattle.bond_group.proofs.Through.{Through, through-none, said-is, read-refused, standing-refused, stand-each, through-more, behind-few, missing, none-missing, all-planned, planned-refused, planned-all}
+use Rattle.bond_group.proofs.Lent.{as-long, Leaves, leaves-by, Written, written-none, written-lent, written-more, written-all, written-refused}
+use Rattle.bond_group.proofs.Through.{Through, through-none, said-is, read-refused, standing-refused, stand-each, through-more, behind-few, missing, none-missing, planned-refused, planned-all}
 use Rattle.bond_group.proofs.headers.plan_of.Statement.{statement}
 use Rattle.bond_group.proofs.headers.plan_of.Tie as tie
 
--- the plan of its parts
-abbrev planned : List ℕ → List ℕ → Bool → ℕ → Plan
-planned frames slots is-carried packets = record { frames = frames; slots = slots; «is_carried» = is-carried; packets = packets }
-
--- the header of frame j taken in
-made : (b : Bond) (plan : Plan) (j : ℕ) (s : Setting) {h : Shown} {m : ℕ} {carried : Bool} → h ≡ shownBy s → m ≡ marks b s → carried ≡ carries b s
-    → planned (set (plan .frames) (h .«carrier_sequence» - 1) (h .«number_of_frames»)) (set (plan .slots) j m) (plan .«is_carried» || carried) (plan .packets + ones m)
-    ≡ seen b plan j s
-unfolding seen shownBy
-made b plan j s e f g = rw (e, f, g)
-
-none-made : planned (replicate lastCarrier 0) (replicate mostFrames 0) false 0 ≡ nothingSeen
-unfolding nothingSeen
-none-made = refl
-
 abbrev Inv-loop : tie.InvT-loop
-Inv-loop group b count frames₀ slots₀ is-carried₀ packets₀ behind₀ group-id₀ j₀ frames slots is-carried packets behind group-id j =
-    Through b group (planned frames slots is-carried packets) behind group-id j
+Inv-loop group b frames₀ slots₀ count is-carried₀ packets₀ behind₀ group-id₀ j₀ frames slots is-carried packets behind group-id j =
+    Through b group behind group-id j
+    × Written b group frames₀ slots₀ frames slots is-carried packets j
 
 abbrev μ-loop : tie.MeasureT-loop
-μ-loop group b count frames₀ slots₀ is-carried₀ packets₀ behind₀ group-id₀ j₀ frames slots is-carried packets behind group-id j =
+μ-loop group b frames₀ slots₀ count is-carried₀ packets₀ behind₀ group-id₀ j₀ frames slots is-carried packets behind group-id j =
     framesIn group - j
+
+-- what the call was given
+abbrev start : tie.At-loop Inv-loop μ-loop → tie.Start Inv-loop μ-loop
+start k = k .before .before .before .before .before .before .before .before .before .before .before .before
+
+-- what is written into what the call was lent
+written : (k : tie.At-loop Inv-loop μ-loop)
+    → Written (start k .args .b) (start k .args .group .now) (start k .args .frames .now) (start k .args .slots .now) (k .loop .frames) (k .loop .slots) (k .loop .is-carried) (k .loop .packets) (k .loop .j)
+written k =
+    let cleared = k .before .before .before .before .before .before .clear .ensures in
+    written-lent (start k .args .frames .now) (start k .args .slots .now) (cleared .0) (cleared .1) (k .loop .inv .1)
+
+-- what is left where the group is refused
+left-refused : (k : tie.At-loop Inv-loop μ-loop) (x : ℕ) {h : Headers} {frames slots : List ℕ} → firstOf (groupChecks (start k .args .b) (start k .args .group .now)) ≡ x → (x ≡ 0 → ⊥)
+    → Leaves (noPlan x) h (k .loop .frames) (k .loop .slots) frames slots
+    → Leaves (plannedBy (start k .args .b) (start k .args .group .now)) h (start k .args .frames .now) (start k .args .slots .now) frames slots
+left-refused k x e d l =
+    let a = start k .args in
+    leaves-by (a .frames .now) (a .slots .now) (planned-refused (a .b) (a .group .now) x e d) (written-refused (written k) x l)
+
+clear-requires : tie.Need-clear-requires Inv-loop μ-loop
+clear-requires c κs = search needs
 
 nothing-shown-requires : tie.Need-nothing-shown-requires Inv-loop μ-loop
 nothing-shown-requires c κs = search needs
 
 loop-holds : tie.Need-loop-holds Inv-loop μ-loop
-loop-holds c = through-none _ _ _ (c .nothing-shown .result) 0 none-made (c .nothing-shown .ensures)
+loop-holds c =
+    let cleared = c .before .before .before .before .before .clear .ensures in
+    (through-none _ _ (c .nothing-shown .result) 0 (c .nothing-shown .ensures), written-none _ _ _ _ (cleared .0) (cleared .1))
 
 mul-at : tie.Need-mul-at Inv-loop μ-loop
 mul-at c = search needs
@@ -79,73 +85,96 @@ refused-requires c κs = search needs
 
 returns : tie.Need-returns Inv-loop μ-loop
 returns c =
-    let r = c .before .before .before in
+    let o = c .before .before .before .before in
+    let t = o .before .before .before in
+    let r = t .before .before in
     let k = r .before .before .before in
-    let s = k .before .before .before in
-    planned-refused (s .args .b) (s .args .group .now) (c .refused .result) (r .check .result .refusal)
-    (read-refused (s .args .b) (s .args .group .now) (s .pre .0 .1) (k .loop .j) (omega arith) _ (k .loop .behind) (k .loop .group-id) (k .loop .inv) (r .check .result) (r .check .ensures) (c .before .if1 .taken))
-    (c .before .if1 .taken) (c .refused .ensures .0) (c .refused .ensures .1)
+    let s = start k in
+    left-refused k (r .check .result .refusal)
+    (read-refused (s .args .b) (s .args .group .now) (s .pre .0 .1) (k .loop .j) (omega arith) (k .loop .behind) (k .loop .group-id) (k .loop .inv .0) (r .check .result) (r .check .ensures) (t .if1 .taken))
+    (t .if1 .taken) (o .refused .ensures)
+
+same-length : tie.Need-same-length Inv-loop μ-loop
+same-length c = as-long _ _ (returns c .1 .0)
+
+same-length-2 : tie.Need-same-length-2 Inv-loop μ-loop
+same-length-2 c = as-long _ _ (returns c .1 .1)
 
 shown-by-requires : tie.Need-shown-by-requires Inv-loop μ-loop
 shown-by-requires c κs = search needs
 
+-- the turn that a header is read in
+abbrev turn₁ : tie.Else1 Inv-loop μ-loop → tie.At-loop Inv-loop μ-loop
+turn₁ c = c .before .before .before .before .before
+
+abbrev turn₂ : tie.Joined2 Inv-loop μ-loop → tie.At-loop Inv-loop μ-loop
+turn₂ c = turn₁ (c .before .before)
+
+abbrev turn₃ : tie.Else3 Inv-loop μ-loop → tie.At-loop Inv-loop μ-loop
+turn₃ c = turn₂ (c .before .before)
+
 standing-refusal-requires : tie.Need-standing-refusal-requires Inv-loop μ-loop
 standing-refusal-requires c κs =
-    let k = c .before .before .before .before .before .before .before in
-    let s = k .before .before .before in
-    behind-few (s .args .b) (s .args .group .now) _ (k .loop .behind) (k .loop .group-id) (k .loop .j) (k .loop .inv)
+    let k = turn₂ c in
+    let s = start k in
+    behind-few (s .args .b) (s .args .group .now) (k .loop .behind) (k .loop .group-id) (k .loop .j) (k .loop .inv .0)
 
 -- what the header said
-said-so : (c : tie.Else1 Inv-loop μ-loop) → c .before .before .check .result ≡ partsOf 0 (said (c .before .before .before .before .before .before .before .before .args .group .now) (c .before .before .before .before .before .loop .j))
+said-so : (c : tie.Else1 Inv-loop μ-loop) → c .before .before .check .result ≡ partsOf 0 (said (start (turn₁ c) .args .group .now) (turn₁ c .loop .j))
 said-so c =
     let r = c .before .before in
-    let k = r .before .before .before in
-    let s = k .before .before .before in
+    let k = turn₁ c in
+    let s = start k in
     said-is (s .args .b) (s .args .group .now) (s .pre .0 .1) (k .loop .j) (omega arith) (r .check .result) (r .check .ensures) (c .if1 .left)
 
 -- what it shows
-shown-so : (c : tie.After-shown-by Inv-loop μ-loop) → c .shown-by .result ≡ shownBy (said (c .before .before .before .before .before .before .before .before .before .args .group .now) (c .before .before .before .before .before .before .loop .j))
+shown-so : (c : tie.After-shown-by Inv-loop μ-loop) → c .shown-by .result ≡ shownBy (said (start (turn₁ (c .before)) .args .group .now) (turn₁ (c .before) .loop .j))
 shown-so c = c .shown-by .ensures _ (said-so (c .before))
 
 -- the group id that it is held against is the first header's
-group-so : (c : tie.Joined2 Inv-loop μ-loop) → c .if2 .group-id ≡ said (c .before .before .before .before .before .before .before .before .before .before .args .group .now) 0 .«group_id»
+group-so : (c : tie.Joined2 Inv-loop μ-loop) → c .if2 .group-id ≡ said (start (turn₂ c) .args .group .now) 0 .«group_id»
 unfolding shownBy
 group-so c =
-    let k = c .before .before .before .before .before .before .before in
-    let s = k .before .before .before in
+    let k = turn₂ c in
+    let s = start k in
     ⊎-elim
     (λ w. w .1 ∙ ap (λ (h : Shown). h .«group_id») (shown-so (c .before)) ∙ ap (λ (i : ℕ). said (s .args .group .now) i .«group_id») (w .0 .taken))
-    (λ w. let d = w .0 .left in w .1 ∙ k .loop .inv .group-is (omega arith))
+    (λ w. let d = w .0 .left in w .1 ∙ k .loop .inv .0 .group-is (omega arith))
     (c .if2 .came)
 
 -- what was answered for where it stands
 standing-is : (c : tie.After-standing-refusal Inv-loop μ-loop)
     → c .standing-refusal .result
     ≡ firstOf
-    (standingChecks
-    (c .before .before .before .before .before .before .before .before .before .before .before .args .b .carriers)
-    (said (c .before .before .before .before .before .before .before .before .before .before .before .args .group .now) 0 .«group_id»)
-    (before (c .before .before .before .before .before .before .before .before .before .before .before .args .group .now) (c .before .before .before .before .before .before .before .before .loop .j))
-    (shownBy (said (c .before .before .before .before .before .before .before .before .before .before .before .args .group .now) (c .before .before .before .before .before .before .before .before .loop .j))))
+    (standingChecks (start (turn₂ (c .before)) .args .b .carriers) (said (start (turn₂ (c .before)) .args .group .now) 0 .«group_id»)
+    (before (start (turn₂ (c .before)) .args .group .now) (turn₂ (c .before) .loop .j)) (shownBy (said (start (turn₂ (c .before)) .args .group .now) (turn₂ (c .before) .loop .j))))
 standing-is c =
-    let k = c .before .before .before .before .before .before .before .before in
-    let s = k .before .before .before in
+    let k = turn₂ (c .before) in
+    let s = start k in
     c .standing-refusal .ensures
-    ∙ (λ i. firstOf (standingChecks (s .args .b .carriers) (group-so (c .before) i) (k .loop .inv .behind-is i) (shown-so (c .before .before) i)))
+    ∙ (λ i. firstOf (standingChecks (s .args .b .carriers) (group-so (c .before) i) (k .loop .inv .0 .behind-is i) (shown-so (c .before .before) i)))
 
 refused-requires-2 : tie.Need-refused-requires-2 Inv-loop μ-loop
 refused-requires-2 c κs = search needs
 
 returns-2 : tie.Need-returns-2 Inv-loop μ-loop
 returns-2 c =
-    let t = c .before .before in
+    let o = c .before .before .before .before in
+    let f = o .before .before .before in
+    let t = f .before in
     let r = t .before .before .before .before .before in
-    let k = r .before .before .before in
-    let s = k .before .before .before in
-    planned-refused (s .args .b) (s .args .group .now) (c .refused2 .result) (t .standing-refusal .result)
-    (standing-refused (s .args .b) (s .args .group .now) (s .pre .0 .1) (k .loop .j) (omega arith) _ (k .loop .behind) (k .loop .group-id) (k .loop .inv)
-    (r .check .result) (r .check .ensures) (t .before .before .before .if1 .left) (t .standing-refusal .result) (standing-is t) (c .before .if3 .taken))
-    (c .before .if3 .taken) (c .refused2 .ensures .0) (c .refused2 .ensures .1)
+    let k = turn₂ (t .before) in
+    let s = start k in
+    left-refused k (t .standing-refusal .result)
+    (standing-refused (s .args .b) (s .args .group .now) (s .pre .0 .1) (k .loop .j) (omega arith) (k .loop .behind) (k .loop .group-id) (k .loop .inv .0)
+    (r .check .result) (r .check .ensures) (t .before .before .before .if1 .left) (t .standing-refusal .result) (standing-is t) (f .if3 .taken))
+    (f .if3 .taken) (o .refused2 .ensures)
+
+same-length-3 : tie.Need-same-length-3 Inv-loop μ-loop
+same-length-3 c = as-long _ _ (returns-2 c .1 .0)
+
+same-length-4 : tie.Need-same-length-4 Inv-loop μ-loop
+same-length-4 c = as-long _ _ (returns-2 c .1 .1)
 
 -- each header up to this one stands as it should, so that there is room for what it says
 record Room (j packets sequence : ℕ) : Type 0 where
@@ -154,72 +183,75 @@ record Room (j packets sequence : ℕ) : Type 0 where
   frame : j < mostFrames
   few : packets ≤ framePackets * j
 
-room : (c : tie.Else3 Inv-loop μ-loop)
-    → Room (c .before .before .before .before .before .before .before .before .before .loop .j) (c .before .before .before .before .before .before .before .before .before .loop .packets)
-    (c .before .before .before .shown-by .result .«carrier_sequence»)
+room : (c : tie.Else3 Inv-loop μ-loop) → Room (turn₃ c .loop .j) (turn₃ c .loop .packets) (c .before .before .before .shown-by .result .«carrier_sequence»)
 unfolding shownBy
 room c =
     let t = c .before in
     let r = t .before .before .before .before .before in
-    let k = r .before .before .before in
-    let s = k .before .before .before in
-    let each = stand-each (s .args .b) (s .args .group .now) (s .pre .0 .1) (k .loop .j) (omega arith) _ (k .loop .behind) (k .loop .group-id) (k .loop .inv)
+    let k = turn₃ c in
+    let s = start k in
+    let each = stand-each (s .args .b) (s .args .group .now) (s .pre .0 .1) (k .loop .j) (omega arith) (k .loop .behind) (k .loop .group-id) (k .loop .inv .0)
     (r .check .result) (r .check .ensures) (t .before .before .before .if1 .left) (sym (standing-is t) ∙ c .if3 .left) in
     let here = ap (λ (h : Shown). h .«carrier_sequence») (shown-so (t .before .before)) in
     record {
       first = rw here (each (k .loop .j) (omega arith) .bond .from);
       carrier = rw here (sequence-few (s .args .b) (s .args .group .now) (s .pre .1 .1) (k .loop .j) (each (k .loop .j) (omega arith)));
       frame = frames-fit (s .args .b) (s .args .group .now) (s .pre .1 .1) (k .loop .j) each;
-      few = rw (ap (λ (p : Plan). p .packets) (k .loop .inv .plan-is)) (packets-few (s .args .b) (s .args .group .now) (k .loop .j));
+      few = omega (arith, k .loop .inv .1 .packets-are, packets-few (s .args .b) (s .args .group .now) (k .loop .j));
     }
 
 bonded-by-requires : tie.Need-bonded-by-requires Inv-loop μ-loop
 bonded-by-requires c κs = search needs
 
-cast-frames : tie.Need-cast-frames Inv-loop μ-loop
-cast-frames c = let o = room (c .before .before) in let l = o .carrier in omega arith
+cast-carrier : tie.Need-cast-carrier Inv-loop μ-loop
+cast-carrier c = let o = room (c .before .before) in let l = o .carrier in omega arith
 
-sub-frames : tie.Need-sub-frames Inv-loop μ-loop
-sub-frames c = let o = room (c .before .before) in let f = o .first in omega arith
+sub-carrier : tie.Need-sub-carrier Inv-loop μ-loop
+sub-carrier c = let o = room (c .before .before) in let f = o .first in omega arith
 
-array-write-frames : tie.Need-array-write-frames Inv-loop μ-loop
-array-write-frames c = let o = room (c .before .before) in let f = o .first in let l = o .carrier in omega arith
+set-frames-requires : tie.Need-set-frames-requires Inv-loop μ-loop
+set-frames-requires c κs = search needs
 
-mul-slots : tie.Need-mul-slots Inv-loop μ-loop
-mul-slots c = let o = room (c .before .before) in let l = o .frame in omega arith
+set-slots-requires : tie.Need-set-slots-requires Inv-loop μ-loop
+set-slots-requires c κs = search needs
 
-array-write-slots : tie.Need-array-write-slots Inv-loop μ-loop
-array-write-slots c = let o = room (c .before .before) in o .frame
+-- what the header says of the stream
+abbrev heard : tie.After-struct-known4 Inv-loop μ-loop → tie.After-bonded-by Inv-loop μ-loop
+heard c = c .before .before .before .before .before .before .before .before .before .before .before
 
 cast-packets : tie.Need-cast-packets Inv-loop μ-loop
-cast-packets c = omega (arith, c .before .before .before .bonded-by .ensures .1)
+cast-packets c = omega (arith, heard c .bonded-by .ensures .1)
 
 add-packets : tie.Need-add-packets Inv-loop μ-loop
 add-packets c =
-    let b = c .before .before .before in
+    let b = heard c in
     let o = room (b .before) in
     omega (arith, b .bonded-by .ensures .1, o .frame, o .few)
 
 add-j : tie.Need-add-j Inv-loop μ-loop
-add-j c = let o = room (c .before .before .before .before) in let l = o .frame in omega arith
+add-j c = let o = room (heard c .before) in let l = o .frame in omega arith
 
 loop-less : tie.Need-loop-less Inv-loop μ-loop
 loop-less c = search needs
 
 loop-again : tie.Need-loop-again Inv-loop μ-loop
 loop-again c =
-    let bonds = c .before .before .before in
+    let bonds = heard c in
     let t = bonds .before .before in
     let r = t .before .before .before .before .before in
-    let k = r .before .before .before in
-    let s = k .before .before .before in
+    let k = turn₃ (bonds .before) in
+    let s = start k in
     let said-here = bonds .bonded-by .ensures .0 _ (said-so (t .before .before .before)) in
-    through-more (s .args .b) (s .args .group .now) (s .pre .0 .1) (k .loop .j) (omega arith) _ (k .loop .behind) (k .loop .group-id) (k .loop .inv)
-    (r .check .result) (r .check .ensures) (t .before .before .before .if1 .left) (sym (standing-is t) ∙ bonds .before .if3 .left)
-    _ (t .before .before .shown-by .result) (t .before .if2 .group-id) (k .loop .j + 1)
-    (made (s .args .b) (planned (k .loop .frames) (k .loop .slots) (k .loop .is-carried) (k .loop .packets)) (k .loop .j) (said (s .args .group .now) (k .loop .j))
-    (shown-so (t .before .before)) (said-here .1) (said-here .0))
-    (shown-so (t .before .before)) (group-so (t .before)) refl
+    let o = room (bonds .before) in
+    let first = o .first in
+    let carrier = o .carrier in (
+      through-more (s .args .b) (s .args .group .now) (s .pre .0 .1) (k .loop .j) (omega arith) (k .loop .behind) (k .loop .group-id) (k .loop .inv .0)
+          (r .check .result) (r .check .ensures) (t .before .before .before .if1 .left) (sym (standing-is t) ∙ bonds .before .if3 .left)
+          (t .before .before .shown-by .result) (t .before .if2 .group-id) (shown-so (t .before .before)) (group-so (t .before)),
+      written-more (k .loop .inv .1) (t .before .before .shown-by .result) (bonds .bonded-by .result .marks) (bonds .bonded-by .result .«is_carried»)
+          (c .before .before .before .before .before .before .before .before .set-frames .ensures) (c .before .before .before .before .set-slots .ensures)
+          (shown-so (t .before .before)) (said-here .1) (said-here .0) (omega arith) (o .frame),
+    )
 
 is-end-requires : tie.Need-is-end-requires Inv-loop μ-loop
 is-end-requires c κs = search needs
@@ -229,22 +261,39 @@ refused-requires-3 c κs = search needs
 
 returns-3 : tie.Need-returns-3 Inv-loop μ-loop
 returns-3 c =
-    let e = c .before .before in
+    let o = c .before .before .before .before in
+    let f = o .before .before .before in
+    let e = f .before in
     let k = e .before .before in
-    let s = k .before .before .before in
-    planned-refused (s .args .b) (s .args .group .now) (c .refused3 .result) 14
-    (missing (s .args .b) (s .args .group .now) _ (k .loop .behind) (k .loop .group-id) (k .loop .j) (k .loop .inv) (omega arith) (sym (e .is-end .ensures) ∙ not-true _ (c .before .if4 .taken)))
-    (λ z. omega arith) (c .refused3 .ensures .0) (c .refused3 .ensures .1)
+    let s = start k in
+    left-refused k 14
+    (missing (s .args .b) (s .args .group .now) (k .loop .behind) (k .loop .group-id) (k .loop .j) (k .loop .inv .0) (omega arith) (sym (e .is-end .ensures) ∙ not-true _ (f .if4 .taken)))
+    (λ z. omega arith) (o .refused3 .ensures)
+
+same-length-5 : tie.Need-same-length-5 Inv-loop μ-loop
+same-length-5 c = as-long _ _ (returns-3 c .1 .0)
+
+same-length-6 : tie.Need-same-length-6 Inv-loop μ-loop
+same-length-6 c = as-long _ _ (returns-3 c .1 .1)
 
 returns-4 : tie.Need-returns-4 Inv-loop μ-loop
 returns-4 c =
     let e = c .before in
     let k = e .before .before in
-    let s = k .before .before .before in
-    planned-all (s .args .b) (s .args .group .now) (record { refusal = 0; plan = planned (k .loop .frames) (k .loop .slots) (k .loop .is-carried) (k .loop .packets) })
-    (none-missing (s .args .b) (s .args .group .now) _ (k .loop .behind) (k .loop .group-id) (k .loop .j) (k .loop .inv) (omega arith) (sym (e .is-end .ensures) ∙ not-false _ (c .if4 .left)))
-    refl
-    (all-planned (s .args .b) (s .args .group .now) _ (k .loop .behind) (k .loop .group-id) (k .loop .j) (k .loop .inv) (omega arith))
+    let s = start k in
+    let a = s .args in
+    let within = k .loop .inv .0 .within in
+    let all : k .loop .j ≡ framesIn (a .group .now) = omega arith in
+    leaves-by (a .frames .now) (a .slots .now)
+    (planned-all (a .b) (a .group .now)
+    (none-missing (a .b) (a .group .now) (k .loop .behind) (k .loop .group-id) (k .loop .j) (k .loop .inv .0) (omega arith) (sym (e .is-end .ensures) ∙ not-false _ (c .if4 .left))))
+    (written-all (written k) all)
+
+same-length-7 : tie.Need-same-length-7 Inv-loop μ-loop
+same-length-7 c = as-long _ _ (returns-4 c .1 .0)
+
+same-length-8 : tie.Need-same-length-8 Inv-loop μ-loop
+same-length-8 c = as-long _ _ (returns-4 c .1 .1)
 
 pub plan-of-spec : {M : Type 1} → statement M
 plan-of-spec =
@@ -252,6 +301,7 @@ plan-of-spec =
     (tie.spec
     Inv-loop
     μ-loop
+    clear-requires
     nothing-shown-requires
     loop-holds
     mul-at
@@ -261,17 +311,20 @@ plan-of-spec =
     part-check-end
     check-requires
     refused-requires
+    same-length
+    same-length-2
     returns
     shown-by-requires
     standing-refusal-requires
     refused-requires-2
+    same-length-3
+    same-length-4
     returns-2
     bonded-by-requires
-    cast-frames
-    sub-frames
-    array-write-frames
-    mul-slots
-    array-write-slots
+    cast-carrier
+    sub-carrier
+    set-frames-requires
+    set-slots-requires
     cast-packets
     add-packets
     add-j
@@ -279,5 +332,9 @@ plan-of-spec =
     loop-again
     is-end-requires
     refused-requires-3
+    same-length-5
+    same-length-6
     returns-3
+    same-length-7
+    same-length-8
     returns-4)
