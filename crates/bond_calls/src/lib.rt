@@ -22,7 +22,7 @@ pub extern "C" fn niranbok_read_headers(
     ensures { λ _. ⌜ now («is_carried» .exit) ≡ cond (plannedOf (bondOf carriers pid «ts_id» «original_network_id») (now (group .entry)) .plan .«is_carried») 1 0 ⌝ }
     ensures { λ _. ⌜ now (packets .exit) ≡ plannedOf (bondOf carriers pid «ts_id» «original_network_id») (now (group .entry)) .plan .packets ⌝ }
 {
-    // This call answers numbers only: it lends no room for the plan.
+    // This call has no use for the plan itself: it lends no room for it.
     let mut frames = [0u8; 1];
     let mut slots = [0u64; 1];
     let headers = bond_group::read_headers(

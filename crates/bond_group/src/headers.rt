@@ -227,7 +227,8 @@ fn set_slots(slots: &mut [u64], i: usize, v: u64)
     }
 }
 
-// Writes the numbers of the plan before the first header is read: zeros, as many as there is room for.
+// Writes the numbers of the plan before the first header is read: zeros, as many as there is room for. What a longer list has behind them
+// stays as it was.
 fn clear(frames: &mut [u8], slots: &mut [u64])
     ensures { λ _. ⌜ now (frames .exit) ≡ copied (now (frames .entry)) (nothingSeen .frames) ⌝ }
     ensures { λ _. ⌜ now (slots .exit) ≡ copied (now (slots .entry)) (nothingSeen .slots) ⌝ }
@@ -241,6 +242,7 @@ fn clear(frames: &mut [u8], slots: &mut [u64])
     }
 }
 
+// A refusal leaves an empty plan, whatever was read before it.
 pub(crate) fn refused(refusal: u8, frames: &mut [u8], slots: &mut [u64]) -> Headers
     ensures { λ r. ⌜ r ≡ headersOf (noPlan refusal) ⌝ }
     ensures { λ _. ⌜ now (frames .exit) ≡ copied (now (frames .entry)) (nothingSeen .frames) ⌝ }
