@@ -138,10 +138,17 @@ module _ (b : Bond) (group : List ℕ) where
     unfolding packetChecks ruleChecks bondingChecks
     read-none e = none-first (readChecks j) refl e
 
+    -- what the part says is what frame j's header says
+    pub part-long : length (part j) ≡ headerLength
+    part-long = ap length (part-is j) ∙ header-long
+
+    pub part-said : reading Kind.Extended (part j) ≡ said group j
+    unfolding said
+    part-said = ap (reading Kind.Extended) (part-is j)
+
     -- what an accepted header says
     pub said-is : (r : Checked) → r ≡ checkedOf Kind.Extended (b .pid) (part j) → r .refusal ≡ 0 → r ≡ partsOf 0 (said group j)
-    unfolding said
-    said-is r e z = parts-are Kind.Extended (b .pid) (part j) r e z ∙ ap (λ (p : List ℕ). partsOf 0 (reading Kind.Extended p)) (part-is j)
+    said-is r e z = parts-are Kind.Extended (b .pid) (part j) r e z ∙ ap (partsOf 0) part-said
 
     module _ (behind : Shown) (group-id : ℕ) (t : Through behind group-id j) where
       -- the answer where this header is refused

@@ -22,6 +22,8 @@ ghost use Rattle.setting.specs.declared.Setting.{Setting};
 ghost use Rattle.setting.specs.Setting.{blank};
 ghost use Rattle.setting.specs.Refusal.{firstOf};
 ghost use Rattle.setting.specs.Rules.{pidAllowed};
+ghost use Rattle.setting_pairs.specs.Identifiers.{idsApart, idsLength};
+ghost use Rattle.header_layout.specs.Header.{headerLength, reading};
 ghost use Rattle.header_check.specs.Checking.{partsOf};
 ghost use Rattle.packet.specs.Packets.{frameLength};
 ghost use Rattle.bond_places.specs.Order.{framePackets};
@@ -51,20 +53,23 @@ pub struct Headers {
     pub packets: usize,
 }
 
-// The stream's relative number in a header, or 0 if the header does not carry it. The contract says so for every setting with these parts.
-fn number_of(heard: Checked, b: Bond) -> u8
-    ensures { λ r. ⌜ ((s : Setting) → heard ≡ partsOf 0 s → r ≡ numberOf b s) ⌝ }
+// The stream's relative number in a header, or 0 if the header does not carry it. `ts` and `os` start at the first TS_id and at the first
+// original_network_id. The contract says so for every setting with these identifiers.
+fn number_of(ts: &[u8], os: &[u8], availability: u16, b: Bond) -> u8
+    requires { ⌜ (idsLength 4 ≤ length (now ts)) × (idsLength 4 ≤ length (now os)) ⌝ }
+    ensures { λ r. ⌜ ((s : Setting) → s .availability ≡ availability → s .«ts_id» ≡ idsApart 4 lastStream (now (ts .entry)) → s .«original_network_id» ≡ idsApart 4 lastStream (now (os .entry)) → r ≡ numberOf b s) ⌝ }
     ensures { λ r. ⌜ r ≤ lastStream ⌝ }
 {
-    let ts_id = heard.ts_id;
-    let original_network_id = heard.original_network_id;
     let mut number = 0u8;
     let mut k = 0;
     while k < STREAMS {
-        if ts_id[k] == b.ts_id {
-            if original_network_id[k] == b.original_network_id {
+        let at = header_layout::STREAM_BYTES as usize * k;
+        let ts_id = bits::word(ts[at], ts[at + 1]);
+        let network_id = bits::word(os[at], os[at + 1]);
+        if ts_id == b.ts_id {
+            if network_id == b.original_network_id {
                 let r = k as u8 + 1;
-                if RelativeNumber(r).is_available(heard.availability) {
+                if RelativeNumber(r).is_available(availability) {
                     number = r;
                 }
             }
@@ -95,11 +100,19 @@ struct Bonded {
     marks: u64,
 }
 
-fn bonded_by(heard: Checked, b: Bond) -> Bonded
-    ensures { λ r. ⌜ ((s : Setting) → heard ≡ partsOf 0 s → (r .«is_carried» ≡ carries b s) × (r .marks ≡ marks b s)) ⌝ }
+fn bonded_by(packet: &[u8], heard: Checked, b: Bond) -> Bonded
+    requires { ⌜ length (now packet) ≡ headerLength ⌝ }
+    requires { ⌜ heard ≡ partsOf 0 (reading Kind.Extended (now packet)) ⌝ }
+    ensures { λ r. ⌜ (r .«is_carried» ≡ carries b (reading Kind.Extended (now (packet .entry)))) × (r .marks ≡ marks b (reading Kind.Extended (now (packet .entry)))) ⌝ }
     ensures { λ r. ⌜ ones (r .marks) ≤ framePackets ⌝ }
 {
-    let RelativeNumberAnswer::Is(r) = RelativeNumber::new(number_of(heard, b)) else {
+    let number = number_of(
+        &packet[header_layout::IDENTIFIERS..header_layout::CONTROL],
+        &packet[header_layout::NETWORK_ID..header_layout::CONTROL],
+        heard.availability,
+        b,
+    );
+    let RelativeNumberAnswer::Is(r) = RelativeNumber::new(number) else {
         return Bonded {
             is_carried: false,
             marks: 0,
@@ -274,7 +287,8 @@ pub(crate) fn plan_of(group: &[u8], b: Bond, frames: &mut [u8], slots: &mut [u64
     let mut j = 0;
     while j < count {
         let at = FRAME_BYTES * j;
-        let heard = header_check::check(&group[at..at + PACKET_BYTES], b.pid, Kind::Extended);
+        let header = &group[at..at + PACKET_BYTES];
+        let heard = header_check::check(header, b.pid, Kind::Extended);
         if heard.refusal != 0 {
             return refused(heard.refusal, frames, slots);
         }
@@ -286,7 +300,7 @@ pub(crate) fn plan_of(group: &[u8], b: Bond, frames: &mut [u8], slots: &mut [u64
         if standing != 0 {
             return refused(standing, frames, slots);
         }
-        let bonded = bonded_by(heard, b);
+        let bonded = bonded_by(header, heard, b);
         let carrier = shown.carrier_sequence as usize - 1;
         set_frames(frames, carrier, shown.number_of_frames);
         set_slots(slots, j, bonded.marks);

@@ -1,3 +1,3 @@
 pub mod Asked
 pub mod Accepted
-mod Identifiers
+pub mod Identifiers

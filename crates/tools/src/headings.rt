@@ -14,6 +14,7 @@ use packet::PACKET_BYTES;
 use setting::Kind;
 use setting::Setting;
 use setting::limits;
+use setting_bytes::SETTING_BYTES;
 ghost use mathlib.Core.Path.{_≡_};
 ghost use Prim.Native.Nat.{_≤_, _<_};
 ghost use lib.ListN.{length};
@@ -81,8 +82,10 @@ fn write_header(
     let mut s = setting_of(b, c, frames, position, number);
     let numbers = plan_of(slots);
     s.relative_ts_number = numbers;
+    let mut setting = [0u8; SETTING_BYTES];
+    setting_write::write_setting(&mut setting, s);
     let bond = b.bond;
-    let refusal = header_codec::write(packet, bond.pid, Kind::Extended, s);
+    let refusal = header_codec::write(packet, bond.pid, Kind::Extended, &setting);
     if refusal != 0 {
         says::refusal(b"header", refusal);
         return false;

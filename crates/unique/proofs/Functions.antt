@@ -71,7 +71,7 @@ functions = record {
   receiver-stage-state-refusal = one (λ κs a x p i. (p i, _));
   receiver-start-start = one (λ κs a x p i. (record { refusal = p .0 i; state = p .1 i }, _));
   -- bonded carriers
-  bond-group-read-headers = one (λ κs a x p i. (p i, _));
+  bond-group-read-headers = one (λ κs a x p i. (p .0 i, (_, (_, (p .1 .0 i, (p .1 .1 i, _))))));
   bond-spread = one (λ κs a x p i. (p .0 i, (p .1 i, _)));
   bond-gather = one (λ κs a x p i. (p .0 i, (_, (p .1 i, _))));
   -- the lister

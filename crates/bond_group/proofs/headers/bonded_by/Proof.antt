@@ -4,7 +4,6 @@ use mathlib.Core.Path.{_≡_, refl, sym, ap, ap₂, _∙_}
 use mathlib.Core.Bool.{true, false, not, true≢false}
 use mathlib.Core.List.{List}
 use native.Mathlib.Omega.{arith}
-use borrow.Author.Needs.{needs}
 use borrow.Author.Tests.{ne-eqb}
 use lib.Count.{ones}
 use lib.Dec.{eqb}
@@ -12,22 +11,39 @@ use Rattle.counters.specs.Counters.{firstSlot, lastSlot, firstStream, lastStrea
 use Rattle.counters.proofs.Within.{between}
 use Rattle.counters.proofs.Numbers.{relative-inside, relative-outside}
 use Rattle.slot_bits.specs.Bits.{asBits, slotsAsBits}
+use Rattle.setting.specs.declared.Kind.{Kind}
 use Rattle.setting.specs.declared.Setting.{Setting}
+use Rattle.bits.proofs.Laws.{fit-of}
+use Rattle.header_layout.specs.Header.{reading}
 use Rattle.header_check.specs.declared.Checked.{Checked}
 use Rattle.header_check.specs.Checking.{partsOf}
+use Rattle.header_check.proofs.Asked.{ts-ids-are, network-ids-are}
+use Rattle.header_check.proofs.Identifiers.{ts-ids-in, network-ids-in}
 use Rattle.bond_places.specs.Order.{framePackets}
 use Rattle.bond_group.specs.declared.Bond.{Bond}
 use Rattle.bond_group.specs.Group.{numberOf, carries, hasNumber, bondedSlot}
 use Rattle.bond_group.specs.Plan.{passing, marks}
 use Rattle.bond_group.proofs.Marks.{picked-few, marks-ones}
+use borrow.Author.Needs.{needs}
 use Rattle.bond_group.proofs.headers.bonded_by.Statement.{statement}
 use Rattle.bond_group.proofs.headers.bonded_by.Tie as tie
 
--- of each setting of which these are the parts
+-- the parts are those of the setting that the packet says
 marked : (b : Bond) (h : Checked) (s : Setting) {n : ℕ} → h ≡ partsOf 0 s → n ≡ numberOf b s → slotsAsBits (passing (hasNumber (h .«relative_ts_number») n) firstSlot lastSlot) ≡ marks b s
 unfolding marks bondedSlot partsOf
 marked b h s same number =
     ap₂ (λ (ns : List ℕ) (n : ℕ). slotsAsBits (passing (hasNumber ns n) firstSlot lastSlot)) (ap (λ (x : Checked). x .«relative_ts_number») same) number
+
+-- so the number is the stream's in it
+numbered : (c : tie.After-number-of) → c .number-of .result ≡ numberOf (c .before .before .before .before .args .b) (reading Kind.Extended (c .before .before .before .before .args .packet .now))
+unfolding partsOf
+numbered c =
+    let s = c .before .before .before .before in
+    let p = s .args .packet .now in
+    let bytes = fit-of 8 p (λ i. c .before .before .before .shared-slice-known .given i .fits) in
+    c .number-of .ensures .0 (reading Kind.Extended p) (sym (ap (λ (x : Checked). x .availability) (s .pre .1)))
+    (sym (ts-ids-in p bytes (s .pre .0) ∙ ts-ids-are Kind.Extended p bytes (s .pre .0)))
+    (sym (network-ids-in p bytes (s .pre .0) ∙ network-ids-are Kind.Extended p bytes (s .pre .0)))
 
 -- no slot has the number 0
 no-marks : (ns : List ℕ) → slotsAsBits (passing (hasNumber ns 0) firstSlot lastSlot) ≡ 0
@@ -47,6 +63,24 @@ some : (n : ℕ) → within firstStream lastStream n ≡ true → not (eqb n 0) 
 some zero e = absurd (true≢false (sym e))
 some (suc n) e = ap not (ne-eqb (suc n) 0 (λ z. omega arith))
 
+sub-number-of : tie.Need-sub-number-of
+sub-number-of c = search needs
+
+part-number-of-start : tie.Need-part-number-of-start
+part-number-of-start c = search needs
+
+part-number-of-end : tie.Need-part-number-of-end
+part-number-of-end c = search needs
+
+sub-number-of-2 : tie.Need-sub-number-of-2
+sub-number-of-2 c = search needs
+
+part-number-of-start-2 : tie.Need-part-number-of-start-2
+part-number-of-start-2 c = search needs
+
+part-number-of-end-2 : tie.Need-part-number-of-end-2
+part-number-of-end-2 c = search needs
+
 number-of-requires : tie.Need-number-of-requires
 number-of-requires c κs = search needs
 
@@ -63,14 +97,15 @@ returns : tie.Need-returns
 unfolding carries
 returns c =
     let told = c .before .before in
-    let number = told .before .number-of .ensures in
-    let a = told .before .before .args in
+    let number = told .before in
+    let start = number .before .before .before .before in
+    let h = start .args .heard in
     let outside = relative-outside firstStream lastStream _ (sym (c .enum-told .given .1) ∙ told .new .ensures) in
     let few : ones 0 ≤ framePackets = omega (arith, no-ones) in
-    let zero-is = sym (none _ (number .1) (outside .0)) in (
-      λ s same. (
-        ap (λ (n : ℕ). not (eqb n 0)) (zero-is ∙ number .0 s same),
-        sym (no-marks (a .heard .«relative_ts_number»)) ∙ marked (a .b) (a .heard) s same (zero-is ∙ number .0 s same),
+    let zero-is = sym (none _ (number .number-of .ensures .1) (outside .0)) ∙ numbered number in (
+      (
+        ap (λ (n : ℕ). not (eqb n 0)) zero-is,
+        sym (no-marks (h .«relative_ts_number»)) ∙ marked (start .args .b) h (reading Kind.Extended (start .args .packet .now)) (start .pre .1) zero-is,
       ),
       few,
     )
@@ -86,12 +121,12 @@ unfolding carries
 returns-2 c =
     let bound = c .before .before .before .before in
     let told = bound .before .before in
-    let number = told .before .number-of .ensures in
-    let a = told .before .before .args in
+    let number = told .before in
+    let start = number .before .before .before .before in
     let inside = relative-inside firstStream lastStream _ (sym (bound .r .given .1) ∙ told .new .ensures) in (
-      λ s same. (
-        sym (some (told .before .number-of .result) (inside .0)) ∙ ap (λ (n : ℕ). not (eqb n 0)) (number .0 s same),
-        c .marks-of .ensures ∙ marked (a .b) (a .heard) s same (inside .1 ∙ number .0 s same),
+      (
+        sym (some (number .number-of .result) (inside .0)) ∙ ap (λ (n : ℕ). not (eqb n 0)) (numbered number),
+        c .marks-of .ensures ∙ marked (start .args .b) (start .args .heard) (reading Kind.Extended (start .args .packet .now)) (start .pre .1) (inside .1 ∙ numbered number),
       ),
       rw (c .marks-of .ensures, marks-ones _ refl) (picked-few _ 0 framePackets),
     )
@@ -100,6 +135,12 @@ pub bonded-by-spec : {M : Type 1} → statement M
 bonded-by-spec =
     tie.close
     (tie.spec
+    sub-number-of
+    part-number-of-start
+    part-number-of-end
+    sub-number-of-2
+    part-number-of-start-2
+    part-number-of-end-2
     number-of-requires
     new-requires
     enum-known-r

@@ -6,20 +6,22 @@ use mathlib.Core.List.{List}
 use native.Mathlib.Omega.{arith}
 use borrow.Author.Needs.{needs}
 use borrow.Author.Tests.{not-true, not-false}
+use Rattle.setting.specs.declared.Kind.{Kind}
 use Rattle.setting.specs.Refusal.{firstOf}
 use Rattle.header_check.specs.Checking.{partsOf}
+use Rattle.header_check.proofs.Asked.{parts-are}
 use Rattle.bond_places.specs.Order.{framePackets}
 use Rattle.counters.specs.Counters.{lastCarrier}
 use Rattle.bond_places.specs.Walk.{mostFrames}
 use Rattle.bond_group.specs.declared.headers.Headers.{Headers}
 use Rattle.bond_group.specs.declared.headers.Shown.{Shown}
-use Rattle.bond_group.specs.Group.{framesIn, said}
+use Rattle.bond_group.specs.Group.{framesIn, said, carries}
 use Rattle.bond_group.specs.Standing.{shownBy, before, standingChecks, groupChecks}
-use Rattle.bond_group.specs.Plan.{noPlan, plannedBy}
+use Rattle.bond_group.specs.Plan.{marks, noPlan, plannedBy}
 use Rattle.bond_group.proofs.Grouping.{sequence-few, frames-fit}
 use Rattle.bond_group.proofs.Planned.{packets-few}
 use Rattle.bond_group.proofs.Lent.{as-long, Leaves, leaves-by, Written, written-none, written-lent, written-more, written-all, written-refused}
-use Rattle.bond_group.proofs.Through.{Through, through-none, said-is, read-refused, standing-refused, stand-each, through-more, behind-few, missing, none-missing, planned-refused, planned-all}
+use Rattle.bond_group.proofs.Through.{Through, through-none, part-long, part-said, said-is, read-refused, standing-refused, stand-each, through-more, behind-few, missing, none-missing, planned-refused, planned-all}
 use Rattle.bond_group.proofs.headers.plan_of.Statement.{statement}
 use Rattle.bond_group.proofs.headers.plan_of.Tie as tie
 
@@ -65,17 +67,17 @@ loop-holds c =
 mul-at : tie.Need-mul-at Inv-loop μ-loop
 mul-at c = search needs
 
-add-check : tie.Need-add-check Inv-loop μ-loop
-add-check c = search needs
+add-header : tie.Need-add-header Inv-loop μ-loop
+add-header c = search needs
 
-sub-check : tie.Need-sub-check Inv-loop μ-loop
-sub-check c = search needs
+sub-header : tie.Need-sub-header Inv-loop μ-loop
+sub-header c = search needs
 
-part-check-start : tie.Need-part-check-start Inv-loop μ-loop
-part-check-start c = search needs
+part-header-start : tie.Need-part-header-start Inv-loop μ-loop
+part-header-start c = search needs
 
-part-check-end : tie.Need-part-check-end Inv-loop μ-loop
-part-check-end c = search needs
+part-header-end : tie.Need-part-header-end Inv-loop μ-loop
+part-header-end c = search needs
 
 check-requires : tie.Need-check-requires Inv-loop μ-loop
 check-requires c κs = search needs
@@ -200,8 +202,16 @@ room c =
       few = omega (arith, k .loop .inv .1 .packets-are, packets-few (s .args .b) (s .args .group .now) (k .loop .j));
     }
 
+-- the header is read again, as it was checked
 bonded-by-requires : tie.Need-bonded-by-requires Inv-loop μ-loop
-bonded-by-requires c κs = search needs
+bonded-by-requires c κs =
+    let t = c .before in
+    let r = t .before .before .before .before .before in
+    let k = turn₃ c in
+    let s = start k in (
+      part-long (s .args .b) (s .args .group .now) (s .pre .0 .1) (k .loop .j) (omega arith),
+      parts-are Kind.Extended (s .args .b .pid) _ (r .check .result) (r .check .ensures) (t .before .before .before .if1 .left),
+    )
 
 cast-carrier : tie.Need-cast-carrier Inv-loop μ-loop
 cast-carrier c = let o = room (c .before .before) in let l = o .carrier in omega arith
@@ -237,20 +247,22 @@ loop-less c = search needs
 loop-again : tie.Need-loop-again Inv-loop μ-loop
 loop-again c =
     let bonds = heard c in
-    let t = bonds .before .before in
+    let passed = bonds .before in
+    let t = passed .before in
     let r = t .before .before .before .before .before in
-    let k = turn₃ (bonds .before) in
+    let k = turn₃ passed in
     let s = start k in
-    let said-here = bonds .bonded-by .ensures .0 _ (said-so (t .before .before .before)) in
-    let o = room (bonds .before) in
+    let same = part-said (s .args .b) (s .args .group .now) (s .pre .0 .1) (k .loop .j) (omega arith) in
+    let said-here = bonds .bonded-by .ensures .0 in
+    let o = room passed in
     let first = o .first in
     let carrier = o .carrier in (
       through-more (s .args .b) (s .args .group .now) (s .pre .0 .1) (k .loop .j) (omega arith) (k .loop .behind) (k .loop .group-id) (k .loop .inv .0)
-          (r .check .result) (r .check .ensures) (t .before .before .before .if1 .left) (sym (standing-is t) ∙ bonds .before .if3 .left)
+          (r .check .result) (r .check .ensures) (t .before .before .before .if1 .left) (sym (standing-is t) ∙ passed .if3 .left)
           (t .before .before .shown-by .result) (t .before .if2 .group-id) (shown-so (t .before .before)) (group-so (t .before)),
       written-more (k .loop .inv .1) (t .before .before .shown-by .result) (bonds .bonded-by .result .marks) (bonds .bonded-by .result .«is_carried»)
           (c .before .before .before .before .before .before .before .before .set-frames .ensures) (c .before .before .before .before .set-slots .ensures)
-          (shown-so (t .before .before)) (said-here .1) (said-here .0) (omega arith) (o .frame),
+          (shown-so (t .before .before)) (said-here .1 ∙ ap (marks (s .args .b)) same) (said-here .0 ∙ ap (carries (s .args .b)) same) (omega arith) (o .frame),
     )
 
 is-end-requires : tie.Need-is-end-requires Inv-loop μ-loop
@@ -305,10 +317,10 @@ plan-of-spec =
     nothing-shown-requires
     loop-holds
     mul-at
-    add-check
-    sub-check
-    part-check-start
-    part-check-end
+    add-header
+    sub-header
+    part-header-start
+    part-header-end
     check-requires
     refused-requires
     same-length
