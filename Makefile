@@ -1,9 +1,9 @@
 # `make tools` proves and builds mux, demux, bond and unbond; `make run` the lister, and lists the sample; `make test` is the gate;
-# `make board` makes the archive for C; `make bench` measures, `make count` counts instructions; `make memory` runs the comparison under
-# valgrind; `make real` takes real streams through the tools; `make map` writes the map of the crates. What lacks is installed, and said;
+# `make board` makes the archive for C; `make bench` measures, `make count` counts instructions, `make stack` measures stack; `make memory`
+# runs the comparison under valgrind; `make real` takes real streams through the tools; `make map` writes the map of the crates. What lacks is installed, and said;
 # `make setup` does that apart. Measuring and valgrind take an archive for the machine's own processor.
-.PHONY: tools names rust-test tools-test lister-test real run test board archive archive-test limits-test board-test native bench count \
-	memory vectors setup map map-test
+.PHONY: tools names rust-test tools-test lister-test real run test board archive archive-test limits-test stack-test stack board-test native \
+	bench count memory vectors setup map map-test
 SHELL = /bin/bash
 .SHELLFLAGS = -o pipefail -c
 
@@ -124,10 +124,17 @@ limits-test: setup
 	scripts/limits.sh $(EMULATOR) target/bin/limits
 	$(EMULATOR) target/bin/limits | (cd compare && $(CROSS_CARGO) run --quiet -p limits -- ../include/niranbok.h)
 
+# How much stack each call takes, on the archive that is there, held to the limits in stack/limits; and the same with the archive made first.
+stack-test: setup
+	scripts/stack.sh target/board/libniranbok.a $(CROSS_CC) env $(CROSS_CARGO)
+
+stack: board
+	@$(MAKE) --no-print-directory stack-test
+
 # All of the board interface's.
 board-test: setup board
 	@scripts/prove.sh limits
-	@$(MAKE) --no-print-directory archive-test limits-test
+	@$(MAKE) --no-print-directory archive-test limits-test stack-test
 
 # An archive to measure and to watch: the product's, or, since a time under the emulator says nothing, the same proved modules compiled for
 # this machine's own processor.

@@ -37,7 +37,7 @@ await() {
 }
 
 # Runs one of the Makefile's tests, and leaves a word on how it ended.
-tests='map-test setup archive archive-test rust-test lister-test tools-test limits-test'
+tests='map-test setup archive archive-test stack-test rust-test lister-test tools-test limits-test'
 try() { # TEST [WORDS..]
     local began=$SECONDS how=passed
     echo "--- $1"
@@ -53,7 +53,7 @@ try() { # TEST [WORDS..]
 beside() { # CRATE...
     try map-test
     # What is installed is said at once, and not at the end alone.
-    try setup 2>&1 | tee >(cat >&3) && await "${@/#/target/stamp/}" && try archive AT_ONCE=1 && try archive-test
+    try setup 2>&1 | tee >(cat >&3) && await "${@/#/target/stamp/}" && try archive AT_ONCE=1 && try archive-test && try stack-test
     try rust-test
     if [ "$(cat "$logs/setup")" = passed ] && await target/must-fail; then
         [ ! -e target/bin/lister ] || try lister-test

@@ -23,10 +23,10 @@ awk -F '\t' '
     { print "#error a line of limits that is none: " $0 }
 ' "$work/limits" >"$work/limits.c"
 cc -std=c11 -Wall -Wextra -Werror -Iinclude -fsyntax-only "$work/limits.c"
-# kinds and events are the interface's own and have no line
+# kinds and events are the interface's own and have no line; the stack is held by stack.sh
 grep -o '^#define NIRANBOK_[A-Z_]* [0-9]' include/niranbok.h | awk '{ print $2 }' |
     grep -v -x -e 'NIRANBOK_PLAIN' -e 'NIRANBOK_EXTENDED' -e 'NIRANBOK_NOTHING' -e 'NIRANBOK_OPENED' -e 'NIRANBOK_STORED' \
-        -e 'NIRANBOK_READY' -e 'NIRANBOK_SHORT' -e 'NIRANBOK_JUMP' -e 'NIRANBOK_LONG' -e 'NIRANBOK_BROKEN' |
+        -e 'NIRANBOK_READY' -e 'NIRANBOK_SHORT' -e 'NIRANBOK_JUMP' -e 'NIRANBOK_LONG' -e 'NIRANBOK_BROKEN' -e 'NIRANBOK_STACK_BYTES' |
     while read -r name; do
         grep -q "($name ==" "$work/limits.c" || { echo "limits prints nothing for $name"; exit 1; }
     done
