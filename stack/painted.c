@@ -1,7 +1,7 @@
 /* How much stack each call of niranbok.h takes.
  *
  * A program that is linked with this file, in front of the archive with its functions renamed (scripts/stack.sh does both), makes each call on
- * a stack of its own. The stack is painted before the call. Behind it, the lowest byte that is another shows how deep the call went. The
+ * a stack of its own. The stack is painted before the call. After the call, the lowest byte that changed shows how deep it went. The
  * return address is counted, and so is whatever the functions below save and use; arguments that the caller puts on the stack are not. At
  * the end a line for each call and answer goes to the file that NIRANBOK_STACK names: the call, its answer, and the most bytes that it took.
  *
@@ -15,7 +15,7 @@
 #define PAINTED 16384
 #define PASSED 6
 
-/* Answers from 0 on that are told apart; a number of another kind counts as 0. */
+/* Refusals are numbers below this. What a call answers that cannot refuse counts as 0. */
 #define ANSWERS 32
 
 struct stack {
@@ -52,7 +52,7 @@ void *const painted_top = stack.passed;
 
 static size_t most[CALLS][ANSWERS];
 
-/* Any pattern will do in which a byte that is written seldom stands already. */
+/* The paint differs from byte to byte, so that what a call writes seldom looks like paint. */
 __attribute__((constructor)) static void mix_paint(void) {
     for (size_t i = 0; i < PAINTED; i++)
         paint[i] = (uint8_t)(i * 167 + (i >> 8) * 59 + 0x5B);

@@ -1,5 +1,5 @@
 // What the header of an open frame says: its setting, with the run's counter and version, and with the slots that were filled. It is made in
-// the state itself, from where it is written and where it then ends.
+// the state, in the setting's own place, and the header is written from there.
 use composer::LAST;
 use composer::OPEN;
 use composer::PLAN;

@@ -17,4 +17,4 @@ idsLength step = step * (lastStream - 1) + 2
 
 -- whether so many bytes hold them
 abbrev pub holdsIds : ℕ → ℕ → Bool
-holdsIds step length = leb (idsLength step) length
+holdsIds step n = leb (idsLength step) n
