@@ -4,7 +4,7 @@ use mathlib.Core.Path.{_≡_, refl, sym, ap, ap₂, _∙_}
 use mathlib.Core.List.{List, [], _∷_, _++_, append-assoc}
 use native.Mathlib.Omega.{arith}
 use lib.ListN.{length, getD, take, drop, set, replicate, length-append}
-use lib.Seq.{drop-drop, drop-at, length-take-le, sets, sets-eq}
+use lib.Seq.{drop-at, length-take-le, sets, sets-eq}
 use Rattle.bits.specs.Fields.{Fit, run, cut}
 use Rattle.slices.proofs.Front.{put, front-none, front-kept, front-part, front-more, front-all}
 use Rattle.counters.specs.Counters.{lastStream, lastSlot}
@@ -21,7 +21,9 @@ use Rattle.header_layout.specs.Rows.{place, rowAt}
 use Rattle.header_layout.specs.Header.{headerLength, firsts, seconds, reading}
 use Rattle.header_layout.proofs.LaidOut.{laid-out}
 use Rattle.header_layout.proofs.Said.{fields-are, status, privates-are, auxiliaries-are}
-use Rattle.header_read.proofs.Identifiers.{seconds-are}
+use Rattle.setting_pairs.specs.Identifiers.{idsApart}
+use Rattle.header_check.proofs.Asked.{ts-ids-are, network-ids-are}
+use Rattle.header_check.proofs.Identifiers.{ts-ids-in, network-ids-in}
 
 -- how long the lists are that a packet says
 pub reading-long : (kind : Kind) (p : List ℕ) → Long (reading kind p)
@@ -54,21 +56,11 @@ pub announced-by : (kind : Kind) (p : List ℕ) → announced (reading Kind.Plai
 unfolding announced reading laid-out rowAt place
 announced-by kind p = refl
 
--- the identifiers, from the byte on at which the first of them starts
-module _ (p : List ℕ) where
-  ts-ids-from : firsts (cut 16 (2 * lastStream) (drop (9 * 8) (run 8 p))) ≡ announced (reading Kind.Plain p) .«ts_id»
-  unfolding announced reading laid-out rowAt place
-  ts-ids-from = refl
-
-  network-ids-from : firsts (cut 16 (2 * lastStream) (drop (11 * 8) (run 8 p))) ≡ announced (reading Kind.Plain p) .«original_network_id»
-  unfolding announced reading laid-out rowAt place
-  network-ids-from = ap (λ (bs : List ℕ). firsts (cut 16 30 bs)) (sym (drop-drop 16 72 (run 8 p))) ∙ seconds-are 15 (drop 72 (run 8 p))
-
 -- what a packet announces, written one part behind the other: slot information, identifiers, statuses and the emergency bit
 pub announced-written : (p bytes t o r : List ℕ) (n streams : ℕ) → Fit 8 p → length p ≡ headerLength → length bytes ≡ announcedLength
     → streams ≡ reading Kind.Plain p .availability
-    → t ≡ wordBytes (firsts (cut 16 (2 * lastStream) (drop (9 * 8) (run 8 p))))
-    → o ≡ wordBytes (firsts (cut 16 (2 * lastStream) (drop (11 * 8) (run 8 p))))
+    → t ≡ wordBytes (idsApart 4 lastStream (take 60 (drop 9 p)))
+    → o ≡ wordBytes (idsApart 4 lastStream (take 58 (drop 11 p)))
     → n ≡ lastStream → r ≡ cut 2 n (run 8 (take 4 (drop 69 p)))
     → set (put statusesAt lastStream (put networkIdAt (2 * lastStream) (put tsIdAt (2 * lastStream)
     (sets bytes slotTypeAt (getD p 6 0 / 16 % 2 ∷ getD p 6 0 % 16 ∷ streams / 256 ∷ streams % 256 ∷ [])) t) o) r) emergencyAt (getD p 72 0 % 2)
@@ -82,7 +74,7 @@ announced-written p bytes t o r n streams fit whole long ps pt po pn pr =
     (sets-eq i bytes slotTypeAt (omega arith)) (fields .5)
     ∙ announced-parts (announced s) bytes i t o r long (streams-long s (reading-long Kind.Plain p))
     (λ j. fields .2 j ∷ fields .3 j ∷ ps j / 256 ∷ ps j % 256 ∷ [])
-    (pt ∙ ap wordBytes (ts-ids-from p)) (po ∙ ap wordBytes (network-ids-from p)) (pr ∙ status p fit whole n pn)
+    (pt ∙ ap wordBytes (ts-ids-in p fit whole ∙ ts-ids-are Kind.Plain p fit whole)) (po ∙ ap wordBytes (network-ids-in p fit whole ∙ network-ids-are Kind.Plain p fit whole)) (pr ∙ status p fit whole n pn)
 
 -- the private data and the auxiliary information, written one behind the other, where the kind is known
 pub privates-written : {kind known : Kind} → kind ≡ known → (p bytes y z : List ℕ) → Fit 8 p → length p ≡ headerLength → length bytes ≡ privateBytes + auxiliaryBytes

@@ -26,25 +26,25 @@ use setting_bytes::VERSION;
 ghost use mathlib.Core.Path.{_≡_};
 ghost use mathlib.Core.List.{_++_};
 ghost use Prim.Native.Nat.{_+_, _*_, _≤_};
-ghost use lib.ListN.{length, drop};
-ghost use Rattle.bits.specs.Fields.{run, cut};
+ghost use lib.ListN.{length};
 ghost use Rattle.counters.specs.Counters.{lastStream};
 ghost use Rattle.setting.specs.Setting.{privateBytes, auxiliaryBytes};
 ghost use Rattle.setting.specs.Announcing.{announced};
 ghost use Rattle.setting_bytes.specs.Words.{wordBytes};
 ghost use Rattle.setting_bytes.specs.Settings.{announcedLength, announcedBytes, settingLength, settingBytes};
-ghost use Rattle.header_layout.specs.Header.{headerLength, firsts, reading};
+ghost use Rattle.setting_pairs.specs.Identifiers.{idsApart, idsLength};
+ghost use Rattle.header_layout.specs.Header.{headerLength, reading};
 ghost use Rattle.header_check.specs.Checking.{partsOf};
 
-// One identifier of each stream, from byte `from` of the header on: two bytes of every four.
-fn read_words(part: &mut [u8], packet: &[u8], from: usize)
-    requires { ⌜ (length (now part) ≡ 2 * lastStream) × (from + 4 * lastStream ≤ length (now packet)) ⌝ }
-    ensures { λ _. ⌜ now (part .exit) ≡ wordBytes (firsts (cut 16 (2 * lastStream) (drop (from * 8) (run 8 (now (packet .entry)))))) ⌝ }
+// One identifier of each stream: two bytes of every four.
+fn read_words(part: &mut [u8], ids: &[u8])
+    requires { ⌜ (length (now part) ≡ 2 * lastStream) × (idsLength 4 ≤ length (now ids)) ⌝ }
+    ensures { λ _. ⌜ now (part .exit) ≡ wordBytes (idsApart 4 lastStream (now (ids .entry))) ⌝ }
 {
     let mut k = 0;
     while k < STREAMS {
-        part[2 * k] = packet[from + 4 * k];
-        part[2 * k + 1] = packet[from + 4 * k + 1];
+        part[2 * k] = ids[4 * k];
+        part[2 * k + 1] = ids[4 * k + 1];
         k += 1;
     }
 }
@@ -62,13 +62,11 @@ fn read_announced(part: &mut [u8], packet: &[u8], availability: u16)
     part[AVAILABILITY_LOW] = (availability % 256) as u8;
     read_words(
         &mut part[TS_ID..ORIGINAL_NETWORK_ID],
-        packet,
-        header_layout::IDENTIFIERS,
+        &packet[header_layout::IDENTIFIERS..header_layout::CONTROL],
     );
     read_words(
         &mut part[ORIGINAL_NETWORK_ID..RECEIVE_STATUS],
-        packet,
-        header_layout::NETWORK_ID,
+        &packet[header_layout::NETWORK_ID..header_layout::CONTROL],
     );
     packed::read_run(
         &mut part[RECEIVE_STATUS..EMERGENCY],

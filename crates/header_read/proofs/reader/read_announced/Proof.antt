@@ -3,7 +3,6 @@ use Prim.Native.Nat.{ℕ, _*_, _/_, _%_}
 use mathlib.Core.Path.{_≡_, sym, _∙_}
 use mathlib.Core.List.{List, [], _∷_}
 use native.Mathlib.Omega.{arith}
-use borrow.Author.Needs.{needs}
 use borrow.Rule.Slice.PartMut.{same-len-mid, mid-len}
 use lib.ListN.{length, getD, length-set}
 use lib.Seq.{sets}
@@ -12,15 +11,16 @@ use Rattle.slices.proofs.Front.{put}
 use Rattle.counters.specs.Counters.{lastStream}
 use Rattle.setting_bytes.specs.Settings.{slotTypeAt, tsIdAt, networkIdAt, statusesAt, emergencyAt, announcedLength}
 use Rattle.header_read.proofs.Coded.{announced-written}
+use borrow.Author.Needs.{needs}
 use Rattle.header_read.proofs.reader.read_announced.Statement.{statement}
 use Rattle.header_read.proofs.reader.read_announced.Tie as tie
 
 -- the places after each part, from the later to the earlier
 abbrev begun : tie.After-read-words → tie.Start
-begun c = c .before .before .before .before .before
+begun c = c .before .before .before .before .before .before
 
 abbrev identified : tie.After-read-words2 → tie.After-read-words
-identified c = c .before .before .before .before
+identified c = c .before .before .before .before .before
 
 abbrev named : tie.After-read-run → tie.After-read-words2
 named c = c .before .before .before .before .before
@@ -82,9 +82,6 @@ part-read-words-start c = search needs
 part-read-words-end : tie.Need-part-read-words-end
 part-read-words-end c = omega (arith, whole₀ (c .before .before .before))
 
-read-words-requires : tie.Need-read-words-requires
-read-words-requires c κs = search needs
-
 sub-read-words-2 : tie.Need-sub-read-words-2
 sub-read-words-2 c = search needs
 
@@ -92,7 +89,28 @@ part-read-words-start-2 : tie.Need-part-read-words-start-2
 part-read-words-start-2 c = search needs
 
 part-read-words-end-2 : tie.Need-part-read-words-end-2
-part-read-words-end-2 c = omega (arith, whole₁ (c .before .before))
+part-read-words-end-2 c = search needs
+
+read-words-requires : tie.Need-read-words-requires
+read-words-requires c κs = search needs
+
+sub-read-words-3 : tie.Need-sub-read-words-3
+sub-read-words-3 c = search needs
+
+part-read-words-start-3 : tie.Need-part-read-words-start-3
+part-read-words-start-3 c = search needs
+
+part-read-words-end-3 : tie.Need-part-read-words-end-3
+part-read-words-end-3 c = omega (arith, whole₁ (c .before .before))
+
+sub-read-words-4 : tie.Need-sub-read-words-4
+sub-read-words-4 c = search needs
+
+part-read-words-start-4 : tie.Need-part-read-words-start-4
+part-read-words-start-4 c = search needs
+
+part-read-words-end-4 : tie.Need-part-read-words-end-4
+part-read-words-end-4 c = search needs
 
 read-words-requires-2 : tie.Need-read-words-requires-2
 read-words-requires-2 c κs = search needs
@@ -139,7 +157,7 @@ returns c =
     let ts = identified networks in
     let start = begun ts in
     let p = start .args .packet .now in
-    let known = ts .before .before .before in
+    let known = ts .before .before .before .before in
     announced-written p (start .args .part .now) (ts .read-words .last .0) (networks .read-words2 .last .0) (statuses .read-run .last .0) _ (start .args .availability)
     (fit-of 8 p (λ i. known .shared-slice-known .given i .fits)) (start .pre .0 .1) (start .pre .0 .0) (start .pre .1)
     (ts .read-words .ensures) (networks .read-words2 .ensures) (mid-len statusesAt emergencyAt (after₂ networks) (omega (arith, whole₂ networks))) (statuses .read-run .ensures)
@@ -158,10 +176,16 @@ read-announced-spec =
     sub-read-words
     part-read-words-start
     part-read-words-end
-    read-words-requires
     sub-read-words-2
     part-read-words-start-2
     part-read-words-end-2
+    read-words-requires
+    sub-read-words-3
+    part-read-words-start-3
+    part-read-words-end-3
+    sub-read-words-4
+    part-read-words-start-4
+    part-read-words-end-4
     read-words-requires-2
     sub-read-run
     part-read-run-start
