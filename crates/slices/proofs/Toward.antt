@@ -4,8 +4,7 @@ use Prim.Native.Nat.{ℕ, _+_, _≤_, _<_}
 use mathlib.Core.Path.{_≡_, refl, sym, ap, subst, _∙_}
 use mathlib.Core.List.{List, [], _∷_, _++_, append-assoc}
 use native.Mathlib.Omega.{arith}
-use lib.ListN.{length, getD, take, drop, set}
-use lib.Seq.{drop-cons}
+use lib.ListN.{length, take, drop, set}
 use Rattle.slices.proofs.Front.{Front, put, front-none, front-more, front-kept, front-part, front-length}
 
 -- d is d₀ with i elements of `whole` over its front, behind which `whole` has `next`
@@ -36,11 +35,6 @@ module _ {A : Type 0} where
           front = subst (Front d₀ (t .done ++ take k (drop i d₀)) d) p (front-kept d₀ (t .done) d i k (t .front) (omega arith));
           left = onward (take k (drop i d₀)) rest e;
         }
-
-    -- one element stays as it was
-    pub toward-same : (v : A) {rest : List A} → next ≡ getD d₀ i v ∷ rest → i < length d₀ → Toward whole d₀ d rest (i + 1)
-    toward-same v {rest} e h =
-        toward-kept 1 (e ∙ sym (ap (λ (l : List A). take 1 l ++ rest) (drop-cons d₀ i v h))) refl (omega arith)
 
     -- k elements were lent and came back as ys
     pub toward-part : (ys : List A) (k : ℕ) {rest : List A} {j : ℕ} → next ≡ ys ++ rest → length ys ≡ k → i + k ≡ j
