@@ -24,6 +24,11 @@ cat summary
 cmp news.ts news.out
 cmp film.ts film.out
 echo "both came back byte for byte; ffprobe reads: $(tracks news.out) and $(tracks film.out)"
+"$mux" --short 0x1FF0 20 1 32736 news.ts 20 2 32736 film.ts >short
+"$demux" --short 0x1FF0 1 short 2>summary | cmp - news.ts
+"$demux" --short 0x1FF0 2:32736 short 2>>summary | cmp - film.ts
+cat summary
+echo "in short frames too: $(packets short) packets"
 
 # Every packet that comes out of the damaged frames is to stand in its own stream, in its order: nothing may be added.
 perl -e 'srand 7; local $/ = \188; while (<STDIN>) { print unless rand() < 0.001 }' <frames >lossy

@@ -20,6 +20,8 @@ cd "$work"
 # A recording's own headers bear another PID: it is a stream like any.
 mux=(mux 0x1FFE 52 1 1 stream)
 demux=(demux 0x1FFE 1 frames)
+short_mux=(mux --short 0x1FFE 40 1 1 stream)
+short_demux=(demux --short 0x1FFE 1 frames)
 bond=(bond 0x1FFE 1 1 1 stream 3 52 carrier1 4 52 carrier2)
 unbond=(unbond 0x1FFE 1 1 carrier1 carrier2)
 "$tools" "${mux[@]}" >frames 2>said
@@ -54,3 +56,8 @@ rate copy "$(size stream)" 'cat of the stream to a file' cat stream
 rm copy
 rate /dev/null "$(size carrier1 carrier2)" 'unbond, two carriers' "$tools" "${unbond[@]}"
 rate /dev/null "$(size carrier1 carrier2)" 'cat of the carriers' cat carrier1 carrier2
+# Short frames in the place of the others, for there is room for one of them.
+"$tools" "${short_mux[@]}" >frames 2>said
+"$tools" "${short_demux[@]}" 2>said | cmp - stream
+rate /dev/null "$(size stream)" 'mux --short' "$tools" "${short_mux[@]}"
+rate /dev/null "$(size frames)" 'demux --short' "$tools" "${short_demux[@]}"

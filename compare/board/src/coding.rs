@@ -2,12 +2,12 @@
 //! of 16 bits have the high byte first.
 
 use reference::{
-    Announced, Composer, Kind, OpenFrame, Receiver, Setting, Standing, SLOTS, STREAMS,
+    Announced, Composer, Kind, OpenFrame, Receiver, Setting, Size, Standing, SLOTS, STREAMS,
 };
 use std::ops::Range;
 
-pub const SETTING_BYTES: usize = 252;
-pub const COMPOSER_BYTES: usize = 390;
+pub const SETTING_BYTES: usize = 298;
+pub const COMPOSER_BYTES: usize = 436;
 pub const RECEIVER_BYTES: usize = 58;
 
 /// Where the parts of a setting start, the first four being bytes 0 to 3.
@@ -17,27 +17,31 @@ const ORIGINAL_NETWORK_ID: usize = 36;
 const RECEIVE_STATUS: Range<usize> = 66..81;
 const EMERGENCY_INDICATOR: usize = 81;
 const RELATIVE_TS_NUMBER: Range<usize> = 82..134;
-const PRIVATE_DATA: Range<usize> = 134..219;
-const AUXILIARY: Range<usize> = 219..247;
-const BONDING: Range<usize> = 247..252;
+const PRIVATE_DATA: Range<usize> = 134..265;
+const AUXILIARY: Range<usize> = 265..293;
+const BONDING: Range<usize> = 293..298;
 
 /// Where the parts of a composer's state start. What the last header announced
 /// is laid out as in a setting, from its slot_allocation_type on.
-const ANNOUNCED: Range<usize> = 5..85;
-const IS_OPEN: usize = 85;
-const OPEN_SETTING: Range<usize> = 86..338;
-const FILLED: Range<usize> = 338..390;
+pub const ANNOUNCED: Range<usize> = 5..85;
+pub const IS_OPEN: usize = 85;
+pub const OPEN_SETTING: Range<usize> = 86..384;
+pub const FILLED: Range<usize> = 384..436;
 /// Announced bytes, as they stand in a setting.
 const ANNOUNCED_IN_SETTING: Range<usize> = 2..82;
 
 /// Where the slot numbers of a receiver's state stand, two a byte.
-const NUMBERS: Range<usize> = 6..32;
-const NUMBERS_BEFORE: Range<usize> = 32..58;
+pub const NUMBERS: Range<usize> = 6..32;
+pub const NUMBERS_BEFORE: Range<usize> = 32..58;
+
+/// Where every state has its kind.
+pub const KIND: usize = 2;
 
 pub fn kind_of(byte: u8) -> Option<Kind> {
     match byte {
         0 => Some(Kind::Plain),
         1 => Some(Kind::Extended),
+        2 => Some(Kind::Short),
         _ => None,
     }
 }
@@ -46,12 +50,20 @@ pub fn kind_byte(kind: Kind) -> u8 {
     match kind {
         Kind::Plain => 0,
         Kind::Extended => 1,
+        Kind::Short => 2,
     }
 }
 
 /// The header PID in front of a state.
 pub fn state_pid(state: &[u8]) -> u16 {
     sixteen(state, 0)
+}
+
+/// The size of a state's frames: by its kind, and by the plain one where that
+/// is no value.
+pub fn state_size(state: &[u8]) -> Size {
+    let kind = state.get(KIND).and_then(|&kind| kind_of(kind));
+    kind.unwrap_or(Kind::Plain).size()
 }
 
 fn sixteen(bytes: &[u8], at: usize) -> u16 {
@@ -151,7 +163,7 @@ pub fn composer_of(bytes: &[u8; COMPOSER_BYTES]) -> Option<Composer> {
     let setting = setting_of(&array(&bytes[OPEN_SETTING]));
     Some(Composer {
         pid: state_pid(bytes),
-        kind: kind_of(bytes[2])?,
+        kind: kind_of(bytes[KIND])?,
         continuity_counter: bytes[3],
         version_number: bytes[4],
         announced: announced_of(&bytes[ANNOUNCED]),
@@ -171,7 +183,7 @@ fn mark_of(byte: u8) -> Option<bool> {
 pub fn composer_bytes(composer: &Composer) -> [u8; COMPOSER_BYTES] {
     let mut bytes = [0; COMPOSER_BYTES];
     put_sixteen(&mut bytes, 0, composer.pid);
-    bytes[2] = kind_byte(composer.kind);
+    bytes[KIND] = kind_byte(composer.kind);
     bytes[3] = composer.continuity_counter;
     bytes[4] = composer.version_number;
     put_announced(&mut bytes[ANNOUNCED], &composer.announced);
@@ -225,7 +237,7 @@ fn put_halves(bytes: &mut [u8], numbers: &[u8; SLOTS]) {
 pub fn receiver_bytes(receiver: &Receiver) -> [u8; RECEIVER_BYTES] {
     let mut bytes = [0; RECEIVER_BYTES];
     put_sixteen(&mut bytes, 0, receiver.pid);
-    bytes[2] = kind_byte(receiver.kind);
+    bytes[KIND] = kind_byte(receiver.kind);
     bytes[3..6].copy_from_slice(&match receiver.standing {
         Standing::Waiting => [0, 0, 0],
         Standing::Open {

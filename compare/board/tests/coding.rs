@@ -2,8 +2,8 @@
 //! are told.
 
 use board::coding::{
-    composer_bytes, composer_of, receiver_bytes, receiver_of, setting_bytes, setting_of,
-    COMPOSER_BYTES, RECEIVER_BYTES, SETTING_BYTES,
+    composer_bytes, composer_of, kind_byte, kind_of, receiver_bytes, receiver_of, setting_bytes,
+    setting_of, state_size, COMPOSER_BYTES, FILLED, IS_OPEN, KIND, RECEIVER_BYTES, SETTING_BYTES,
 };
 use board::random::Random;
 use reference::{Composer, Kind, Receiver, Setting, Standing};
@@ -17,9 +17,9 @@ fn drawn<const N: usize>(random: &mut Random) -> [u8; N] {
 /// Any bytes of a state, its kind and marks being values.
 fn drawn_composer(random: &mut Random, is_open: bool) -> [u8; COMPOSER_BYTES] {
     let mut bytes = drawn::<COMPOSER_BYTES>(random);
-    bytes[2] %= 2;
-    bytes[85] = is_open.into();
-    for mark in &mut bytes[338..] {
+    bytes[KIND] %= 3;
+    bytes[IS_OPEN] = is_open.into();
+    for mark in &mut bytes[FILLED] {
         *mark %= 2;
     }
     bytes
@@ -27,7 +27,7 @@ fn drawn_composer(random: &mut Random, is_open: bool) -> [u8; COMPOSER_BYTES] {
 
 fn drawn_receiver(random: &mut Random, stage: u8) -> [u8; RECEIVER_BYTES] {
     let mut bytes = drawn::<RECEIVER_BYTES>(random);
-    bytes[2] %= 2;
+    bytes[KIND] %= 3;
     bytes[3] = stage;
     if stage == 0 {
         bytes[4] = 0;
@@ -58,7 +58,7 @@ fn states_of_composers() {
         let mut closed = drawn_composer(&mut random, false);
         let composer = composer_of(&closed).unwrap();
         assert_eq!(composer.open, None);
-        closed[86..].fill(0);
+        closed[IS_OPEN + 1..].fill(0);
         assert_eq!(composer_bytes(&composer), closed);
     }
 }
@@ -79,16 +79,17 @@ fn bytes_that_are_no_value() {
     let mut random = Random::new(4);
     for value in 2..=u8::MAX {
         for is_open in [false, true] {
-            for place in [2, 85, 338, 360, 389] {
+            for place in [KIND, IS_OPEN, 384, 424, 435] {
                 let mut bytes = drawn_composer(&mut random, is_open);
                 bytes[place] = value;
-                assert_eq!(composer_of(&bytes), None);
+                let is_value = place == KIND && value == 2;
+                assert_eq!(composer_of(&bytes).is_some(), is_value);
             }
         }
         for stage in [0, 1, 2] {
             let mut bytes = drawn_receiver(&mut random, stage);
-            bytes[2] = value;
-            assert_eq!(receiver_of(&bytes), None);
+            bytes[KIND] = value;
+            assert_eq!(receiver_of(&bytes).is_some(), value == 2);
         }
         let mut bytes = drawn_receiver(&mut random, 1);
         bytes[3] = value.max(3);
@@ -109,13 +110,34 @@ fn zeros_where_zeros_are_said() {
 /// By the words of niranbok.h: 15 and 7 before the first header.
 #[test]
 fn fresh_states() {
-    let (_, composer) = Composer::start(0x1234, Kind::Extended);
-    let mut expected = [0; COMPOSER_BYTES];
-    expected[..5].copy_from_slice(&[0x12, 0x34, 1, 15, 7]);
-    assert_eq!(composer_bytes(&composer), expected);
-    let (_, receiver) = Receiver::start(0x1234, Kind::Extended);
-    let mut expected = [0; RECEIVER_BYTES];
-    expected[..3].copy_from_slice(&[0x12, 0x34, 1]);
-    assert_eq!(receiver_bytes(&receiver), expected);
-    assert_eq!(receiver.standing, Standing::Waiting);
+    for (number, kind) in [Kind::Plain, Kind::Extended, Kind::Short]
+        .into_iter()
+        .enumerate()
+    {
+        let number = number as u8;
+        let (_, composer) = Composer::start(0x1234, kind);
+        let mut expected = [0; COMPOSER_BYTES];
+        expected[..5].copy_from_slice(&[0x12, 0x34, number, 15, 7]);
+        assert_eq!(composer_bytes(&composer), expected);
+        let (_, receiver) = Receiver::start(0x1234, kind);
+        let mut expected = [0; RECEIVER_BYTES];
+        expected[..3].copy_from_slice(&[0x12, 0x34, number]);
+        assert_eq!(receiver_bytes(&receiver), expected);
+        assert_eq!(receiver.standing, Standing::Waiting);
+    }
+}
+
+/// Where the kind is no value, lengths are those of plain headers.
+#[test]
+fn kinds_and_their_sizes() {
+    for number in 0..=u8::MAX {
+        let kind = kind_of(number);
+        assert_eq!(kind.map(kind_byte), (number <= 2).then_some(number));
+        let size = state_size(&[0x12, 0x34, number]);
+        let frame = if number == 2 { 7708 } else { 9964 };
+        assert_eq!(
+            (size.frame_bytes(), size.store_bytes()),
+            (frame, frame - 188)
+        );
+    }
 }

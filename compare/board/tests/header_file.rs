@@ -1,8 +1,8 @@
 //! What this package says of niranbok.h, held against the file.
 
-use board::coding::{setting_bytes, COMPOSER_BYTES, RECEIVER_BYTES, SETTING_BYTES};
+use board::coding::{kind_byte, setting_bytes, COMPOSER_BYTES, RECEIVER_BYTES, SETTING_BYTES};
 use board::judge::{CALLS, EVENTS};
-use reference::{Setting, FRAME_BYTES, PACKET_BYTES, STORE_BYTES};
+use reference::{Kind, Setting, FRAME_BYTES, PACKET_BYTES, STORE_BYTES};
 
 const HEADER: &str = include_str!("../../../include/niranbok.h");
 
@@ -39,9 +39,28 @@ fn lengths() {
     assert_eq!(defined("PACKET_BYTES"), PACKET_BYTES);
     assert_eq!(defined("FRAME_BYTES"), FRAME_BYTES);
     assert_eq!(defined("STORE_BYTES"), STORE_BYTES);
+    let short = Kind::Short.size();
+    assert_eq!(defined("SHORT_FRAME_BYTES"), short.frame_bytes());
+    assert_eq!(defined("SHORT_STORE_BYTES"), short.store_bytes());
+    let private_data = Kind::Plain.private_data_bytes();
+    assert_eq!(defined("PRIVATE_DATA_BYTES"), private_data);
+    let private_data = Kind::Short.private_data_bytes();
+    assert_eq!(defined("SHORT_PRIVATE_DATA_BYTES"), private_data);
     assert_eq!(defined("SETTING_BYTES"), SETTING_BYTES);
     assert_eq!(defined("COMPOSER_BYTES"), COMPOSER_BYTES);
     assert_eq!(defined("RECEIVER_BYTES"), RECEIVER_BYTES);
+}
+
+#[test]
+fn kinds() {
+    let kinds = [
+        ("PLAIN", Kind::Plain),
+        ("EXTENDED", Kind::Extended),
+        ("SHORT_FRAME", Kind::Short),
+    ];
+    for (name, kind) in kinds {
+        assert_eq!(defined(name), kind_byte(kind).into());
+    }
 }
 
 #[test]
@@ -67,7 +86,7 @@ const FIELDS: [(&str, usize, Set); 17] = [
     ("RECEIVE_STATUS", 14, |s| s.receive_status[14] = 7),
     ("EMERGENCY_INDICATOR", 0, |s| s.emergency_indicator = 7),
     ("RELATIVE_TS_NUMBER", 51, |s| s.relative_ts_number[51] = 7),
-    ("PRIVATE_DATA", 84, |s| s.private_data[84] = 7),
+    ("PRIVATE_DATA", 130, |s| s.private_data[130] = 7),
     ("AUXILIARY", 27, |s| s.auxiliary[27] = 7),
     ("GROUP_ID", 0, |s| s.group_id = 7),
     ("NUMBER_OF_CARRIERS", 0, |s| s.number_of_carriers = 7),

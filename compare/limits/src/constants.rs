@@ -1,6 +1,6 @@
 //! The constants of niranbok.h.
 
-use crate::table::Row;
+use crate::table::{Kind, Row, KINDS};
 
 /// Names without `NIRANBOK_`, in small letters, and their numbers.
 pub struct Constants(Vec<(String, u64)>);
@@ -27,9 +27,8 @@ impl Constants {
             .iter()
             .filter_map(|(name, _)| name.strip_suffix("_first"));
         let whole = |name: &str| {
-            let kinds = ["_plain", "_extended"];
-            let cut = kinds.iter().find_map(|kind| name.strip_suffix(kind));
-            cut.unwrap_or(name).to_string()
+            let cut = |kind: &Kind| name.strip_suffix(kind.name)?.strip_suffix('_');
+            KINDS.iter().find_map(cut).unwrap_or(name).to_string()
         };
         fields.map(whole).collect()
     }
@@ -45,7 +44,7 @@ impl Constants {
 
     /// Where niranbok.h says something else of a value than the table does: by
     /// the field's range, if the kind has it, and by the refusals' names.
-    pub fn differ(&self, row: &Row, kind: &str, value: u64, refusal: u8) -> Option<String> {
+    pub fn differ(&self, row: &Row, kind: Kind, value: u64, refusal: u8) -> Option<String> {
         let name = &row.name;
         let refusals = || {
             self.0
@@ -55,7 +54,7 @@ impl Constants {
         if refusal != 0 && !refusals().any(|(_, number)| *number == u64::from(refusal)) {
             return Some(format!("{name}: niranbok.h has no refusal {refusal}"));
         }
-        let Some((first, last)) = self.range(name, kind) else {
+        let Some((first, last)) = self.range(name, kind.name) else {
             return Some(format!("{name}: niranbok.h has no range"));
         };
         // A field that this kind does not have holds zeros, which the table's row says.
@@ -63,6 +62,7 @@ impl Constants {
             return None;
         }
         let allowed = first <= value && value <= last;
+        let kind = kind.name;
         let said = || format!("{name} {value}, {kind}: niranbok.h allows {first} to {last}");
         (allowed != (refusal == 0)).then(said)
     }

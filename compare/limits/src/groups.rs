@@ -2,7 +2,7 @@
 //! on their way to a receiver.
 
 use crate::settings::{good, set};
-use crate::table::Table;
+use crate::table::{Kind, Table, EXTENDED};
 use board::archive;
 use reference::Asked;
 
@@ -21,7 +21,7 @@ pub fn group(table: &Table, carriers: u8, pid: u16) -> Vec<u8> {
     let mut group = Vec::new();
     for sequence in 1..=carriers {
         for position in 1..=3 {
-            let mut setting = good(table, 1);
+            let mut setting = good(table, EXTENDED);
             set(
                 table,
                 &mut setting,
@@ -34,7 +34,8 @@ pub fn group(table: &Table, carriers: u8, pid: u16) -> Vec<u8> {
             set(table, &mut setting, "frame_position", 0, position);
             let mut frame = table.zeros("frame");
             let packet = table.zeros("packet").len();
-            let refusal = archive::header_write(&mut frame[..packet], pid, 1, &setting);
+            let header = &mut frame[..packet];
+            let refusal = archive::header_write(header, pid, EXTENDED.number, &setting);
             assert_eq!(refusal, 0, "a header of a group");
             group.extend(frame);
         }
@@ -43,9 +44,10 @@ pub fn group(table: &Table, carriers: u8, pid: u16) -> Vec<u8> {
 }
 
 /// A composer's state with an open frame, and the frame.
-pub fn open_frame(table: &Table, kind: u8, pid: u16) -> (Vec<u8>, Vec<u8>) {
-    let (mut state, mut frame) = (table.zeros("composer"), table.zeros("frame"));
-    assert_eq!(archive::composer_start(&mut state, pid, kind), 0, "a start");
+pub fn open_frame(table: &Table, kind: Kind, pid: u16) -> (Vec<u8>, Vec<u8>) {
+    let (mut state, mut frame) = (table.zeros("composer"), table.zeros_of(kind, "frame"));
+    let refusal = archive::composer_start(&mut state, pid, kind.number);
+    assert_eq!(refusal, 0, "a start");
     let setting = good(table, kind);
     let refusal = archive::composer_begin(&mut state, &mut frame, &setting);
     assert_eq!(refusal, 0, "a begin");
@@ -53,17 +55,19 @@ pub fn open_frame(table: &Table, kind: u8, pid: u16) -> (Vec<u8>, Vec<u8>) {
 }
 
 /// A receiver's state with a ready frame, and its store.
-pub fn ready_frame(table: &Table, kind: u8, pid: u16) -> (Vec<u8>, Vec<u8>) {
+pub fn ready_frame(table: &Table, kind: Kind, pid: u16) -> (Vec<u8>, Vec<u8>) {
     let (mut composer, mut frame) = open_frame(table, kind, pid);
-    let (mut state, mut store) = (table.zeros("receiver"), table.zeros("store"));
-    assert_eq!(archive::receiver_start(&mut state, pid, kind), 0, "a start");
+    let (mut state, mut store) = (table.zeros("receiver"), table.zeros_of(kind, "store"));
+    let refusal = archive::receiver_start(&mut state, pid, kind.number);
+    assert_eq!(refusal, 0, "a start");
+    let first_and_header = table.last(kind, "slot") + 2;
     let packet = table.zeros("packet").len();
     let mut events = Vec::new();
     for _ in 0..2 {
         assert_eq!(archive::composer_close(&mut composer, &mut frame), 0);
         for packet in frame.chunks(packet) {
             events.push(archive::receiver_receive(&mut state, packet, &mut store));
-            if events.len() == 54 {
+            if events.len() == first_and_header {
                 break;
             }
         }

@@ -16,10 +16,10 @@ mod table;
 use constants::Constants;
 use std::process::ExitCode;
 use std::{env, fs, io};
-use table::{Range, Row, Table};
+use table::{Kind, Range, Row, Table, EXTENDED, KINDS};
 
-/// The kinds of headers, with their numbers in niranbok.h.
-const KINDS: [(&str, u8); 2] = [("plain", 0), ("extended", 1)];
+/// What is set where a kind has no place for it, or between two values.
+const OUT_OF_RANGE: u8 = 17;
 
 /// What was tried, and what differed.
 #[derive(Default)]
@@ -62,9 +62,10 @@ fn missing(table: &Table, constants: &Constants) -> Vec<String> {
 }
 
 /// The values of a field of so many bytes that tell a range from others.
-fn values(row: &Row, range: &Range, largest: u64) -> Vec<u64> {
-    let around = [range.first, range.last, row.up_to].into_iter();
+fn values(row: &Row, range: &Range, step: u64, largest: u64) -> Vec<u64> {
+    let around = [range.first, range.last, row.up_to, step, range.last + step];
     let mut values: Vec<u64> = around
+        .into_iter()
         .flat_map(|n| [n.saturating_sub(1), n, n + 1])
         .chain([0, largest])
         .filter(|&n| n <= largest)
@@ -80,28 +81,57 @@ fn try_row(row: &Row, table: &Table, constants: &Constants, tally: &mut Tally) {
         tally.faults.push(fault);
         return;
     };
-    for (kind, number) in KINDS {
-        let Some(range) = row.of(kind) else {
+    for kind in KINDS {
+        match row.of(kind) {
+            Some(range) => try_range(row, kind, range, largest, table, constants, tally),
             // A group has extended headers alone.
-            if (row.name.as_str(), kind) != ("carriers", "plain") {
-                let fault = format!("{}: limits prints nothing for {kind} headers", row.name);
+            None if row.name == "carriers" && kind != EXTENDED => (),
+            None => {
+                let (name, kind) = (&row.name, kind.name);
+                let fault = format!("{name}: limits prints nothing for {kind} headers");
                 tally.faults.push(fault);
             }
-            continue;
+        }
+    }
+}
+
+/// All values of a field in a kind of header. A value that the kind has no place
+/// for has to be 0.
+fn try_range(
+    row: &Row,
+    kind: Kind,
+    range: &Range,
+    largest: u64,
+    table: &Table,
+    constants: &Constants,
+    tally: &mut Tally,
+) {
+    let name = &row.name;
+    let step = table.step(kind, name);
+    for value in values(row, range, step, largest) {
+        let is_inside = range.first < value && value < range.last;
+        let is_between = is_inside && !value.is_multiple_of(step);
+        let expected = match is_between {
+            true => OUT_OF_RANGE,
+            false => row.refusal(range, value),
         };
-        for value in values(row, range, largest) {
-            let expected = row.refusal(range, value);
-            if let Some(fault) = constants.differ(row, kind, value, expected) {
-                tally.faults.push(fault);
-            }
-            for (call, answer) in calls::answers(table, &row.name, number, value) {
-                tally.tried += 1;
-                if answer != expected {
-                    let name = &row.name;
-                    tally.faults.push(format!(
-                        "{name} {value}, {kind}: {call} answers {answer}, limits prints {expected}"
-                    ));
-                }
+        if !is_between {
+            tally
+                .faults
+                .extend(constants.differ(row, kind, value, expected));
+        }
+        for (call, answer, is_reached) in calls::answers(table, name, kind, value) {
+            let expected = match is_reached {
+                true => expected,
+                false if value == 0 => 0,
+                false => OUT_OF_RANGE,
+            };
+            tally.tried += 1;
+            if answer != expected {
+                let kind = kind.name;
+                tally.faults.push(format!(
+                    "{name} {value}, {kind}: {call} answers {answer}, expected {expected}"
+                ));
             }
         }
     }

@@ -1,20 +1,24 @@
 //! Settings that the calls accept, in the bytes of niranbok.h, and one field of
 //! them set.
 
-use crate::table::{Place, Table};
+use crate::table::{Kind, Place, Table, EXTENDED, SHORT};
 
 /// A setting of a kind that breaks no rule, with all streams available and none
 /// in a slot: each field may then take any value of its range by itself.
-pub fn good(table: &Table, kind: u8) -> Vec<u8> {
+pub fn good(table: &Table, kind: Kind) -> Vec<u8> {
     let mut setting = table.zeros("setting");
-    set(table, &mut setting, "frame_type", 0, 1);
-    set(table, &mut setting, "availability", 0, 0x7FFF);
-    for stream in 0..15 {
+    let (frame_type, availability, streams) = match kind {
+        SHORT => (3, 0x7F00, 7),
+        _ => (1, 0x7FFF, 15),
+    };
+    set(table, &mut setting, "frame_type", 0, frame_type);
+    set(table, &mut setting, "availability", 0, availability);
+    for stream in 0..streams {
         set(table, &mut setting, "ts_id", stream, 100 + stream as u64);
         let network = 200 + stream as u64;
         set(table, &mut setting, "original_network_id", stream, network);
     }
-    if kind == 1 {
+    if kind == EXTENDED {
         set(table, &mut setting, "number_of_carriers", 0, 8);
         set(table, &mut setting, "carrier_sequence", 0, 1);
         set(table, &mut setting, "number_of_frames", 0, 4);

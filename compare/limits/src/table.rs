@@ -18,21 +18,35 @@ impl Range {
     }
 }
 
+/// A kind of header: its name and its number in niranbok.h.
+#[derive(Clone, Copy, PartialEq, Eq)]
+pub struct Kind {
+    pub name: &'static str,
+    pub number: u8,
+}
+
+pub const PLAIN: Kind = kind("plain", 0);
+pub const EXTENDED: Kind = kind("extended", 1);
+pub const SHORT: Kind = kind("short", 2);
+
+/// In the order of the columns, which is that of their numbers.
+pub const KINDS: [Kind; 3] = [PLAIN, EXTENDED, SHORT];
+
+const fn kind(name: &'static str, number: u8) -> Kind {
+    Kind { name, number }
+}
+
 /// A line `field`.
 pub struct Row {
     pub name: String,
-    pub plain: Option<Range>,
-    pub extended: Option<Range>,
+    ranges: Vec<Option<Range>>,
     pub up_to: u64,
     above: u8,
 }
 
 impl Row {
-    pub fn of(&self, kind: &str) -> Option<&Range> {
-        match kind {
-            "plain" => self.plain.as_ref(),
-            _ => self.extended.as_ref(),
-        }
+    pub fn of(&self, kind: Kind) -> Option<&Range> {
+        self.ranges[usize::from(kind.number)].as_ref()
     }
 
     /// The number that a value gets, by the line.
@@ -84,9 +98,52 @@ impl Table {
 
     /// Zeros for what has this length.
     pub fn zeros(&self, name: &str) -> Vec<u8> {
+        vec![0; self.length(name)]
+    }
+
+    /// The same for what is shorter in the short kind.
+    pub fn zeros_of(&self, kind: Kind, name: &str) -> Vec<u8> {
+        vec![0; self.length_of(kind, name)]
+    }
+
+    fn length(&self, name: &str) -> usize {
         let length = self.lengths.iter().find(|(named, _)| named == name);
         let (_, bytes) = length.unwrap_or_else(|| panic!("limits prints no length {name}"));
-        vec![0; *bytes]
+        *bytes
+    }
+
+    fn length_of(&self, kind: Kind, name: &str) -> usize {
+        match kind {
+            SHORT => self.length(&format!("short_{name}")),
+            _ => self.length(name),
+        }
+    }
+
+    /// How many streams or slots a kind has.
+    pub fn last(&self, kind: Kind, name: &str) -> usize {
+        let row = self.rows.iter().find(|row| row.name == name);
+        let range = row.and_then(|row| row.of(kind));
+        let range = range.unwrap_or_else(|| panic!("limits prints no {name}"));
+        range.last as usize
+    }
+
+    /// How many of a setting's values of a field a kind has. Those behind are 0.
+    pub fn reach(&self, kind: Kind, place: &Place) -> usize {
+        match place.name.as_str() {
+            "ts_id" | "original_network_id" | "receive_status" => self.last(kind, "stream"),
+            "relative_ts_number" => self.last(kind, "slot"),
+            "private_data" if kind != EXTENDED => self.length_of(kind, "private_data"),
+            _ => place.bytes,
+        }
+    }
+
+    /// What the values of a field are multiples of. An availability has no bits
+    /// behind the last stream's, and stream r's is bit 15 - r.
+    pub fn step(&self, kind: Kind, name: &str) -> u64 {
+        match name {
+            "availability" => 1 << (15 - self.last(kind, "stream")),
+            _ => 1,
+        }
     }
 }
 
@@ -96,13 +153,14 @@ fn number<N: std::str::FromStr>(word: &str) -> N {
 }
 
 fn row(name: &str, columns: &[&str]) -> Row {
-    let [plain @ .., e0, e1, e2, up_to, above] = columns else {
+    let [ranges @ .., up_to, above] = columns else {
         panic!("field {name} has {} columns", columns.len());
     };
+    let ranges: Vec<Option<Range>> = ranges.chunks(3).map(range).collect();
+    assert_eq!(ranges.len(), KINDS.len(), "ranges of field {name}");
     Row {
         name: name.into(),
-        plain: range(plain),
-        extended: range(&[e0, e1, e2]),
+        ranges,
         up_to: number(up_to),
         above: number(above),
     }

@@ -1,22 +1,21 @@
 //! The fixed numbers of J.183's Appendix I and of the extended header.
 
+use crate::size::Size;
 use std::ops::Range;
 
 /// A header fills one slot, and a slot has the size of a packet.
 pub const PACKET_BYTES: usize = 188;
-/// M, the streams that one frame can carry.
-pub const STREAMS: usize = 15;
-/// N - 1, the slots behind the header's own.
-pub const SLOTS: usize = 52;
-/// What Appendix I leaves for private_data.
-pub const PRIVATE_DATA_BYTES: usize = 85;
+/// The most streams and slots that a frame has; a setting has room for them.
+pub const STREAMS: usize = Size::LARGE.streams;
+pub const SLOTS: usize = Size::LARGE.slots;
+/// The most that is left for private_data, in a short header.
+pub const PRIVATE_DATA_BYTES: usize = 131;
 /// The auxiliary information at the front of an extended header's private data.
 pub const AUXILIARY_BYTES: usize = 28;
 
-/// The header's slot and those behind it.
-pub const FRAME_BYTES: usize = (1 + SLOTS) * PACKET_BYTES;
-/// What a receiver keeps: the slots behind the header's.
-pub const STORE_BYTES: usize = SLOTS * PACKET_BYTES;
+/// Frame and store of plain and extended headers.
+pub const FRAME_BYTES: usize = Size::LARGE.frame_bytes();
+pub const STORE_BYTES: usize = Size::LARGE.store_bytes();
 
 /// The continuity counter and the version begin again at 0 behind these.
 pub const LAST_COUNTER: u8 = 15;
@@ -29,12 +28,7 @@ pub const BEFORE_COUNTER: u8 = 0b0001 << 4;
 pub const THIRTEEN_BITS: u16 = 0x1FFF;
 pub const TSMF_SYNC: u16 = 0x1A86;
 
-/// Where the larger parts of a header stand.
-pub const IDENTIFIERS: Range<usize> = 9..69;
-pub const CONTROL: Range<usize> = 69..73;
-pub const SLOT_NUMBERS: Range<usize> = 73..99;
-pub const PRIVATE_DATA: Range<usize> = 99..184;
-/// Those of an extended header, in the place of private data.
+/// Where the parts of an extended header stand, in the place of private data.
 pub const AUXILIARY: Range<usize> = 99..127;
 pub const BONDING: Range<usize> = 127..131;
 pub const RESERVED: Range<usize> = 131..184;

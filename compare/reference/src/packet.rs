@@ -11,7 +11,7 @@ const NULL_PACKET: [u8; PACKET_BYTES] = {
     packet
 };
 
-/// Slots 1 to 52 of a frame that nothing was put into.
+/// The slots of a frame that nothing was put into, for any kind at the front.
 pub static NULL_PACKETS: [u8; STORE_BYTES] = {
     let mut packets = [0; STORE_BYTES];
     let mut byte = 0;

@@ -2,9 +2,10 @@
 
 use crate::crc::crc32;
 use crate::layout::{
-    AUXILIARY, BEFORE_COUNTER, BONDING, CONTROL, IDENTIFIERS, PACKET_BYTES, PRIVATE_DATA,
-    SLOT_NUMBERS, STREAMS, SYNC_BYTE, THIRTEEN_BITS, TSMF_SYNC, UNDER_CRC,
+    AUXILIARY, BEFORE_COUNTER, BONDING, PACKET_BYTES, SYNC_BYTE, THIRTEEN_BITS, TSMF_SYNC,
+    UNDER_CRC,
 };
+use crate::numbers::unpack;
 use crate::packet::{found_pid, sixteen};
 use crate::rules::{content, header_pid, unless, Checked};
 use crate::setting::{Kind, Setting};
@@ -16,7 +17,7 @@ pub fn read(packet: &[u8], pid: u16, kind: Kind) -> Result<Setting, u8> {
     fixed_bits(packet, pid)?;
     // Behind its own CRC the register is zero.
     unless(crc32(&packet[UNDER_CRC.start..]) == 0, 7)?;
-    let setting = fields(packet, kind);
+    let setting = by_kind!(kind, kind => fields(packet, kind));
     content(kind, &setting)?;
     Ok(setting)
 }
@@ -30,45 +31,49 @@ fn fixed_bits(packet: &[u8; PACKET_BYTES], pid: u16) -> Checked {
     unless(sixteen(packet, 4) & THIRTEEN_BITS == TSMF_SYNC, 6)
 }
 
+#[inline(always)]
 fn fields(packet: &[u8; PACKET_BYTES], kind: Kind) -> Setting {
+    let size = kind.size();
+    let control = &packet[size.control()];
     let mut setting = Setting {
         continuity_counter: packet[3] & 0x0F,
         version_number: packet[6] >> 5,
         slot_allocation_type: packet[6] >> 4 & 1,
         frame_type: packet[6] & 0x0F,
-        availability: sixteen(packet, 7) >> 1,
-        emergency_indicator: packet[CONTROL.end - 1] & 1,
+        availability: sixteen(packet, size.availability().start) >> 1 & size.all_available(),
+        emergency_indicator: control[control.len() - 1] & 1,
+        relative_ts_number: unpack(&packet[size.slot_numbers()], size),
         ..Setting::ZEROS
     };
-    identifiers(&packet[IDENTIFIERS], &mut setting);
-    receive_status(&packet[CONTROL], &mut setting);
-    slot_numbers(&packet[SLOT_NUMBERS], &mut setting);
-    match kind {
-        Kind::Plain => setting.private_data.copy_from_slice(&packet[PRIVATE_DATA]),
-        Kind::Extended => extension(packet, &mut setting),
+    identifiers(&packet[size.identifiers()], &mut setting);
+    receive_status(control, &mut setting.receive_status[..size.streams]);
+    if kind == Kind::Extended {
+        extension(packet, &mut setting);
+    } else {
+        let private_data = &packet[size.private_data()];
+        setting.private_data[..private_data.len()].copy_from_slice(private_data);
     }
     setting
 }
 
+#[inline(always)]
 fn identifiers(bytes: &[u8], setting: &mut Setting) {
     let (pairs, _) = bytes.as_chunks::<4>();
-    for (stream, &[a, b, c, d]) in pairs.iter().enumerate().take(STREAMS) {
-        setting.ts_id[stream] = u16::from_be_bytes([a, b]);
-        setting.original_network_id[stream] = u16::from_be_bytes([c, d]);
+    let ids = setting
+        .ts_id
+        .iter_mut()
+        .zip(&mut setting.original_network_id);
+    for ((ts_id, network), &[a, b, c, d]) in ids.zip(pairs) {
+        *ts_id = u16::from_be_bytes([a, b]);
+        *network = u16::from_be_bytes([c, d]);
     }
 }
 
 /// Four statuses a byte; the last two bits of all are not one.
-fn receive_status(bytes: &[u8], setting: &mut Setting) {
-    for (stream, status) in setting.receive_status.iter_mut().enumerate() {
+#[inline(always)]
+fn receive_status(bytes: &[u8], statuses: &mut [u8]) {
+    for (stream, status) in statuses.iter_mut().enumerate() {
         *status = bytes[stream / 4] >> (6 - 2 * (stream % 4)) & 3;
-    }
-}
-
-fn slot_numbers(bytes: &[u8], setting: &mut Setting) {
-    let (twos, _) = setting.relative_ts_number.as_chunks_mut::<2>();
-    for (two, byte) in twos.iter_mut().zip(bytes) {
-        *two = [byte >> 4, byte & 0x0F];
     }
 }
 

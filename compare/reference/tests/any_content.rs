@@ -5,9 +5,7 @@ mod common;
 
 use common::frames::{ordinary, run};
 use common::{good, Random, KINDS, PID};
-use reference::{
-    Announced, Composer, Kind, OpenFrame, Receiver, Setting, Standing, FRAME_BYTES, STORE_BYTES,
-};
+use reference::{Announced, Composer, Kind, OpenFrame, Receiver, Setting, Standing};
 
 const ROUNDS: usize = 4000;
 
@@ -20,7 +18,7 @@ fn often(random: &mut Random, right: usize) -> usize {
 }
 
 fn kind(random: &mut Random) -> Kind {
-    KINDS[random.below(2) as usize]
+    KINDS[random.below(KINDS.len() as u64) as usize]
 }
 
 /// A good setting, in which now and then one field has any value.
@@ -32,12 +30,13 @@ fn setting(random: &mut Random, kind: Kind) -> Setting {
         1 => setting.version_number = value,
         2 => setting.frame_type = value,
         3 => setting.availability = random.below(1 << 16) as u16,
-        4 => setting.receive_status[3] = value,
-        5 => setting.relative_ts_number[9] = value,
-        6 => setting.private_data[9] = value,
+        4 => setting.receive_status[random.below(15) as usize] = value,
+        5 => setting.relative_ts_number[random.below(52) as usize] = value,
+        6 => setting.private_data[random.below(131) as usize] = value,
         7 => setting.auxiliary[9] = value,
         8 => setting.frame_position = value,
         9 => setting.number_of_carriers = value,
+        10 => setting.ts_id[random.below(15) as usize] = value.into(),
         _ => (),
     }
     setting
@@ -99,7 +98,8 @@ fn composers() {
     for _ in 0..ROUNDS {
         let state = composer(&mut random);
         let setting = setting(&mut random, state.kind);
-        let frame = vec![0xA5; often(&mut random, FRAME_BYTES)];
+        let fixed = state.kind.size().frame_bytes();
+        let frame = vec![0xA5; often(&mut random, fixed)];
         let number = random.byte(17);
         let stream = streams(&mut random);
         let calls: [ComposerCall; 3] = [
@@ -122,7 +122,7 @@ fn receiver(random: &mut Random) -> Receiver {
         0 => Standing::Waiting,
         1 => Standing::Open {
             continuity_counter,
-            stored: often(random, 52),
+            stored: often(random, kind.size().slots),
         },
         _ => Standing::Ready { continuity_counter },
     };
@@ -160,7 +160,8 @@ fn receivers() {
     let mut accepted = [0; 2];
     for _ in 0..ROUNDS {
         let state = receiver(&mut random);
-        let store = vec![0x5A; often(&mut random, STORE_BYTES)];
+        let fixed = state.kind.size().store_bytes();
+        let store = vec![0x5A; often(&mut random, fixed)];
         let packet = vec![random.byte(256); often(&mut random, 188)];
         accepted[0] += usize::from(receives(&state, &store, &packet));
         let number = random.byte(17);

@@ -2,9 +2,9 @@
 
 mod common;
 
-use common::frames::{ordinary, run, stream, ten_slots};
+use common::frames::{any_frame, ordinary, run, stream, ten_slots};
 use common::{good, Random, KINDS, PID};
-use reference::{read, Composer, Kind, OpenFrame, Setting, FRAME_BYTES};
+use reference::{read, Composer, Kind, OpenFrame, Setting};
 
 fn null() -> Vec<u8> {
     [&[0x47, 0x1F, 0xFF, 0x10][..], &[0xFF; 184]].concat()
@@ -12,7 +12,7 @@ fn null() -> Vec<u8> {
 
 fn begun(kind: Kind, setting: &Setting) -> (Composer, Vec<u8>) {
     let mut composer = run(kind);
-    let mut frame = vec![0xA5; FRAME_BYTES];
+    let mut frame = any_frame(kind);
     assert_eq!(composer.begin(&mut frame, setting), Ok(()));
     (composer, frame)
 }
@@ -23,7 +23,7 @@ fn begin_writes_null_packets_and_no_header() {
         let setting = ten_slots(kind);
         let (composer, frame) = begun(kind, &setting);
         assert_eq!(frame[..188], [0xA5; 188]);
-        assert_eq!(frame[188..], null().repeat(52));
+        assert_eq!(frame[188..], null().repeat(kind.size().slots));
         let filled = [false; 52];
         assert_eq!(composer.open, Some(OpenFrame { setting, filled }));
     }
@@ -31,20 +31,23 @@ fn begin_writes_null_packets_and_no_header() {
 
 #[test]
 fn put_fills_in_rising_order() {
-    let mut setting = ten_slots(Kind::Plain);
-    setting.relative_ts_number = [0; 52];
-    for slot in [2, 7, 52] {
-        setting.relative_ts_number[slot - 1] = 1;
+    for kind in KINDS {
+        let last = kind.size().slots;
+        let mut setting = ten_slots(kind);
+        setting.relative_ts_number = [0; 52];
+        for slot in [2, 7, last] {
+            setting.relative_ts_number[slot - 1] = 1;
+        }
+        let (mut composer, mut frame) = begun(kind, &setting);
+        let lent: Vec<u8> = (0..5).flat_map(ordinary).collect();
+        let put = composer.put(&mut frame, 1, &lent);
+        assert_eq!((put.placed, put.rest), (Ok(3), &lent[3 * 188..]));
+        let mut expected = [vec![0xA5; 188], null().repeat(last)].concat();
+        for (number, slot) in [2, 7, last].into_iter().enumerate() {
+            expected[188 * slot..][..188].copy_from_slice(&ordinary(number));
+        }
+        assert_eq!(frame, expected);
     }
-    let (mut composer, mut frame) = begun(Kind::Plain, &setting);
-    let lent: Vec<u8> = (0..5).flat_map(ordinary).collect();
-    let put = composer.put(&mut frame, 1, &lent);
-    assert_eq!((put.placed, put.rest), (Ok(3), &lent[3 * 188..]));
-    let mut expected = [vec![0xA5; 188], null().repeat(52)].concat();
-    for (number, slot) in [2, 7, 52].into_iter().enumerate() {
-        expected[188 * slot..][..188].copy_from_slice(&ordinary(number));
-    }
-    assert_eq!(frame, expected);
 }
 
 #[test]
@@ -66,8 +69,9 @@ fn put_of_nothing_or_into_nothing() {
 fn pieces_equal_the_whole() {
     let mut random = Random(11);
     for round in 0..200 {
-        let setting = good(&mut random, KINDS[round % 2]);
-        let (mut whole, mut frame) = begun(KINDS[round % 2], &setting);
+        let kind = KINDS[round % KINDS.len()];
+        let setting = good(&mut random, kind);
+        let (mut whole, mut frame) = begun(kind, &setting);
         let (mut pieces, mut other) = (whole.clone(), frame.clone());
         for r in (1..=15).filter(|&r| setting.is_available(r)) {
             let packets = random.below(9) as usize;
@@ -93,7 +97,7 @@ fn pieces_equal_the_whole() {
 fn close_writes_the_header_alone() {
     let mut random = Random(12);
     for round in 0..100 {
-        let kind = KINDS[round % 2];
+        let kind = KINDS[round % KINDS.len()];
         let setting = good(&mut random, kind);
         let (mut composer, mut frame) = begun(kind, &setting);
         for r in (1..=15).filter(|&r| setting.is_available(r)) {
@@ -117,7 +121,7 @@ fn close_writes_the_header_alone() {
 
 /// Counter and version of the next header, for a setting without packets.
 fn closed(composer: &mut Composer, setting: &Setting) -> (u8, u8) {
-    let mut frame = vec![0; FRAME_BYTES];
+    let mut frame = any_frame(composer.kind);
     assert_eq!(composer.begin(&mut frame, setting), Ok(()));
     assert_eq!(composer.close(&mut frame), Ok(()));
     let header = read(&frame[..188], composer.pid, composer.kind).unwrap();
@@ -176,7 +180,7 @@ fn an_abandoned_frame_raises_nothing() {
     assert_eq!(closed(&mut composer, &setting), (0, 0));
     let mut other = setting.clone();
     other.emergency_indicator = 1;
-    let mut frame = vec![0; FRAME_BYTES];
+    let mut frame = any_frame(Kind::Plain);
     assert_eq!(composer.begin(&mut frame, &other), Ok(()));
     composer.put(&mut frame, 1, &ordinary(0));
     assert_eq!(composer.begin(&mut frame, &setting), Ok(()));

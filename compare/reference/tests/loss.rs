@@ -14,7 +14,7 @@ const MOST_IN_A_ROW: u64 = 15;
 struct Sent {
     frame: Vec<u8>,
     header_arrives: bool,
-    /// All of the 52 packets arrive as they were sent.
+    /// All packets behind the header arrive as they were sent.
     is_whole: bool,
     packets: Vec<Vec<u8>>,
 }
@@ -24,12 +24,13 @@ struct Sent {
 fn send(random: &mut Random, frame: Vec<u8>, header_may_go: bool) -> Sent {
     let mut packets: Vec<Vec<u8>> = frame.chunks_exact(188).map(<[u8]>::to_vec).collect();
     let header_goes = header_may_go && random.below(3) == 0;
+    let (half, end) = (packets.len().div_ceil(2), packets.len());
     let (from, to) = match random.below(6) {
-        0 => (1, 53),
-        1 => (1, 27),
-        2 => (27, 53),
+        0 => (1, end),
+        1 => (1, half),
+        2 => (half, end),
         3 => {
-            let from = 1 + random.below(52) as usize;
+            let from = 1 + random.below(end as u64 - 1) as usize;
             (from, from + 1)
         }
         _ => (1, 1),
@@ -77,8 +78,9 @@ fn expected(sent: &[Sent], kind: Kind) -> Vec<Vec<u8>> {
     for two in sent.windows(2) {
         if two[0].header_arrives && two[0].is_whole && two[1].header_arrives {
             let header = read(&two[0].frame[..188], PID, kind).unwrap();
-            for (slot, number) in (1..).zip(header.relative_ts_number) {
-                out[usize::from(number)].extend(&two[0].frame[188 * slot..][..188]);
+            let slots = two[0].frame[188..].chunks_exact(188);
+            for (packet, number) in slots.zip(header.relative_ts_number) {
+                out[usize::from(number)].extend(packet);
             }
         }
     }
@@ -90,7 +92,7 @@ fn received(sent: &[Sent], kind: Kind) -> Vec<Vec<u8>> {
     let mut out = vec![Vec::new(); 16];
     for packet in sent.iter().flat_map(|sent| &sent.packets) {
         if lent.receive(packet) == Event::Ready {
-            for r in 1..=15 {
+            for r in 1..=kind.size().streams as u8 {
                 out[usize::from(r)].extend(lent.handed_out(r));
             }
         }
@@ -101,8 +103,8 @@ fn received(sent: &[Sent], kind: Kind) -> Vec<Vec<u8>> {
 #[test]
 fn whole_frames_come_out_and_nothing_else() {
     let mut random = Random(31);
-    for round in 0..60 {
-        let kind = KINDS[round % 2];
+    for round in 0..90 {
+        let kind = KINDS[round % KINDS.len()];
         let sent = send_run(&mut random, kind, 60);
         let (expected, received) = (expected(&sent, kind), received(&sent, kind));
         assert!(expected[1..].iter().any(|packets| !packets.is_empty()));
@@ -112,9 +114,9 @@ fn whole_frames_come_out_and_nothing_else() {
 
 /// Frames 0 to 20, of which some are lost whole from frame 2 on: to a receiver
 /// frame 1 stands directly before the header behind them.
-fn with_headers_lost(lost: usize) -> Vec<Sent> {
-    let mut random = Random(32);
-    let mut composer = run(Kind::Plain);
+fn with_headers_lost(kind: Kind, lost: usize) -> Vec<Sent> {
+    let mut random = Random(33);
+    let mut composer = run(kind);
     let mut sent = Vec::new();
     for number in 0..21 {
         let frame = drawn_frame(&mut random, &mut composer);
@@ -132,17 +134,21 @@ fn with_headers_lost(lost: usize) -> Vec<Sent> {
 
 #[test]
 fn fifteen_headers_in_a_row() {
-    for lost in 0..=15 {
-        let sent = with_headers_lost(lost);
-        let (expected, received) = (expected(&sent, Kind::Plain), received(&sent, Kind::Plain));
-        assert_eq!(expected[1..], received[1..]);
+    for kind in KINDS {
+        for lost in 0..=15 {
+            let sent = with_headers_lost(kind, lost);
+            let (expected, received) = (expected(&sent, kind), received(&sent, kind));
+            assert_eq!(expected[1..], received[1..]);
+        }
     }
 }
 
 /// Why it is fifteen: behind sixteen the counter steps by 1 again.
 #[test]
 fn sixteen_headers_in_a_row() {
-    let sent = with_headers_lost(16);
-    let (expected, received) = (expected(&sent, Kind::Plain), received(&sent, Kind::Plain));
-    assert_ne!(expected[1..], received[1..]);
+    for kind in KINDS {
+        let sent = with_headers_lost(kind, 16);
+        let (expected, received) = (expected(&sent, kind), received(&sent, kind));
+        assert_ne!(expected[1..], received[1..]);
+    }
 }

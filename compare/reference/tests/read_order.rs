@@ -6,19 +6,25 @@ use common::{header, least, make_crc_right, KINDS, PID};
 use reference::{read, Kind};
 
 /// For a refusal: a byte of the least header, and the bits to flip in it.
-const UNDER_CRC: [(u8, usize, u8); 5] = [
-    (6, 5, 0x01),
-    (8, 6, 0x02),
-    (9, 98, 0x0F),
-    (10, 7, 0x60),
-    (11, 130, 0x05),
-];
+fn under_crc(kind: Kind) -> [(u8, usize, u8); 5] {
+    let last_slot = match kind {
+        Kind::Plain | Kind::Extended => (9, 98, 0x0F),
+        Kind::Short => (9, 52, 0x07),
+    };
+    [
+        (6, 5, 0x01),
+        (8, 6, 0x02),
+        last_slot,
+        (10, 7, 0x60),
+        (11, 130, 0x05),
+    ]
+}
 /// The same for the CRC itself and the packet_header.
 const BESIDES: [(u8, usize, u8); 4] = [(7, 187, 0x01), (3, 0, 0x01), (4, 2, 0x01), (5, 3, 0x20)];
 
 fn spoilt(kind: Kind, refusals: &[u8]) -> [u8; 188] {
     let mut packet = header(kind, &least(kind));
-    for (refusal, byte, bits) in UNDER_CRC {
+    for (refusal, byte, bits) in under_crc(kind) {
         if refusals.contains(&refusal) {
             packet[byte] ^= bits;
         }
@@ -42,7 +48,7 @@ fn answer(kind: Kind, refusals: &[u8]) -> Option<u8> {
 #[test]
 fn earlier_refusals_answer() {
     for kind in KINDS {
-        let last = if kind == Kind::Plain { 10 } else { 11 };
+        let last = if kind == Kind::Extended { 11 } else { 10 };
         for first in 1..=last {
             for second in first..=last {
                 assert_eq!(answer(kind, &[first, second]), Some(first));

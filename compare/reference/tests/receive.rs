@@ -4,7 +4,7 @@ mod common;
 
 use common::frames::{counted_header, drawn_frame, ordinary, run, Lent};
 use common::{Random, KINDS, PID};
-use reference::{read, Event, Kind, Standing, STORE_BYTES};
+use reference::{read, Event, Kind, Standing};
 
 /// A frame's packets of a stream, by its own header.
 fn placed(frame: &[u8], kind: Kind, relative_ts_number: u8) -> Vec<u8> {
@@ -31,7 +31,7 @@ fn a_run_without_loss_comes_out_packet_for_packet() {
                 None => assert_eq!(event, Event::Opened),
                 Some(before) => {
                     assert_eq!(event, Event::Ready);
-                    for r in 1..=15 {
+                    for r in 1..=kind.size().streams as u8 {
                         assert_eq!(lent.handed_out(r), placed(&before, kind, r));
                     }
                 }
@@ -46,31 +46,34 @@ fn a_run_without_loss_comes_out_packet_for_packet() {
 }
 
 /// A receiver that has opened a frame and stored so many packets.
-fn opened(stored: usize) -> Lent {
-    let mut lent = Lent::new(Kind::Plain);
-    lent.receive(&counted_header(7));
+fn opened(kind: Kind, stored: usize) -> Lent {
+    let mut lent = Lent::new(kind);
+    lent.receive(&counted_header(kind, 7));
     for number in 0..stored {
         lent.receive(&ordinary(number));
     }
     lent
 }
 
-fn spoilt_header() -> [u8; 188] {
-    let mut packet = counted_header(8);
+fn spoilt_header(kind: Kind) -> [u8; 188] {
+    let mut packet = counted_header(kind, 8);
     packet[100] ^= 1;
     packet
 }
 
 #[test]
 fn while_waiting_only_a_good_header_counts() {
-    let mut lent = Lent::new(Kind::Plain);
-    for packet in [&ordinary(0), &spoilt_header(), &[0; 188]] {
-        let before = lent.receiver.clone();
-        assert_eq!(lent.receive(packet), Event::Nothing);
-        assert_eq!(lent.receiver, before);
+    for kind in KINDS {
+        let mut lent = Lent::new(kind);
+        let store = lent.store.clone();
+        for packet in [&ordinary(0), &spoilt_header(kind), &[0; 188]] {
+            let before = lent.receiver.clone();
+            assert_eq!(lent.receive(packet), Event::Nothing);
+            assert_eq!(lent.receiver, before);
+        }
+        assert_eq!(lent.store, store);
+        assert_eq!(lent.receive(&counted_header(kind, 7)), Event::Opened);
     }
-    assert_eq!(lent.store, vec![0xA5; STORE_BYTES]);
-    assert_eq!(lent.receive(&counted_header(7)), Event::Opened);
 }
 
 /// A header PID behind other bits than 000 is a header's all the same.
@@ -79,13 +82,16 @@ fn broken_packets_drop_the_frame() {
     let mut with_bits = ordinary(0);
     let [high, low] = PID.to_be_bytes();
     with_bits[1..3].copy_from_slice(&[0x40 | high, low]);
-    for stored in [0, 1, 51, 52] {
-        for packet in [&spoilt_header(), &with_bits, &[0; 188]] {
-            let mut lent = opened(stored);
-            let store = lent.store.clone();
-            assert_eq!(lent.receive(packet), Event::Broken);
-            assert_eq!(lent.receiver.standing, Standing::Waiting);
-            assert_eq!(lent.store, store);
+    for kind in KINDS {
+        let slots = kind.size().slots;
+        for stored in [0, 1, slots - 1, slots] {
+            for packet in [&spoilt_header(kind), &with_bits, &[0; 188]] {
+                let mut lent = opened(kind, stored);
+                let store = lent.store.clone();
+                assert_eq!(lent.receive(packet), Event::Broken);
+                assert_eq!(lent.receiver.standing, Standing::Waiting);
+                assert_eq!(lent.store, store);
+            }
         }
     }
 }
@@ -93,41 +99,45 @@ fn broken_packets_drop_the_frame() {
 /// One packet is written, and every other byte of the store stays.
 #[test]
 fn packets_are_stored_slot_by_slot() {
-    for stored in 0..52 {
-        let mut lent = opened(stored);
-        let mut expected = lent.store.clone();
-        expected[188 * stored..][..188].copy_from_slice(&ordinary(99));
-        assert_eq!(lent.receive(&ordinary(99)), Event::Stored);
-        assert_eq!(lent.store, expected);
+    for kind in KINDS {
+        for stored in 0..kind.size().slots {
+            let mut lent = opened(kind, stored);
+            let mut expected = lent.store.clone();
+            expected[188 * stored..][..188].copy_from_slice(&ordinary(99));
+            assert_eq!(lent.receive(&ordinary(99)), Event::Stored);
+            assert_eq!(lent.store, expected);
+        }
     }
 }
 
-fn ready() -> Lent {
-    let mut lent = opened(52);
-    assert_eq!(lent.receive(&counted_header(8)), Event::Ready);
+fn ready(kind: Kind) -> Lent {
+    let mut lent = opened(kind, kind.size().slots);
+    assert_eq!(lent.receive(&counted_header(kind, 8)), Event::Ready);
     lent
 }
 
 fn hand_out_answer(lent: &Lent) -> Result<usize, u8> {
     lent.receiver
-        .hand_out(&lent.store, 1, &mut vec![0; STORE_BYTES])
+        .hand_out(&lent.store, 1, &mut vec![0; 10 * 188])
 }
 
 /// Each of the packets that may come behind ends it; a refused call does not.
 #[test]
 fn a_ready_frame_stays_until_the_next_accepted_packet() {
-    let behind = [
-        (&ordinary(99)[..], Event::Stored),
-        (&counted_header(9), Event::Short),
-        (&spoilt_header(), Event::Broken),
-    ];
-    for (packet, event) in behind {
-        let mut lent = ready();
-        assert_eq!(lent.receiver.receive(&mut lent.store, &[]), Err(1));
-        assert_eq!(hand_out_answer(&lent), Ok(10));
-        assert_eq!(hand_out_answer(&lent), Ok(10));
-        assert_eq!(lent.receive(packet), event);
-        assert_eq!(hand_out_answer(&lent), Err(16));
+    for kind in KINDS {
+        let behind = [
+            (&ordinary(99)[..], Event::Stored),
+            (&counted_header(kind, 9), Event::Short),
+            (&spoilt_header(kind), Event::Broken),
+        ];
+        for (packet, event) in behind {
+            let mut lent = ready(kind);
+            assert_eq!(lent.receiver.receive(&mut lent.store, &[]), Err(1));
+            assert_eq!(hand_out_answer(&lent), Ok(10));
+            assert_eq!(hand_out_answer(&lent), Ok(10));
+            assert_eq!(lent.receive(packet), event);
+            assert_eq!(hand_out_answer(&lent), Err(16));
+        }
     }
 }
 
@@ -135,14 +145,15 @@ fn a_ready_frame_stays_until_the_next_accepted_packet() {
 /// counter and slot numbers.
 #[test]
 fn a_header_behind_a_dropped_frame_opens_the_next() {
-    for counter in [7, 8, 9] {
-        for stored in [0, 51, 52] {
-            let mut lent = opened(stored);
-            lent.receive(&counted_header(counter));
-            for number in 0..52 {
+    for kind in KINDS {
+        let slots = kind.size().slots;
+        for (counter, stored) in [(7, 0), (8, 0), (7, slots), (8, slots), (9, slots - 1)] {
+            let mut lent = opened(kind, stored);
+            lent.receive(&counted_header(kind, counter));
+            for number in 0..slots {
                 assert_eq!(lent.receive(&ordinary(number)), Event::Stored);
             }
-            let event = lent.receive(&counted_header(counter + 1));
+            let event = lent.receive(&counted_header(kind, counter + 1));
             assert_eq!(event, Event::Ready);
         }
     }

@@ -5,7 +5,7 @@ mod common;
 
 use common::frames::{counted_header, ordinary, receiver, Lent};
 use common::KINDS;
-use reference::{Event, Kind, Receiver, Standing, STORE_BYTES};
+use reference::{Event, Kind, Receiver, Standing};
 
 /// All that the calls are given.
 struct Call {
@@ -18,7 +18,7 @@ struct Call {
 
 type Fault = (u8, fn(&mut Call));
 
-const STORE: Fault = (1, |call| call.store.truncate(STORE_BYTES - 1));
+const STORE: Fault = (1, |call| call.store.truncate(call.store.len() - 1));
 const STATE_PID: Fault = (2, |call| call.state.pid = 15);
 const STATE_NUMBER: Fault = (17, |call| call.state.relative_ts_number[51] = 16);
 
@@ -39,13 +39,13 @@ const HAND_OUT: [Fault; 6] = [
 ];
 
 /// A frame is ready in whose first ten slots stream 1 stands.
-fn good_call() -> Call {
-    let mut lent = Lent::new(Kind::Plain);
-    lent.receive(&counted_header(15));
-    for number in 0..52 {
+fn good_call(kind: Kind) -> Call {
+    let mut lent = Lent::new(kind);
+    lent.receive(&counted_header(kind, 15));
+    for number in 0..kind.size().slots {
         lent.receive(&ordinary(number));
     }
-    assert_eq!(lent.receive(&counted_header(0)), Event::Ready);
+    assert_eq!(lent.receive(&counted_header(kind, 0)), Event::Ready);
     Call {
         state: lent.receiver,
         store: lent.store,
@@ -55,8 +55,8 @@ fn good_call() -> Call {
     }
 }
 
-fn answer(faults: &[Fault], make: fn(&mut Call) -> u8) -> u8 {
-    let mut call = good_call();
+fn answer(kind: Kind, faults: &[Fault], make: fn(&mut Call) -> u8) -> u8 {
+    let mut call = good_call(kind);
     for (_, spoil) in faults.iter().rev() {
         spoil(&mut call);
     }
@@ -68,12 +68,14 @@ fn answer(faults: &[Fault], make: fn(&mut Call) -> u8) -> u8 {
 }
 
 fn check_order(faults: &[Fault], make: fn(&mut Call) -> u8) {
-    assert_eq!(answer(&[], make), 0);
-    for (place, &first) in faults.iter().enumerate() {
-        for &second in &faults[place..] {
-            assert_eq!(answer(&[first, second], make), first.0);
+    for kind in KINDS {
+        assert_eq!(answer(kind, &[], make), 0);
+        for (place, &first) in faults.iter().enumerate() {
+            for &second in &faults[place..] {
+                assert_eq!(answer(kind, &[first, second], make), first.0);
+            }
+            assert_eq!(answer(kind, &faults[place..], make), first.0);
         }
-        assert_eq!(answer(&faults[place..], make), first.0);
     }
 }
 
@@ -108,70 +110,96 @@ fn start() {
     }
 }
 
-fn answers_to(change: impl Fn(&mut Receiver)) -> [u8; 2] {
-    let mut call = good_call();
+fn answers_to(kind: Kind, change: impl Fn(&mut Receiver)) -> [u8; 2] {
+    let mut call = good_call(kind);
     change(&mut call.state);
     let out = call.state.hand_out(&call.store, 1, &mut call.buffer);
     let received = call.state.receive(&mut call.store, &call.packet);
     [received.err(), out.err()].map(|refusal| refusal.unwrap_or(0))
 }
 
-fn answers_when(standing: Standing) -> [u8; 2] {
-    answers_to(|state| state.standing = standing)
+fn open(continuity_counter: u8, stored: usize) -> Standing {
+    Standing::Open {
+        continuity_counter,
+        stored,
+    }
 }
 
 #[test]
 fn state_numbers_out_of_range() {
-    let open = |continuity_counter, stored| Standing::Open {
-        continuity_counter,
-        stored,
-    };
     let ready = |continuity_counter| Standing::Ready { continuity_counter };
-    assert_eq!(answers_when(ready(15)), [0, 0]);
-    assert_eq!(answers_when(ready(16)), [17, 17]);
-    assert_eq!(answers_when(open(15, 52)), [0, 16]);
-    assert_eq!(answers_when(open(16, 52)), [17, 17]);
-    assert_eq!(answers_when(open(15, 53)), [17, 17]);
-    assert_eq!(answers_when(open(0, usize::MAX)), [17, 17]);
-    assert_eq!(answers_to(|s| s.relative_ts_number[0] = 16), [17, 17]);
-    let before = |s: &mut Receiver| s.relative_ts_number_before[51] = 16;
-    assert_eq!(answers_to(before), [17, 17]);
-    let waiting = |s: &mut Receiver| {
-        before(s);
-        s.standing = Standing::Waiting;
-    };
-    assert_eq!(answers_to(waiting), [17, 17]);
+    for kind in KINDS {
+        let slots = kind.size().slots;
+        let answers = |standing| answers_to(kind, |state| state.standing = standing);
+        assert_eq!(answers(ready(15)), [0, 0]);
+        assert_eq!(answers(ready(16)), [17, 17]);
+        assert_eq!(answers(open(15, slots)), [0, 16]);
+        assert_eq!(answers(open(16, slots)), [17, 17]);
+        assert_eq!(answers(open(15, slots + 1)), [17, 17]);
+        assert_eq!(answers(open(0, usize::MAX)), [17, 17]);
+    }
+}
+
+/// In both lists, whether or not a frame is ready.
+#[test]
+fn slot_numbers_out_of_range() {
+    for kind in KINDS {
+        let size = kind.size();
+        for slot in 1..=52 {
+            let last = if slot <= size.slots { size.streams } else { 0 };
+            for number in [last, last + 1] {
+                let fits = number == last;
+                let set = |numbers: &mut [u8; 52]| numbers[slot - 1] = number as u8;
+                let now = answers_to(kind, |s| set(&mut s.relative_ts_number));
+                let before = answers_to(kind, |s| set(&mut s.relative_ts_number_before));
+                let waiting = answers_to(kind, |s| {
+                    set(&mut s.relative_ts_number_before);
+                    s.standing = Standing::Waiting;
+                });
+                let expected = if fits { [0, 0] } else { [17, 17] };
+                assert_eq!((now, before), (expected, expected), "slot {slot}");
+                assert_eq!(waiting, if fits { [0, 16] } else { [17, 17] });
+            }
+        }
+    }
 }
 
 #[test]
 fn lengths_and_numbers_besides() {
-    let call = good_call();
-    for length in [0, 188, STORE_BYTES + 188] {
-        let mut store = vec![0xA5; length];
-        let received = call.state.clone().receive(&mut store, &call.packet);
-        assert_eq!(received, Err(1));
-        assert_eq!(call.state.hand_out(&store, 1, &mut [0; 1880]), Err(1));
-    }
-    for length in [0, 189, 376] {
-        let mut store = call.store.clone();
-        let received = call.state.clone().receive(&mut store, &vec![0x47; length]);
-        assert_eq!((received, store), (Err(1), call.store.clone()));
-    }
-    for number in [0, 16, 255] {
-        let out = call.state.hand_out(&call.store, number, &mut [0; 1880]);
-        assert_eq!(out, Err(17));
+    for kind in KINDS {
+        let call = good_call(kind);
+        let fixed = call.store.len();
+        for length in [0, 188, fixed + 188, 9776 + 7520 - fixed] {
+            let mut store = vec![0xA5; length];
+            let received = call.state.clone().receive(&mut store, &call.packet);
+            assert_eq!(received, Err(1));
+            assert_eq!(call.state.hand_out(&store, 1, &mut [0; 1880]), Err(1));
+        }
+        for length in [0, 189, 376] {
+            let mut store = call.store.clone();
+            let received = call.state.clone().receive(&mut store, &vec![0x47; length]);
+            assert_eq!((received, store), (Err(1), call.store.clone()));
+        }
+        let last = kind.size().streams as u8;
+        for number in [0, last + 1, 16, 255] {
+            let out = call.state.hand_out(&call.store, number, &mut [0; 1880]);
+            assert_eq!(out, Err(17));
+        }
+        assert_eq!(call.state.hand_out(&call.store, last, &mut []), Ok(0));
     }
 }
 
 /// A stream that the frame lacks needs no room.
 #[test]
 fn room() {
-    let call = good_call();
-    let mut buffer = [0xA5; 2000];
-    let out = call.state.hand_out(&call.store, 2, &mut []);
-    assert_eq!(out, Ok(0));
-    let out = call.state.hand_out(&call.store, 1, &mut buffer);
-    assert_eq!(out, Ok(10));
-    assert_eq!(buffer[..1880], call.store[..1880]);
-    assert_eq!(buffer[1880..], [0xA5; 120]);
+    for kind in KINDS {
+        let call = good_call(kind);
+        let mut buffer = [0xA5; 2000];
+        let out = call.state.hand_out(&call.store, 2, &mut []);
+        assert_eq!(out, Ok(0));
+        let out = call.state.hand_out(&call.store, 1, &mut buffer);
+        assert_eq!(out, Ok(10));
+        assert_eq!(buffer[..1880], call.store[..1880]);
+        assert_eq!(buffer[1880..], [0xA5; 120]);
+    }
 }

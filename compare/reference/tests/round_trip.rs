@@ -1,13 +1,13 @@
 mod common;
 
-use common::{good, header, least, make_crc_right, Random, KINDS, PID};
+use common::{good, header, least, make_crc_right, reserved_bytes, Random, KINDS, PID};
 use reference::{crc32, read, write, Kind};
 
 #[test]
 fn settings_are_read_back_equal() {
     let mut random = Random(1);
     for round in 0..4000 {
-        let kind = KINDS[round % 2];
+        let kind = KINDS[round % KINDS.len()];
         let setting = good(&mut random, kind);
         let packet = header(kind, &setting);
         assert_eq!(crc32(&packet[4..]), 0);
@@ -60,9 +60,10 @@ fn reserved_bits_are_ignored() {
     for kind in KINDS {
         let setting = good(&mut random, kind);
         let mut packet = header(kind, &setting);
+        let [availability, control] = reserved_bytes(kind);
         packet[4] &= 0x1F;
-        packet[8] &= 0xFE;
-        packet[72] &= 0xFD;
+        packet[availability] &= 0xFE;
+        packet[control] &= 0xFD;
         if kind == Kind::Extended {
             packet[131..184].fill(0);
         }
@@ -74,17 +75,18 @@ fn reserved_bits_are_ignored() {
 
 /// The bit before it is reserved: written as 1, and read as either.
 #[test]
-fn emergency_is_the_last_bit_of_byte_72() {
+fn emergency_is_the_last_bit_of_its_byte() {
     let mut random = Random(4);
     for kind in KINDS {
         let mut setting = good(&mut random, kind);
         let mut packet = header(kind, &setting);
+        let [_, byte] = reserved_bytes(kind);
         for last in 0..4 {
-            packet[72] = packet[72] & 0xFC | last;
+            packet[byte] = packet[byte] & 0xFC | last;
             make_crc_right(&mut packet);
             setting.emergency_indicator = last & 1;
             assert_eq!(read(&packet, PID, kind).as_ref(), Ok(&setting));
-            assert_eq!(header(kind, &setting)[72], packet[72] | 2);
+            assert_eq!(header(kind, &setting)[byte], packet[byte] | 2);
         }
     }
 }
@@ -92,18 +94,20 @@ fn emergency_is_the_last_bit_of_byte_72() {
 /// Every bit outside the packet_header is under the CRC.
 #[test]
 fn one_flipped_bit_is_refused() {
-    let packet = header(Kind::Plain, &good(&mut Random(3), Kind::Plain));
-    for bit in 0..188 * 8 {
-        let mut spoilt = packet;
-        spoilt[bit / 8] ^= 0x80 >> (bit % 8);
-        let expected = match bit {
-            0..8 => Some(3),
-            11..24 => Some(4),
-            8..11 | 24..28 => Some(5),
-            28..32 => None,
-            35..48 => Some(6),
-            _ => Some(7),
-        };
-        assert_eq!(read(&spoilt, PID, Kind::Plain).err(), expected, "bit {bit}");
+    for kind in KINDS {
+        let packet = header(kind, &good(&mut Random(3), kind));
+        for bit in 0..188 * 8 {
+            let mut spoilt = packet;
+            spoilt[bit / 8] ^= 0x80 >> (bit % 8);
+            let expected = match bit {
+                0..8 => Some(3),
+                11..24 => Some(4),
+                8..11 | 24..28 => Some(5),
+                28..32 => None,
+                35..48 => Some(6),
+                _ => Some(7),
+            };
+            assert_eq!(read(&spoilt, PID, kind).err(), expected, "bit {bit}");
+        }
     }
 }

@@ -3,7 +3,7 @@
 use crate::streams::stream;
 use cases::drawn::make_available;
 use cases::generator::Generator;
-use reference::{Composer, Kind, Setting, FRAME_BYTES, PACKET_BYTES, SLOTS, STREAMS};
+use reference::{Composer, Kind, Setting, PACKET_BYTES};
 
 /// The identifiers of the streams. Each half alone comes twice.
 pub const PAIRS: [(u16, u16); 4] = [(1, 1), (1, 2), (2, 1), (0xFFFF, 0)];
@@ -19,8 +19,9 @@ pub struct Composed {
     pub streams: [Vec<u8>; PAIRS.len()],
 }
 
-pub fn compose(generator: &mut Generator, frames: usize, pid: u16) -> Composed {
-    let (_, mut composer) = Composer::start(pid, Kind::Plain);
+pub fn compose(generator: &mut Generator, kind: Kind, frames: usize, pid: u16) -> Composed {
+    let (_, mut composer) = Composer::start(pid, kind);
+    let frame_bytes = kind.size().frame_bytes();
     let mut composed = Composed {
         bytes: Vec::new(),
         streams: Default::default(),
@@ -28,10 +29,10 @@ pub fn compose(generator: &mut Generator, frames: usize, pid: u16) -> Composed {
     let mut numbers = [None; PAIRS.len()];
     for number in 0..=frames {
         if number.is_multiple_of(FRAMES_OF_A_VERSION) {
-            numbers = draw_numbers(generator);
+            numbers = draw_numbers(generator, kind);
         }
-        let setting = draw_setting(generator, &numbers);
-        let mut frame = vec![0; FRAME_BYTES];
+        let setting = draw_setting(generator, kind, &numbers);
+        let mut frame = vec![0; frame_bytes];
         composer.begin(&mut frame, &setting).expect("a setting");
         if number < frames {
             for (r, placed) in numbers.iter().zip(&mut composed.streams) {
@@ -46,34 +47,40 @@ pub fn compose(generator: &mut Generator, frames: usize, pid: u16) -> Composed {
         composer.close(&mut frame).expect("an open frame");
         composed.bytes.extend(frame);
     }
-    composed.bytes.truncate(FRAME_BYTES * frames + PACKET_BYTES);
+    composed.bytes.truncate(frame_bytes * frames + PACKET_BYTES);
     composed
 }
 
 /// A number for each pair, no two alike; one pair in eight has none.
-fn draw_numbers(generator: &mut Generator) -> [Option<u8>; PAIRS.len()] {
-    let first = generator.byte_below(STREAMS as u16);
+fn draw_numbers(generator: &mut Generator, kind: Kind) -> [Option<u8>; PAIRS.len()] {
+    let streams = kind.size().streams as u8;
+    let first = generator.byte_below(streams.into());
     std::array::from_fn(|pair| {
-        let number = (first + 4 * pair as u8) % STREAMS as u8 + 1;
+        let number = (first + 4 * pair as u8) % streams + 1;
         (generator.below(8) > 0).then_some(number)
     })
 }
 
 /// A setting in which the pairs have these numbers, with a drawn plan. All
 /// streams that are not available bear the first pair, which says nothing.
-fn draw_setting(generator: &mut Generator, numbers: &[Option<u8>; PAIRS.len()]) -> Setting {
+fn draw_setting(
+    generator: &mut Generator,
+    kind: Kind,
+    numbers: &[Option<u8>; PAIRS.len()],
+) -> Setting {
+    let size = kind.size();
     let mut setting = Setting {
-        frame_type: 1,
-        ts_id: [PAIRS[0].0; STREAMS],
-        original_network_id: [PAIRS[0].1; STREAMS],
+        frame_type: if kind == Kind::Short { 3 } else { 1 },
         ..Setting::ZEROS
     };
+    setting.ts_id[..size.streams].fill(PAIRS[0].0);
+    setting.original_network_id[..size.streams].fill(PAIRS[0].1);
     for (number, (ts_id, original_network_id)) in numbers.iter().zip(PAIRS) {
         if let Some(r) = *number {
             make_available(&mut setting, r.into(), ts_id, original_network_id);
         }
     }
-    for slot in 0..SLOTS {
+    for slot in 0..size.slots {
         let pair = usize::from(generator.below(PAIRS.len() as u16));
         setting.relative_ts_number[slot] = numbers[pair].unwrap_or(0);
     }

@@ -1,10 +1,15 @@
 //! What happens to packets on their way.
 
 use cases::generator::Generator;
-use reference::{null_packet, FRAME_BYTES, PACKET_BYTES};
+use reference::{null_packet, Kind, FRAME_BYTES, PACKET_BYTES};
 
-/// A frame's packets, its header first.
+/// A frame's packets, its header first, where the header is not short.
 pub const FRAME_PACKETS: usize = FRAME_BYTES / PACKET_BYTES;
+
+/// The same of each kind.
+pub fn frame_packets(kind: Kind) -> usize {
+    kind.size().frame_bytes() / PACKET_BYTES
+}
 
 /// The lot of one packet.
 #[derive(Clone, Copy, Debug, PartialEq, Eq)]
@@ -37,8 +42,8 @@ impl Lots {
     }
 
     /// One header in so many is spoiled, in any of its bytes.
-    pub fn spoil_headers(&mut self, generator: &mut Generator, one_in: u16) {
-        for old in self.0.iter_mut().step_by(FRAME_PACKETS) {
+    pub fn spoil_headers(&mut self, generator: &mut Generator, kind: Kind, one_in: u16) {
+        for old in self.0.iter_mut().step_by(frame_packets(kind)) {
             if generator.below(one_in) == 0 {
                 *old = Lot::Spoiled(generator.below(PACKET_BYTES as u16).into());
             }

@@ -1,5 +1,6 @@
 //! Running the programs in a folder of their own.
 
+use reference::Kind;
 use std::env;
 use std::ffi::OsStr;
 use std::fs::{self, File};
@@ -9,6 +10,15 @@ use std::path::{Path, PathBuf};
 use std::process::{id, Command, Stdio};
 use std::sync::atomic::{AtomicUsize, Ordering};
 use std::thread;
+
+/// The word in front of the others that says the kind, or none.
+pub fn option(kind: Kind) -> &'static str {
+    match kind {
+        Kind::Plain => "",
+        Kind::Extended => panic!("mux and demux have no extended headers"),
+        Kind::Short => "--short ",
+    }
+}
 
 /// What a program wrote.
 pub struct Said {

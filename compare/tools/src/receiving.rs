@@ -1,6 +1,6 @@
 //! Receiving with the reference.
 
-use reference::{read, Event, Kind, Receiver, Setting, PACKET_BYTES, STORE_BYTES};
+use reference::{read, Event, Kind, Receiver, Setting, PACKET_BYTES};
 use std::fmt;
 
 /// How often each event came that ends a frame.
@@ -84,7 +84,7 @@ pub struct Frame {
 
 impl Frame {
     pub fn packets(&self, choice: Choice) -> Vec<u8> {
-        let mut out = vec![0; STORE_BYTES];
+        let mut out = vec![0; self.store.len()];
         let packets = choice.number_in(&self.header).map_or(0, |r| {
             let handed = self.receiver.hand_out(&self.store, r, &mut out);
             handed.expect("a frame is ready and there is room")
@@ -112,7 +112,7 @@ impl Received {
 
 pub fn receive(bytes: &[u8], pid: u16, kind: Kind) -> Received {
     let (_, mut receiver) = Receiver::start(pid, kind);
-    let mut store = vec![0; STORE_BYTES];
+    let mut store = vec![0; kind.size().store_bytes()];
     let mut received = Received::default();
     for packet in bytes.chunks_exact(PACKET_BYTES) {
         let event = receiver.receive(&mut store, packet);

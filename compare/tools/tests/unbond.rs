@@ -151,13 +151,13 @@ fn packets_lost_from_all_carriers() {
 fn headers_spoiled() {
     for c in 0..PAIR.len() {
         let mut sent = Sent::new(18, &PAIR, 60);
-        sent.lots[c].spoil_headers(&mut Generator::new(19), 12);
+        sent.lots[c].spoil_headers(&mut Generator::new(19), Kind::Extended, 12);
         assert!((10..60).contains(&sent.check()));
     }
     let mut sent = Sent::new(20, &EIGHT, 30);
     let mut generator = Generator::new(21);
     for lots in &mut sent.lots {
-        lots.spoil_headers(&mut generator, 100);
+        lots.spoil_headers(&mut generator, Kind::Extended, 100);
         lots.some(&mut generator, 5000, Lot::Spoiled(0));
     }
     assert!((1..30).contains(&sent.check()));

@@ -12,7 +12,7 @@ use Rattle.slices.specs.Slices.{copied, anyBelow, Among}
 use Rattle.slices.proofs.Any.{any-no}
 use Rattle.setting.specs.declared.Kind.{Kind}
 use Rattle.setting.specs.declared.Setting.{Setting}
-use Rattle.counters.specs.Counters.{firstPosition}
+use Rattle.counters.specs.Counters.{lastSlot, firstPosition}
 use Rattle.setting.specs.Refusal.{Check, NoneHolds, none, more, firstOf}
 use Rattle.setting.specs.Rules.{ruleChecks}
 use Rattle.setting.proofs.Refusals.{first-none, none-at, none-append, none-before, none-behind}
@@ -52,7 +52,7 @@ module _ (b : Bond) (group : List ℕ) where
   bonded-member m l t =
       sorted-among (earlier group) m (picked (bonded b group) 0 (packetsIn group)) (picked-among (bonded b group) m 0 (packetsIn group) (omega arith) (omega arith) t)
 
-  pub order-within : length group % frameLength ≡ 0 → Within (order b group) group
+  pub order-within : length group % frameLength lastSlot ≡ 0 → Within (order b group) group
   order-within f m a = let l = member m a .0 in omega arith
 
 -- and of a well-formed one
@@ -90,7 +90,7 @@ module _ (b : Bond) (group g : List ℕ) (h : SameHeaders group g) where
   said-same j = ap (reading Kind.Extended) (h .header j)
 
   frames-same : framesIn g ≡ framesIn group
-  frames-same = ap (λ (n : ℕ). n / frameLength) (h .long)
+  frames-same = ap (λ (n : ℕ). n / frameLength lastSlot) (h .long)
 
   bonded-same : (m : ℕ) → bonded b g m ≡ bonded b group m
   unfolding bonded

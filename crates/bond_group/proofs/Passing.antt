@@ -7,7 +7,7 @@ use borrow.Author.Tests.{eqb-true, eqb-false, ne-eqb, not-false}
 use lib.Dec.{eqb}
 use lib.ListN.{length}
 use Rattle.slices.proofs.Any.{neither}
-use Rattle.counters.specs.Counters.{within, lastCarrier}
+use Rattle.counters.specs.Counters.{within, lastSlot, lastCarrier}
 use Rattle.setting.specs.Refusal.{NoneHolds, firstOf}
 use Rattle.setting.specs.Rules.{pidAllowed, ruleChecks, bondingChecks}
 use Rattle.setting.proofs.Refusals.{numbered-append, numbered, none-first, none-at, onward, at-once}
@@ -44,7 +44,7 @@ module _ (b : Bond) (group : List ℕ) where
 
 pub record Called (b : Bond) (group : ℕ) : Type 0 where
   pub some : group ≡ 0 → ⊥
-  pub frames : group % frameLength ≡ 0
+  pub frames : group % frameLength lastSlot ≡ 0
   pub pid : pidAllowed (b .pid) ≡ true
   pub one : 1 ≤ b .carriers
   pub few : b .carriers ≤ lastCarrier
@@ -56,7 +56,7 @@ called b group n =
     let c = not-false (within 1 lastCarrier (b .carriers)) (none-at n 2) in
     record {
       some = eqb-false group 0 (whole .0);
-      frames = eqb-true (group % frameLength) 0 (not-false _ (whole .1));
+      frames = eqb-true (group % frameLength lastSlot) 0 (not-false _ (whole .1));
       pid = not-false (pidAllowed (b .pid)) (none-at n 1);
       one = at-least 1 lastCarrier (b .carriers) c;
       few = at-most 1 lastCarrier (b .carriers) c;

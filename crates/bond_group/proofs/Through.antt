@@ -11,7 +11,7 @@ use lib.Dec.{eqb}
 use lib.ListN.{length, take, drop, length-drop}
 use lib.Seq.{length-take-le}
 use Rattle.setting.specs.declared.Kind.{Kind}
-use Rattle.counters.specs.Counters.{lastPosition, lastCarrier}
+use Rattle.counters.specs.Counters.{lastSlot, lastPosition, lastCarrier}
 use Rattle.setting.specs.Setting.{blank}
 use Rattle.setting.specs.Refusal.{Check, NoneHolds, firstOf}
 use Rattle.setting.specs.Rules.{pidAllowed, ruleChecks, bondingChecks}
@@ -102,13 +102,13 @@ module _ (b : Bond) (group : List ℕ) where
 
   -- the part of the buffer that is read
   abbrev pub part : ℕ → List ℕ
-  part j = take (frameLength * j + packetLength - frameLength * j) (drop (frameLength * j) group)
+  part j = take (frameLength lastSlot * j + packetLength - frameLength lastSlot * j) (drop (frameLength lastSlot * j) group)
 
   part-is : (j : ℕ) → part j ≡ slot (framePackets * j) group
   unfolding slot
   part-is j =
-      let n : frameLength * j + packetLength - frameLength * j ≡ packetLength = omega arith in
-      let a : frameLength * j ≡ packetLength * (framePackets * j) = omega arith in
+      let n : frameLength lastSlot * j + packetLength - frameLength lastSlot * j ≡ packetLength = omega arith in
+      let a : frameLength lastSlot * j ≡ packetLength * (framePackets * j) = omega arith in
       ap₂ (λ (x y : ℕ). take x (drop y group)) n a
 
   -- 3 to 11

@@ -6,7 +6,7 @@ use lib.Dec.{eqb}
 use lib.ListN.{length, getD}
 use Rattle.setting.specs.declared.Kind.{Kind}
 use Rattle.setting.specs.declared.Setting.{Setting}
-use Rattle.counters.specs.Counters.{lastStream, available}
+use Rattle.counters.specs.Counters.{lastSlot, lastStream, available}
 use Rattle.header_layout.specs.Header.{reading}
 use Rattle.packet.specs.Packets.{frameLength, slot}
 use Rattle.bond_group.specs.declared.Bond.{Bond}
@@ -14,7 +14,7 @@ use Rattle.bond_places.specs.Order.{framePackets, placeOf, Place, comesBefore, 
 
 -- how many frames a group holds, and how many packets
 abbrev pub framesIn : List ℕ → ℕ
-framesIn group = length group / frameLength
+framesIn group = length group / frameLength lastSlot
 
 abbrev pub packetsIn : List ℕ → ℕ
 packetsIn group = framePackets * framesIn group

@@ -7,7 +7,7 @@ use lib.ListN.{length}
 use Rattle.slices.specs.Slices.{anyBelow}
 use Rattle.setting.specs.declared.Kind.{Kind}
 use Rattle.setting.specs.declared.Setting.{Setting}
-use Rattle.counters.specs.Counters.{firstPosition, within, lastCarrier}
+use Rattle.counters.specs.Counters.{firstPosition, within, lastSlot, lastCarrier}
 use Rattle.setting.specs.Setting.{blank}
 use Rattle.setting.specs.Refusal.{Check}
 use Rattle.setting.specs.Rules.{pidAllowed, ruleChecks}
@@ -68,7 +68,7 @@ standingChecks carriers group-id behind h =
 -- 1, 2, 17: the group's length, the PID and the number of carriers
 unfoldable pub callChecks : Bond → ℕ → List Check
 callChecks b group =
-    (1, eqb group 0 || not (eqb (group % frameLength) 0))
+    (1, eqb group 0 || not (eqb (group % frameLength lastSlot) 0))
     ∷ (2, not (pidAllowed (b .pid)))
     ∷ (17, not (within 1 lastCarrier (b .carriers)))
     ∷ []

@@ -108,7 +108,7 @@ fn bonded_by(packet: &[u8], heard: Checked, b: Bond) -> Bonded
 {
     let number = number_of(
         &packet[header_layout::IDENTIFIERS..header_layout::CONTROL],
-        &packet[header_layout::NETWORK_ID..header_layout::CONTROL],
+        &packet[header_layout::IDENTIFIERS + 2..header_layout::CONTROL],
         heard.availability,
         b,
     );
@@ -272,7 +272,7 @@ pub(crate) fn refused(refusal: u8, frames: &mut [u8], slots: &mut [u64]) -> Head
 // Checks the headers of the group, one after another: each for 3 to 11 and then for 14, where its frame stands. At the end 14 again, for
 // missing frames. Writes each carrier's number of frames and the bonded slots of each frame, slot i in bit i, into what the caller lends.
 pub(crate) fn plan_of(group: &[u8], b: Bond, frames: &mut [u8], slots: &mut [u64]) -> Headers
-    requires { ⌜ (length (now group) % frameLength ≡ 0) × (pidAllowed (b .pid) ≡ true) ⌝ }
+    requires { ⌜ (length (now group) % frameLength lastSlot ≡ 0) × (pidAllowed (b .pid) ≡ true) ⌝ }
     requires { ⌜ (1 ≤ b .carriers) × (b .carriers ≤ lastCarrier) ⌝ }
     ensures { λ r. ⌜ r ≡ headersOf (plannedBy b (now (group .entry))) ⌝ }
     ensures { λ _. ⌜ now (frames .exit) ≡ copied (now (frames .entry)) (plannedBy b (now (group .entry)) .plan .frames) ⌝ }

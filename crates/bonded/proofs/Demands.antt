@@ -6,7 +6,10 @@ use mathlib.Core.List.{List, [], _∷_, _++_, map, flatten, append-nil, append-a
 use native.Mathlib.Omega.{arith}
 use lib.ListN.{length, getD, take, drop, take-append-drop}
 use lib.Seq.{drop-drop, drop-at, take-at}
+use Rattle.counters.specs.Counters.{lastSlot}
 use Rattle.setting.specs.declared.Kind.{Kind}
+use Rattle.setting.specs.Size.{sizeOf, slotsOf}
+use Rattle.counters.specs.Counters.{lastSlot}
 use Rattle.slices.specs.Slices.{Among, here, there}
 use Rattle.packet.specs.Packets.{packetLength, frameLength, slot, unfit}
 use Rattle.runs.specs.Runs.{Each, none, more}
@@ -17,6 +20,8 @@ use Rattle.runs.proofs.Lost.{Counted}
 use Rattle.runs.proofs.Values.{From, counted-front, counted-rest}
 use Rattle.runs.proofs.Demands.{run-stretch, tuned-fresh}
 use Rattle.setting_bytes.specs.Kinds.{kindOf}
+use Rattle.setting_bytes.proofs.KindsBack.{kind-back}
+use Rattle.receiver.specs.Store.{storeLength}
 use Rattle.bond_group.specs.declared.Bond.{Bond}
 use Rattle.bond_group.specs.Group.{packetsIn, bonded, order}
 use Rattle.bond.specs.Bonding.{spreadGroup, gatherOf, gatherBuffer}
@@ -68,21 +73,21 @@ module _ (b : Bond) (group stream : List ℕ) (w : WellFormed b group) (s : Fitt
 -- ---- carrier by carrier
 
 -- the frames of a buffer, with what stands behind them, are the buffer
-frames-flat : (n : ℕ) (bytes : List ℕ) → flatten (framesFrom n bytes) ++ drop (frameLength * n) bytes ≡ bytes
+frames-flat : (n : ℕ) (bytes : List ℕ) → flatten (framesFrom n bytes) ++ drop (frameLength lastSlot * n) bytes ≡ bytes
 unfolding framesFrom flatten
 frames-flat zero bytes = refl
 frames-flat (suc n) bytes =
-    let e : frameLength * suc n ≡ frameLength + frameLength * n = omega arith in
-    append-assoc (take frameLength bytes) (flatten (framesFrom n (drop frameLength bytes))) (drop (frameLength * suc n) bytes)
-    ∙ ap (λ (x : List ℕ). take frameLength bytes ++ (flatten (framesFrom n (drop frameLength bytes)) ++ x))
-    (ap (λ (k : ℕ). drop k bytes) e ∙ sym (drop-drop (frameLength * n) frameLength bytes))
-    ∙ ap (λ (x : List ℕ). take frameLength bytes ++ x) (frames-flat n (drop frameLength bytes)) ∙ take-append-drop frameLength bytes
+    let e : frameLength lastSlot * suc n ≡ frameLength lastSlot + frameLength lastSlot * n = omega arith in
+    append-assoc (take (frameLength lastSlot) bytes) (flatten (framesFrom n (drop (frameLength lastSlot) bytes))) (drop (frameLength lastSlot * suc n) bytes)
+    ∙ ap (λ (x : List ℕ). take (frameLength lastSlot) bytes ++ (flatten (framesFrom n (drop (frameLength lastSlot) bytes)) ++ x))
+    (ap (λ (k : ℕ). drop k bytes) e ∙ sym (drop-drop (frameLength lastSlot * n) (frameLength lastSlot) bytes))
+    ∙ ap (λ (x : List ℕ). take (frameLength lastSlot) bytes ++ x) (frames-flat n (drop (frameLength lastSlot) bytes)) ∙ take-append-drop (frameLength lastSlot) bytes
 
 -- as many as were asked for
 length-frames : (n : ℕ) (bytes : List ℕ) → length (framesFrom n bytes) ≡ n
 unfolding framesFrom
 length-frames zero bytes = refl
-length-frames (suc n) bytes = ap suc (length-frames n (drop frameLength bytes))
+length-frames (suc n) bytes = ap suc (length-frames n (drop (frameLength lastSlot) bytes))
 
 -- super frame k of the frames that were sent is what was sent of group k
 cut-over : (supers : List (List (List ℕ))) (bytes : ℕ → List ℕ) (k : ℕ) → k < length supers
@@ -94,7 +99,7 @@ cut-over (s ∷ ss) bytes (suc k) h =
     ap (cutAt ss k) (drop-at (framesFrom (length s) (bytes 0)) (framesOver ss (λ k. bytes (suc k))) (length s) (length-frames (length s) (bytes 0)))
     ∙ cut-over ss (λ k. bytes (suc k)) k (omega arith)
 
-module _ (kind : Kind) (pid : ℕ) where
+module _ (kind : Kind) (pid : ℕ) (slots : slotsOf kind ≡ lastSlot) where
   -- super frame k is a stretch of a run's frames
   counted-at : (n : ℕ) (supers : List (List (List ℕ))) (tail : List (List ℕ)) (k : ℕ) → k < length supers → Counted kind pid n (flatten supers ++ tail)
       → From kind pid (getD supers k [])
@@ -115,12 +120,20 @@ module _ (kind : Kind) (pid : ℕ) where
       let later : (m : ℕ) → Counted kind pid m (flatten ss ++ tail) → Counted kind pid m (framesOver ss (λ k. bytes (suc k)) ++ tail) = λ m d.
       counted-over m ss tail (λ k. bytes (suc k)) (λ k. rest (suc k)) d (λ k h. a (suc k) (omega arith)) in
       subst (Counted kind pid n) (sym (append-assoc (framesFrom (length s) (bytes 0)) (framesOver ss (λ k. bytes (suc k))) tail))
-      (cut-frames kind pid n s (flatten ss ++ tail) (framesOver ss (λ k. bytes (suc k)) ++ tail) (rest 0) (flatten s ++ rest 0) (bytes 0)
+      (cut-frames kind pid slots n s (flatten ss ++ tail) (framesOver ss (λ k. bytes (suc k)) ++ tail) (rest 0) (flatten s ++ rest 0) (bytes 0)
       (subst (Counted kind pid n) (append-assoc s (flatten ss) tail) c) later refl (a 0 (omega arith)) .counts)
 
 module _ (pid rounds : ℕ) where
   abbrev kind : Kind
   kind = kindOf extended
+
+  is-extended : kind ≡ Kind.Extended
+  is-extended = kind-back Kind.Extended
+
+  -- it has all slots
+  slots : slotsOf kind ≡ lastSlot
+  unfolding sizeOf
+  slots = ap slotsOf is-extended
 
   -- the super frames of a carrier and the frame behind them are a stretch of its run
   run-of : (c : Carrier pid) → From kind pid (flatten (c .supers) ++ (c .next ∷ []))
@@ -131,20 +144,20 @@ module _ (pid rounds : ℕ) where
   module _ (c : Carrier pid) (cs : List (Carrier pid)) (bytes : ℕ → List ℕ) (long : length (c .supers) ≡ rounds)
       (a : (k : ℕ) → k < rounds → Alike pid (flatten (superAt c k) ++ groupAt k cs) (bytes k)) where
     -- its receiver brings what it sent
-    brought : framesKept [] (tunedTo (c .state) pid extended (c .store)) (arriving (map whole (framesOver (c .supers) bytes) ++ (headerAlone (c .next) ∷ [])))
+    brought : framesKept [] (tunedTo (c .state) pid extended (c .store)) (arriving (map (whole extended) (framesOver (c .supers) bytes) ++ (headerAlone extended (c .next) ∷ [])))
         ≡ framesOver (c .supers) bytes
     brought =
         let r = run-of c in
-        fresh-kept kind pid (r .n) (tunedTo (c .state) pid extended (c .store)) (c .store) (tuned-fresh (c .state) pid extended (c .store) (c .accepted) (c .store-long))
+        fresh-kept extended pid (r .n) (tunedTo (c .state) pid extended (c .store)) (c .store) (tuned-fresh (c .state) pid extended (c .store) (c .accepted) (c .store-long ∙ ap (λ (k : Kind). storeLength (slotsOf k)) (sym is-extended)))
         (framesOver (c .supers) bytes) (c .next)
-        (counted-over kind pid (r .n) (c .supers) (c .next ∷ []) bytes (λ k. groupAt k cs) (r .counts) (λ k h. a k (omega (arith, h, long))))
+        (counted-over kind pid slots (r .n) (c .supers) (c .next ∷ []) bytes (λ k. groupAt k cs) (r .counts) (λ k h. a k (omega (arith, h, long))))
 
     -- and behind its part of a group stand the others'
-    behind : (k : ℕ) → k < rounds → Alike pid (groupAt k cs) (drop (frameLength * length (superAt c k)) (bytes k))
+    behind : (k : ℕ) → k < rounds → Alike pid (groupAt k cs) (drop (frameLength lastSlot * length (superAt c k)) (bytes k))
     behind k h =
         let r = run-of c in
-        let f = counted-at kind pid (r .n) (c .supers) (c .next ∷ []) k (omega (arith, h, long)) (r .counts) in
-        cut-frames kind pid (f .n) (superAt c k) [] [] (groupAt k cs) (flatten (superAt c k) ++ groupAt k cs) (bytes k)
+        let f = counted-at kind pid slots (r .n) (c .supers) (c .next ∷ []) k (omega (arith, h, long)) (r .counts) in
+        cut-frames kind pid slots (f .n) (superAt c k) [] [] (groupAt k cs) (flatten (superAt c k) ++ groupAt k cs) (bytes k)
         (subst (Counted kind pid (f .n)) (sym (append-nil (superAt c k))) (f .counts)) (λ m d. d) refl (a k h) .behind
 
   all-back : (carriers : List (Carrier pid)) (bytes : ℕ → List ℕ) → Each (λ c. length (c .supers) ≡ rounds) carriers
@@ -159,7 +172,7 @@ module _ (pid rounds : ℕ) where
   all-back (c ∷ cs) bytes (more l ls) a k h =
       ap₂ (λ (x y : List ℕ). x ++ y)
       (ap flatten (ap (cutAt (c .supers) k) (brought c cs bytes l a) ∙ cut-over (c .supers) bytes k (omega (arith, h, l))))
-      (all-back cs (λ j. drop (frameLength * length (superAt c j)) (bytes j)) ls (behind c cs bytes l a) k h)
+      (all-back cs (λ j. drop (frameLength lastSlot * length (superAt c j)) (bytes j)) ls (behind c cs bytes l a) k h)
       ∙ frames-flat (length (superAt c k)) (bytes k)
 
 pub back-from-its-carriers : BackFromItsCarriers

@@ -4,10 +4,11 @@ use mathlib.Core.Path.{_≡_, refl, ap, ap₂, subst, _∙_}
 use mathlib.Core.Bool.{Bool, true, false, cond}
 use mathlib.Core.List.{List, [], _∷_, _++_, map, append-nil}
 use native.Mathlib.Omega.{arith}
-use borrow.Author.Tests.{lt-ltb}
-use lib.ListN.{length, take, drop, replicate, length-drop, drop-of-length-le, take-append-drop}
+use borrow.Author.Tests.{lt-ltb, eq-eqb}
+use lib.ListN.{length, take, drop, replicate, length-drop, length-replicate, drop-of-length-le, take-append-drop}
 use Rattle.setting.specs.declared.Kind.{Kind}
-use Rattle.counters.specs.Counters.{lastSlot}
+use Rattle.setting.specs.Size.{slotsOf}
+use Rattle.setting_bytes.specs.Kinds.{kindOf}
 use Rattle.header_layout.specs.Header.{reading}
 use Rattle.packet.specs.Packets.{packetLength, slot, unfit}
 use Rattle.receiver.specs.declared.Stage.{Stage}
@@ -25,6 +26,7 @@ use Rattle.runs.proofs.Table.{Opens, Set, event-is, row-opens, bad-row, bad-set
 use Rattle.runs.proofs.Vouched.{GoodFrame, good-event, good-set, good-store, good-opens, step-one, vouched-row}
 use Rattle.runs.proofs.Lost.{arrive-plain, arrive-entire, Counted, no-more, and-then}
 use Rattle.runs.proofs.Values.{waiting-stage}
+use Rattle.runs.proofs.Demands.{all-arrive}
 use Rattle.runs.proofs.Tuned.{Tuned, tuned-heard, codable, says-ready}
 use Rattle.receiver.proofs.OnBytes.{calls-on-bytes}
 use Rattle.receiver.specs.Bytes.{eventNumber}
@@ -61,26 +63,32 @@ kept-by : (e : Event) (held : List ℕ) (w : Reception) (p : List ℕ) (ps : Lis
 unfolding framesHeld
 kept-by e held w p ps q = ap (λ (x : Event). keptBy x held w p ps) q
 
-module _ (kind : Kind) (pid : ℕ) where
+module _ (number pid : ℕ) where
+  abbrev kind : Kind
+  kind = kindOf number
+
+  abbrev slots : ℕ
+  slots = slotsOf kind
+
   -- ---- packets that are stored
 
-  stored-event : (from k : ℕ) (w : Reception) (p : List ℕ) → Set kind pid w → Plain pid p → Opens (w .state .stage) from k → k < lastSlot
+  stored-event : (from k : ℕ) (w : Reception) (p : List ℕ) → Set kind pid w → Plain pid p → Opens (w .state .stage) from k → k < slots
       → receiveOf (w .state) p (length (w .store)) .event ≡ Event.Stored
   unfolding openRow
   stored-event from k w p s (l, u) o h =
       let to = reading (w .state .kind) p .«continuity_counter» in
-      let r : rowOf (w .state .stage) (cond (unfit pid p) broken other) to ≡ row Event.Stored (Stage.Open from (k + 1)) =
-      ap (λ (b : Bool). rowOf (w .state .stage) (cond b broken other) to) u ∙ row-opens other to o ∙ rw (lt-ltb k lastSlot h) in
+      let r : rowOf slots (w .state .stage) (cond (unfit pid p) broken other) to ≡ row Event.Stored (Stage.Open from (k + 1)) =
+      ap (λ (b : Bool). rowOf slots (w .state .stage) (cond b broken other) to) u ∙ row-opens slots other to o ∙ rw (lt-ltb k slots h) in
       event-is kind pid w s p l ∙ ap (λ (x : Row). x .event) (bad-row kind pid w s p l (not-good kind pid p u) ∙ r)
 
   -- they make no frame ready and open none
   stored-kept : (held : List ℕ) (from k : ℕ) (w : Reception) (ps later : List (List ℕ)) → Set kind pid w → Opens (w .state .stage) from k
-      → k + length ps ≤ lastSlot → Each (Plain pid) ps → framesHeld held w (ps ++ later) ≡ framesHeld held (afterAll w ps) later
+      → k + length ps ≤ slots → Each (Plain pid) ps → framesHeld held w (ps ++ later) ≡ framesHeld held (afterAll w ps) later
   unfolding afterAll
   stored-kept held from k w [] later s o h none = refl
   stored-kept held from k w (p ∷ ps) later s o h (more (l, u) fit) =
       let d = not-good kind pid p u in
-      let q : k < lastSlot = omega arith in
+      let q : k < slots = omega arith in
       kept-by Event.Stored held w p (ps ++ later) (stored-event from k w p s (l, u) o q)
       ∙ stored-kept held from (k + 1) (afterPacket w p) ps later (bad-set kind pid w s p l d)
       (stored-stage kind pid w s p l d from k o q u) (omega arith) fit
@@ -91,17 +99,17 @@ module _ (kind : Kind) (pid : ℕ) where
   -- is whole and has the counter before
   data Brings (n : ℕ) (held : List ℕ) (w : Reception) : List (List ℕ) → Type 0 where
     nothing : w .state .stage ≡ Stage.Waiting → Brings n held w []
-    frame : (f : List ℕ) (from : ℕ) → Opens (w .state .stage) from lastSlot → from < 2 ^ 4 → (from + 1) % 16 ≡ n → held ++ w .store ≡ f
+    frame : (f : List ℕ) (from : ℕ) → Opens (w .state .stage) from slots → from < 2 ^ 4 → (from + 1) % 16 ≡ n → held ++ w .store ≡ f
         → Brings n held w (f ∷ [])
 
   header-kept : (n : ℕ) (held f : List ℕ) (w : Reception) (owed ps : List (List ℕ)) → Set kind pid w → GoodFrame kind pid n f
       → Brings n held w owed → framesHeld held w (slot 0 f ∷ ps) ≡ owed ++ framesHeld (slot 0 f) (afterPacket w (slot 0 f)) ps
   unfolding rowOf
   header-kept n held f w owed ps s g (nothing e) =
-      kept-by Event.Opened held w (slot 0 f) ps (good-event kind pid n (slot 0 f) w s (g .header) ∙ ap (λ (x : Stage). rowOf x good n .event) e)
+      kept-by Event.Opened held w (slot 0 f) ps (good-event kind pid n (slot 0 f) w s (g .header) ∙ ap (λ (x : Stage). rowOf slots x good n .event) e)
   header-kept n held f w owed ps s g (frame x from o h c e) =
       let step : (from + 0 + 1) % 16 ≡ n = omega (arith, c) in
-      let v = row-opens good n o ∙ vouched-row from lastSlot n (step-one from 0 n h (omega arith) step) in
+      let v = row-opens slots good n o ∙ vouched-row slots from slots n (rw (eq-eqb slots slots refl) (step-one from 0 n h (omega arith) step)) in
       kept-by Event.Ready held w (slot 0 f) ps (good-event kind pid n (slot 0 f) w s (g .header) ∙ ap (λ (r : Row). r .event) v)
       ∙ ap (λ (y : List ℕ). y ∷ framesHeld (slot 0 f) (afterPacket w (slot 0 f)) ps)
       (ap (λ (y : List ℕ). held ++ y) (good-store kind pid n (slot 0 f) w s (g .header)) ∙ e)
@@ -113,21 +121,23 @@ module _ (kind : Kind) (pid : ℕ) where
     opened = afterPacket w (slot 0 f)
 
     abbrev packets : List (List ℕ)
-    packets = packetsArrive (replicate lastSlot true) (drop packetLength f)
+    packets = packetsArrive (replicate slots true) (drop packetLength f)
 
-    bytes-long : length (drop packetLength f) ≡ packetLength * length (replicate lastSlot true)
-    bytes-long = length-drop packetLength f ∙ omega (arith, g .long)
+    bytes-long : length (drop packetLength f) ≡ packetLength * length (replicate slots true)
+    bytes-long = length-drop packetLength f ∙ omega (arith, g .long, length-replicate slots true)
 
-    entire-then : (length packets ≡ lastSlot) × (joined packets ≡ drop packetLength f)
-    entire-then = arrive-entire (replicate lastSlot true) (drop packetLength f) refl bytes-long
+    entire-then : (length packets ≡ slots) × (joined packets ≡ drop packetLength f)
+    entire-then =
+        let all = arrive-entire (replicate slots true) (drop packetLength f) (all-arrive slots) bytes-long in
+        (all .0 ∙ length-replicate slots true, all .1)
 
     plain : Each (Plain pid) packets
-    plain = arrive-plain pid (replicate lastSlot true) (drop packetLength f) bytes-long (g .fit)
+    plain = arrive-plain pid (replicate slots true) (drop packetLength f) bytes-long (λ i h. g .fit i (omega (arith, h, length-replicate slots true)))
 
-    count : 0 + length packets ≡ lastSlot
+    count : 0 + length packets ≡ slots
     count = omega (arith, entire-then .0)
 
-    few : 0 + length packets ≤ lastSlot
+    few : 0 + length packets ≤ slots
     few = omega (arith, count)
 
     all-stored : StoredAll kind pid 0 [] n 0 opened packets [] (opened .store)
@@ -137,7 +147,7 @@ module _ (kind : Kind) (pid : ℕ) where
 
     store-then : afterAll opened packets .store ≡ drop packetLength f
     store-then =
-        let long : length (opened .store) ≡ storeLength = good-set kind pid n (slot 0 f) w s (g .header) .store-long in
+        let long : length (opened .store) ≡ storeLength slots = good-set kind pid n (slot 0 f) w s (g .header) .store-long in
         let all : length (opened .store) ≤ packetLength * (0 + length packets) = omega (arith, long, count) in
         all-stored .store-then
         ∙ ap₂ (λ (x y : List ℕ). x ++ y) (entire-then .1) (drop-of-length-le (opened .store) all) ∙ append-nil (drop packetLength f)
@@ -164,13 +174,13 @@ module _ (kind : Kind) (pid : ℕ) where
   none-arrive (suc n) bytes = none-arrive n (drop packetLength bytes)
 
   all-kept : (n : ℕ) (held : List ℕ) (w : Reception) (owed fs : List (List ℕ)) (next : List ℕ) → Set kind pid w → Brings n held w owed
-      → Counted kind pid n (fs ++ (next ∷ [])) → framesHeld held w (arriving (map whole fs ++ (headerAlone next ∷ []))) ≡ owed ++ fs
+      → Counted kind pid n (fs ++ (next ∷ [])) → framesHeld held w (arriving (map (whole number) fs ++ (headerAlone number next ∷ []))) ≡ owed ++ fs
   unfolding arriving headerArrives framesHeld
   all-kept n held w owed [] next s b (and-then g no-more) =
-      ap (λ (ps : List (List ℕ)). framesHeld held w (slot 0 next ∷ (ps ++ []))) (none-arrive lastSlot (drop packetLength next))
+      ap (λ (ps : List (List ℕ)). framesHeld held w (slot 0 next ∷ (ps ++ []))) (none-arrive slots (drop packetLength next))
       ∙ header-kept n held next w owed [] s g b
   all-kept n held w owed (f ∷ fs) next s b (and-then g c) =
-      frame-kept n f w s g held owed (arriving (map whole fs ++ (headerAlone next ∷ []))) b
+      frame-kept n f w s g held owed (arriving (map (whole number) fs ++ (headerAlone number next ∷ []))) b
       ∙ ap (λ (x : List (List ℕ)). owed ++ x)
       (all-kept ((n + 1) % 16) (slot 0 f) (afterAll (opened n f w s g) (packets n f w s g)) (f ∷ []) fs next
       (all-stored n f w s g .set-then) (brings-then n f w s g) c)
@@ -204,9 +214,10 @@ module _ (kind : Kind) (pid : ℕ) where
       (ap (λ (c : Bool). framesKept (cond c p held) (heard b p) ps) opens
       ∙ kept-alike (cond (opensBy (receiveOf (w .state) p (length (w .store)) .event)) p held) (heard b p) (afterPacket w p) next ps)
 
-  -- a fresh receiver brings them all
-  pub fresh-kept : (n : ℕ) (b : Demultiplexer) (store : List ℕ) → Tuned kind pid b (freshWith kind pid store) → (fs : List (List ℕ)) (next : List ℕ)
-      → Counted kind pid n (fs ++ (next ∷ [])) → framesKept [] b (arriving (map whole fs ++ (headerAlone next ∷ []))) ≡ fs
-  fresh-kept n b store t fs next c =
-      kept-alike [] b (freshWith kind pid store) t (arriving (map whole fs ++ (headerAlone next ∷ [])))
-      ∙ all-kept kind pid n [] _ [] fs next (t .set) (nothing (waiting-stage kind pid)) c
+-- a fresh receiver brings them all
+pub fresh-kept : (number pid n : ℕ) (b : Demultiplexer) (store : List ℕ) → Tuned (kindOf number) pid b (freshWith (kindOf number) pid store)
+    → (fs : List (List ℕ)) (next : List ℕ)
+    → Counted (kindOf number) pid n (fs ++ (next ∷ [])) → framesKept [] b (arriving (map (whole number) fs ++ (headerAlone number next ∷ []))) ≡ fs
+fresh-kept number pid n b store t fs next c =
+    kept-alike (kindOf number) pid [] b (freshWith (kindOf number) pid store) t (arriving (map (whole number) fs ++ (headerAlone number next ∷ [])))
+    ∙ all-kept number pid n [] _ [] fs next (t .set) (nothing (waiting-stage (kindOf number) pid)) c

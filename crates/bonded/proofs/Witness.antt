@@ -13,13 +13,14 @@ use Rattle.setting.specs.declared.Setting.{Setting}
 use Rattle.setting.specs.declared.Announced.{Announced}
 use Rattle.setting.specs.Announcing.{announced}
 use Rattle.setting.specs.Setting.{blank}
+use Rattle.setting.specs.Size.{sizeOf, slotsOf}
 use Rattle.setting.specs.Refusal.{firstOf, NoneHolds, none, more}
 use Rattle.setting.specs.Rules.{someUnavailable, pairTwice, absentChecks, widthChecks, bondingChecks, ruleChecks}
 use Rattle.setting.proofs.Refusals.{none-append}
 use Rattle.setting_bytes.specs.Words.{wordBytes}
 use Rattle.setting_bytes.specs.Kinds.{kindNumber}
 use Rattle.setting_bytes.specs.Settings.{announcedBytes, settingBytes}
-use Rattle.counters.specs.Counters.{available}
+use Rattle.counters.specs.Counters.{lastSlot, available}
 use Rattle.header_layout.specs.Header.{reading, packetChecks}
 use Rattle.header_check.proofs.Accepted.{shown}
 use Rattle.packet.specs.Packets.{packetLength, frameLength, slot, unfit}
@@ -49,19 +50,19 @@ use Rattle.bonded.proofs.Alike.{slot-later}
 
 -- carrier 1 of one, at each of the three positions
 abbrev at : ℕ → Setting
-at position = oneSlot 1 1 3 position
+at position = oneSlot 1 1 1 3 position
 
 takes-1 : Takes Kind.Extended (at 1)
-unfolding oneSlot firstOf widthChecks absentChecks ruleChecks bondingChecks someUnavailable pairTwice available someAtLeast anyBelow settingBytes announcedBytes announced wordBytes
-takes-1 = one-takes 1 1 3 1 Kind.Extended refl refl refl
+unfolding oneSlot firstOf widthChecks absentChecks sizeOf ruleChecks bondingChecks someUnavailable pairTwice available someAtLeast anyBelow settingBytes announcedBytes announced wordBytes
+takes-1 = one-takes 1 1 1 3 1 Kind.Extended refl refl refl
 
 takes-2 : Takes Kind.Extended (at 2)
-unfolding oneSlot firstOf widthChecks absentChecks ruleChecks bondingChecks someUnavailable pairTwice available someAtLeast anyBelow settingBytes announcedBytes announced wordBytes
-takes-2 = one-takes 1 1 3 2 Kind.Extended refl refl refl
+unfolding oneSlot firstOf widthChecks absentChecks sizeOf ruleChecks bondingChecks someUnavailable pairTwice available someAtLeast anyBelow settingBytes announcedBytes announced wordBytes
+takes-2 = one-takes 1 1 1 3 2 Kind.Extended refl refl refl
 
 takes-3 : Takes Kind.Extended (at 3)
-unfolding oneSlot firstOf widthChecks absentChecks ruleChecks bondingChecks someUnavailable pairTwice available someAtLeast anyBelow settingBytes announcedBytes announced wordBytes
-takes-3 = one-takes 1 1 3 3 Kind.Extended refl refl refl
+unfolding oneSlot firstOf widthChecks absentChecks sizeOf ruleChecks bondingChecks someUnavailable pairTwice available someAtLeast anyBelow settingBytes announcedBytes announced wordBytes
+takes-3 = one-takes 1 1 1 3 3 Kind.Extended refl refl refl
 
 -- two super frames, and the frame behind them
 abbrev settings : List Setting
@@ -77,7 +78,7 @@ theBond = record { carriers = 1; pid = thePid; «ts_id» = 0; «original_network
 
 -- a frame whose header says a setting, with stream 1 in slot 1
 record Says (position : ℕ) (f : List ℕ) : Type 0 where
-  long : length f ≡ frameLength
+  long : length f ≡ frameLength lastSlot
   packet : NoneHolds (packetChecks thePid (slot 0 f))
   rules : NoneHolds (ruleChecks Kind.Extended (reading Kind.Extended (slot 0 f)))
   shows : shownBy (reading Kind.Extended (slot 0 f)) ≡ shownBy (at position)
@@ -101,6 +102,7 @@ module _ (position counter version : ℕ) where
   slot-1-has-it = refl
 
   says : Good Kind.Extended thePid h → Says position (frameOf Kind.Extended thePid h)
+  unfolding sizeOf
   says g =
       let f = frameOf Kind.Extended thePid h in
       let r = accepted-reading Kind.Extended thePid (slot 0 f) (h .0) (header-read Kind.Extended thePid h g) in
@@ -137,14 +139,14 @@ say-all (p ∷ ps) (more g gs) = and-then (says p 0 0 g) (say-behind 0 0 _ ps gs
 -- ---- a super frame
 
 -- the header of frame j of some frames
-head-at : (fs : List (List ℕ)) (j : ℕ) → Each (λ f. length f ≡ frameLength) fs → j < length fs → slot (framePackets * j) (flatten fs) ≡ slot 0 (getD fs j [])
+head-at : (fs : List (List ℕ)) (j : ℕ) → Each (λ f. length f ≡ frameLength lastSlot) fs → j < length fs → slot (framePackets * j) (flatten fs) ≡ slot 0 (getD fs j [])
 unfolding flatten
 head-at [] j l h = absurd (omega arith)
 head-at (f ∷ fs) zero (more l ls) h = slot-front 0 f (flatten fs) (omega (arith, l))
 head-at (f ∷ fs) (suc j) (more l ls) h =
     let e : framePackets * suc j ≡ framePackets * j + framePackets = omega arith in
     ap (λ (k : ℕ). slot k (f ++ flatten fs)) e ∙ sym (slot-later (framePackets * j) (f ++ flatten fs))
-    ∙ ap (slot (framePackets * j)) (drop-at f (flatten fs) frameLength l) ∙ head-at fs j ls (omega arith)
+    ∙ ap (slot (framePackets * j)) (drop-at f (flatten fs) (frameLength lastSlot) l) ∙ head-at fs j ls (omega arith)
 
 among-some : {m : ℕ} (ms : List ℕ) → Among m ms → 1 ≤ length ms
 among-some (k ∷ ms) a = omega arith
@@ -156,10 +158,10 @@ module _ (f₁ f₂ f₃ : List ℕ) (s₁ : Says 1 f₁) (s₂ : Says 2 f₂) (
   abbrev group : List ℕ
   group = flatten frames
 
-  each-long : Each (λ f. length f ≡ frameLength) frames
+  each-long : Each (λ f. length f ≡ frameLength lastSlot) frames
   each-long = more (s₁ .long) (more (s₂ .long) (more (s₃ .long) none))
 
-  group-long : length group ≡ frameLength * 3
+  group-long : length group ≡ frameLength lastSlot * 3
   unfolding flatten
   group-long =
       length-append f₁ (f₂ ++ (f₃ ++ []))
@@ -287,9 +289,9 @@ module _ (f₁ f₂ f₃ g₁ g₂ g₃ next : List ℕ) (s₁ : Says 1 f₁) (s
         later = [];
         closed = closed-so;
         state = replicate receiverLength 0;
-        store = replicate storeLength 0;
+        store = replicate (storeLength (slotsOf Kind.Extended)) 0;
         accepted = start-accepted;
-        store-long = length-replicate {A = ℕ} storeLength 0;
+        store-long = length-replicate {A = ℕ} (storeLength (slotsOf Kind.Extended)) 0;
       }
 
   abbrev carriers : List (Carrier thePid)

@@ -5,7 +5,9 @@ use mathlib.Core.Bool.{Bool, cond, _||_}
 use mathlib.Core.List.{List, [], _∷_, _++_, map, flatten}
 use lib.Dec.{eqb}
 use lib.ListN.{length, getD, take, drop}
+use Rattle.counters.specs.Counters.{lastSlot}
 use Rattle.setting.specs.declared.Kind.{Kind}
+use Rattle.setting.specs.Size.{slotsOf}
 use Rattle.setting_bytes.specs.Kinds.{kindNumber}
 use Rattle.packet.specs.Packets.{frameLength}
 use Rattle.receiver.specs.declared.Event.{Event}
@@ -35,7 +37,7 @@ pub record Carrier (pid : ℕ) : Type 0 where
   pub state : List ℕ
   pub store : List ℕ
   pub accepted : startRefused state pid extended ≡ 0
-  pub store-long : length store ≡ storeLength
+  pub store-long : length store ≡ storeLength (slotsOf Kind.Extended)
 
 -- its super frame k
 abbrev pub superAt : {pid : ℕ} → Carrier pid → ℕ → List (List ℕ)
@@ -49,7 +51,7 @@ groupAt k (c ∷ cs) = flatten (superAt c k) ++ groupAt k cs
 -- the first n frames of a buffer
 unfoldable pub framesFrom : ℕ → List ℕ → List (List ℕ)
 framesFrom zero bytes = []
-framesFrom (suc n) bytes = take frameLength bytes ∷ framesFrom n (drop frameLength bytes)
+framesFrom (suc n) bytes = take (frameLength lastSlot) bytes ∷ framesFrom n (drop (frameLength lastSlot) bytes)
 
 -- the frames of a carrier with these super frames, one super frame after another, where `bytes k` starts with its part of group k
 unfoldable pub framesOver : List (List (List ℕ)) → (ℕ → List ℕ) → List (List ℕ)
@@ -60,8 +62,8 @@ framesOver (s ∷ ss) bytes = framesFrom (length s) (bytes 0) ++ framesOver ss (
 unfoldable pub sentBy : {pid : ℕ} → List (Carrier pid) → (ℕ → List ℕ) → List (List Sent)
 sentBy [] bytes = []
 sentBy (c ∷ cs) bytes =
-    (map whole (framesOver (c .supers) bytes) ++ (headerAlone (c .next) ∷ []))
-    ∷ sentBy cs (λ k. drop (frameLength * length (superAt c k)) (bytes k))
+    (map (whole extended) (framesOver (c .supers) bytes) ++ (headerAlone extended (c .next) ∷ []))
+    ∷ sentBy cs (λ k. drop (frameLength lastSlot * length (superAt c k)) (bytes k))
 
 -- ---- at the receivers
 

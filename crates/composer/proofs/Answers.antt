@@ -7,6 +7,7 @@ use native.Mathlib.Omega.{arith}
 use borrow.Author.Tests.{eqb-true}
 use lib.Dec.{eqb}
 use Rattle.setting.specs.Refusal.{Check, firstOf}
+use Rattle.setting.specs.Size.{slotsOf}
 use Rattle.packet.specs.Packets.{frameLength}
 use Rattle.composer.specs.Composing.{Composer, lengthCheck, answer}
 
@@ -16,10 +17,10 @@ module _ {m n : ℕ} (e : m ≡ n) where
   unfolding answer
   granted new old z = rw (sym e ∙ z)
 
--- a call that is not refused was lent a frame
-pub frame-lent : (lent : ℕ) (cs : List Check) → firstOf (lengthCheck lent ∷ cs) ≡ 0 → lent ≡ frameLength
+-- a call that is not refused was lent a frame of the run's kind
+pub frame-lent : (c : Composer) (lent : ℕ) (cs : List Check) → firstOf (lengthCheck c lent ∷ cs) ≡ 0 → lent ≡ frameLength (slotsOf (c .kind))
 unfolding firstOf
-frame-lent lent cs e = eqb-true lent frameLength (is-it (eqb lent frameLength) e)
+frame-lent c lent cs e = eqb-true lent (frameLength (slotsOf (c .kind))) (is-it (eqb lent (frameLength (slotsOf (c .kind)))) e)
   where
     is-it : (b : Bool) → cond (not b) 1 (firstOf cs) ≡ 0 → b ≡ true
     is-it true z = refl

@@ -10,6 +10,7 @@ use Rattle.composer.specs.Composing.{Answer, opened, marked, closed, clo
 use Rattle.composer.proofs.Answers.{granted}
 use Rattle.header_layout.specs.Header.{header}
 use Rattle.packet.specs.Packets.{packetLength}
+use Rattle.setting.specs.Size.{slotsOf}
 use Rattle.setting.proofs.Refusals.{kept, written}
 use Rattle.setting_bytes.specs.Settings.{settingLength, settingOf}
 use Rattle.composer.specs.States.{composerLength, composerBytes, composerOf}
@@ -28,7 +29,7 @@ module _ (state setting frame : List ℕ) (l : length state ≡ composerLength) 
   begin-refused h =
       (begin-answer, (kept begin-answer _ state h, rw (eq-eqb (length state) composerLength l, eq-eqb (length setting) settingLength t) (kept e _ frame h)))
 
-  pub begin-done : refusal ≡ 0 → {bytes memory : List ℕ} → bytes ≡ composerBytes (opened (composerOf state) (settingOf setting)) → memory ≡ cleared frame
+  pub begin-done : refusal ≡ 0 → {bytes memory : List ℕ} → bytes ≡ composerBytes (opened (composerOf state) (settingOf setting)) → memory ≡ cleared (slotsOf (composerOf state .kind)) frame
       → (0 ≡ beginRefused state setting frame) × ((bytes ≡ beginState state setting frame) × (memory ≡ beginMemory state setting frame))
   unfolding beginState beginMemory begunFrame beginOf answer
   begin-done z b m =

@@ -11,12 +11,12 @@ use lib.Seq.{take-all}
 use Rattle.slices.specs.Slices.{someAtLeast}
 use Rattle.slices.proofs.Any.{any-no}
 use Rattle.setting.specs.Refusal.{Check, firstOf}
-use Rattle.setting.specs.declared.Kind.{Kind}
+use Rattle.setting.specs.Size.{slotsOf}
 use Rattle.setting.proofs.Refusals.{answers, passed}
 use Rattle.packet.specs.Packets.{packetLength, frameLength}
-use Rattle.composer.specs.Composing.{Composer, stateChecks, answer, beginOf, putOf, closeOf, beginRefusal, putRefusal, closeRefusal}
+use Rattle.composer.specs.Composing.{Composer, lengthCheck, stateChecks, answer, beginOf, putOf, closeOf, beginRefusal, putRefusal, closeRefusal}
 use Rattle.setting_bytes.specs.Words.{wordBytes, wordAt}
-use Rattle.setting_bytes.specs.Kinds.{isKind, kindNumber}
+use Rattle.setting_bytes.specs.Kinds.{kindNumber}
 use Rattle.setting_bytes.specs.Settings.{part, announcedBytes, settingLength, settingBytes, settingOf, announcedLength}
 use Rattle.setting_bytes.proofs.Parts.{length-announced}
 use Rattle.setting_bytes.proofs.Back.{part-behind, part-first, byte-behind, long, announced-back, length-setting, setting-back}
@@ -149,9 +149,9 @@ no-state : (state : List ℕ) → Uncoded state → (rest : List Check) → firs
 unfolding stateChecks composerOf
 no-state state u rest = passed 2 _ (ap not (u .pid-allowed)) ∙ answers 17 _ (ap (λ (t : Bool). leb 16 (cond t (getD state counterAt 0) noCounter)) (u .no-state))
 
-module _ (state frame : List ℕ) (u : Uncoded state) (f : length frame ≡ frameLength) where
-  lent : (cs : List Check) → firstOf ((1, not (eqb (length frame) frameLength)) ∷ cs) ≡ firstOf cs
-  lent cs = passed 1 cs (ap not (eq-eqb (length frame) frameLength f))
+module _ (state frame : List ℕ) (u : Uncoded state) (f : length frame ≡ frameLength (slotsOf (composerOf state .kind))) where
+  lent : (cs : List Check) → firstOf (lengthCheck (composerOf state) (length frame) ∷ cs) ≡ firstOf cs
+  lent cs = passed 1 cs (ap not (eq-eqb (length frame) (frameLength (slotsOf (composerOf state .kind))) f))
 
   begun : (setting : List ℕ) → length setting ≡ settingLength → beginRefused state setting frame ≡ 17
   unfolding beginRefused beginOf answer beginRefusal

@@ -7,7 +7,7 @@ use borrow.Author.Tests.{leb-false, not-false}
 use lib.ListN.{drop}
 use Rattle.setting.specs.Refusal.{Check, NoneHolds, none, more}
 use Rattle.setting.specs.Rules.{pidAllowed, widthChecks, ruleChecks}
-use Rattle.setting.proofs.Refusals.{none-at, none-before}
+use Rattle.setting.proofs.Refusals.{none-at, none-before, none-behind}
 use Rattle.setting.specs.Announcing.{announcedChecks}
 use Rattle.composer.specs.Composing.{Composer, asked, stateChecks, openRuleChecks, markChecks, openChecks}
 
@@ -35,7 +35,7 @@ pub record Passes (c : Composer) : Type 0 where
   pub rules : NoneHolds (ruleChecks (c .kind) (c .setting))
 
 pub passes : (c : Composer) → NoneHolds (stateChecks c) → NoneHolds (openChecks c) → Passes c
-unfolding stateChecks announcedChecks openChecks openRuleChecks
+unfolding stateChecks openChecks openRuleChecks
 passes c h g =
     let e = not-false (c .is-open) (none-at g 0) in
     record {
@@ -43,6 +43,6 @@ passes c h g =
       pid = not-false (pidAllowed (c .pid)) (none-at h 0);
       counter = leb-false (2 ^ 4) (c .counter) (none-at h 1);
       version = leb-false (2 ^ 3) (c .version) (none-at h 2);
-      widths = none-asked (widthChecks (c .kind) (c .setting)) e (none-drop h 8);
+      widths = none-asked (widthChecks (c .kind) (c .setting)) e (none-behind (announcedChecks (c .kind) (c .last)) (none-drop h 3));
       rules = none-asked (ruleChecks (c .kind) (c .setting)) e (none-before (openRuleChecks c) (markChecks c) (none-drop g 1));
     }

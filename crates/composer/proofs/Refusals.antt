@@ -40,19 +40,21 @@ numbered-asked b (c ∷ cs) e =
     let p = both (leb 1 (c .0)) (numbered cs) e in
     ap₂ _&&_ (p .0) (numbered-asked b cs (p .1))
 
-widths-numbered : (kind : Kind) (s : Setting) → numbered (widthChecks kind s) ≡ true
+pub widths-numbered : (kind : Kind) (s : Setting) → numbered (widthChecks kind s) ≡ true
 unfolding widthChecks absentChecks
 widths-numbered Kind.Plain s = refl
 widths-numbered Kind.Extended s = refl
+widths-numbered Kind.Short s = refl
 
 pub rules-numbered : (kind : Kind) (s : Setting) → numbered (ruleChecks kind s) ≡ true
 unfolding ruleChecks bondingChecks
 rules-numbered Kind.Plain s = refl
 rules-numbered Kind.Extended s = refl
+rules-numbered Kind.Short s = refl
 
-pub announced-none : (a : Announced) → firstOf (announcedChecks a) ≡ 0 → NoneHolds (announcedChecks a)
+pub announced-none : (kind : Kind) (a : Announced) → firstOf (announcedChecks kind a) ≡ 0 → NoneHolds (announcedChecks kind a)
 unfolding announcedChecks
-announced-none a e = none-first (announcedChecks a) refl e
+announced-none kind a e = none-first (announcedChecks kind a) refl e
 
 pub state-numbered : (c : Composer) → numbered (stateChecks c) ≡ true
 unfolding stateChecks announcedChecks

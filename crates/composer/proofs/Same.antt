@@ -15,7 +15,7 @@ use Rattle.setting.specs.declared.Kind.{Kind}
 use Rattle.setting.specs.Setting.{blank}
 use Rattle.setting.specs.Announcing.{announced}
 use Rattle.setting_bytes.specs.Words.{wordBytes}
-use Rattle.setting_bytes.specs.Kinds.{isKind, kindOf, kindNumber}
+use Rattle.setting_bytes.specs.Kinds.{kinds, isKind, kindOf, kindNumber}
 use Rattle.setting_bytes.specs.Settings.{part, announcedBytes, settingLength, settingBytes, settingOf, announcedAt, announcedLength}
 use Rattle.setting.proofs.Fields.{fit-some}
 use Rattle.setting_bytes.proofs.KindsBack.{kind-same}
@@ -67,7 +67,7 @@ module _ (b : List ℕ) (long : length b ≡ composerLength) (fit : Fit 8 b) (co
   pid-kind : (r : List ℕ) → wordBytes (composerOf b .pid ∷ []) ++ (kindNumber (composerOf b .kind) ∷ r) ≡ take counterAt b ++ r
   unfolding composerOf
   pid-kind r =
-      rw (word-same 0 b (omega arith) fit, kind-same (getD b kindAt 0) (ltb-true (getD b kindAt 0) 2 (tests .0)))
+      rw (word-same 0 b (omega arith) fit, kind-same (getD b kindAt 0) (ltb-true (getD b kindAt 0) kinds (tests .0)))
       (sym (append-snoc (take 2 b) (getD b kindAt 0) r) ∙ ap (λ (l : List ℕ). l ++ r) (sym (take-suc b 2 0 (omega arith))))
 
   -- the parts of the state, and what its setting announces

@@ -2,13 +2,13 @@
 use Prim.Native.Nat.{ℕ, zero, suc, _*_, _/_, _≤_, _<_, min}
 use mathlib.Core.Path.{_≡_, refl, sym, ap, _∙_}
 use mathlib.Core.Bool.{Bool, true, false, not, _&&_, _||_}
-use mathlib.Core.List.{List, [], _∷_, zipWith}
+use mathlib.Core.List.{List, [], _∷_, _++_, zipWith}
 use native.Mathlib.Nat.{min-zero, zero-min, suc-min-suc, min-le-left}
 use native.Mathlib.Omega.{arith}
 use lib.Dec.{eqb}
-use lib.ListN.{length, getD, drop, length-drop}
+use lib.ListN.{length, getD, take, drop, replicate, length-drop, take-append-drop}
 use Rattle.packet.specs.Packets.{packetLength}
-use Rattle.composer.specs.Slots.{emptyFor, firstSlots, slotsIn, filledBy, placedBy, marksAfter}
+use Rattle.composer.specs.Slots.{emptyFor, firstSlots, slotsIn, filledBy, placedBy, marksAfter, slotsWith}
 
 -- two lists, element by element
 length-zip : {A B C : Type 0} (f : A → B → C) (xs : List A) (ys : List B) → length xs ≡ length ys → length (zipWith f xs ys) ≡ length xs
@@ -91,3 +91,10 @@ module _ (r n : ℕ) (ns : List ℕ) (m : Bool) (ms : List Bool) (stream : List 
   filled-one e h =
       let one : length stream / packetLength ≡ suc (length (drop packetLength stream) / packetLength) = omega (arith, length-drop packetLength stream) in
       rw (one, e)
+
+-- no slot of a set: all stay as they are
+pub slots-over : (n : ℕ) (stream slots : List ℕ) → slotsWith (replicate n false) stream slots ≡ slots
+unfolding slotsWith
+slots-over zero stream slots = refl
+slots-over (suc n) stream slots =
+    ap (λ (l : List ℕ). take packetLength slots ++ l) (slots-over n stream (drop packetLength slots)) ∙ take-append-drop packetLength slots

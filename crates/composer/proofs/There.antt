@@ -9,6 +9,9 @@ use lib.Dec.{eqb}
 use lib.ListN.{length, getD, take, drop, length-drop, drop-of-length-le, List·getD-map}
 use lib.Seq.{getD-take, getD-drop}
 use Rattle.slices.proofs.Front.{put}
+use Rattle.setting.specs.declared.Kind.{Kind}
+use Rattle.setting.specs.Size.{slotsOf}
+use Rattle.packet.specs.Packets.{frameLength}
 use Rattle.setting_bytes.specs.Words.{wordAt}
 use Rattle.setting_bytes.specs.Kinds.{kindOf}
 use Rattle.setting_bytes.specs.Settings.{part, announcedLength, announcedOf, settingLength, settingOf, announcedAt, numbersAt}
@@ -57,6 +60,12 @@ marks-there b = refl
 pub kind-there : (b : List ℕ) → composerOf b .kind ≡ kindOf (getD b kindAt 0)
 unfolding composerOf
 kind-there b = refl
+
+-- and how long its frames are
+pub frame-there : (b : List ℕ) {kind : Kind} {lent : ℕ} → kind ≡ kindOf (getD b kindAt 0) → lent ≡ frameLength (slotsOf kind)
+    → lent ≡ frameLength (slotsOf (composerOf b .kind))
+unfolding composerOf
+frame-there b k e = e ∙ ap (λ (t : Kind). frameLength (slotsOf t)) k
 
 -- what bytes say as marks, one by one
 pub mark-at : (bytes : List ℕ) (i : ℕ) → getD (marksOf bytes) i false ≡ eqb (getD bytes i 0) 1

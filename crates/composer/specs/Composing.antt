@@ -7,7 +7,8 @@ use lib.ListN.{length, drop, replicate}
 use Rattle.setting.specs.declared.Kind.{Kind}
 use Rattle.setting.specs.declared.Setting.{Setting}
 use Rattle.setting.specs.declared.Announced.{Announced}
-use Rattle.counters.specs.Counters.{firstStream, lastStream, lastSlot, within, available}
+use Rattle.counters.specs.Counters.{firstStream, lastSlot, within, available}
+use Rattle.setting.specs.Size.{slotsOf, streamsOf}
 use Rattle.setting.specs.Refusal.{Check, firstOf, leaves}
 use Rattle.setting.specs.Rules.{pidAllowed, widthChecks, ruleChecks}
 use Rattle.setting.specs.Setting.{blank}
@@ -162,7 +163,7 @@ stateChecks c =
     (2, not (pidAllowed (c .pid)))
     ∷ (17, leb (2 ^ 4) (c .counter))
     ∷ (17, leb (2 ^ 3) (c .version))
-    ∷ (announcedChecks (c .last) ++ asked (c .is-open) (widthChecks (c .kind) (c .setting)))
+    ∷ (announcedChecks (c .kind) (c .last) ++ asked (c .is-open) (widthChecks (c .kind) (c .setting)))
 
 -- 8 to 11: while a frame is open, the rules of its setting
 unfoldable pub openRuleChecks : Composer → List Check
@@ -172,12 +173,13 @@ openRuleChecks c = asked (c .is-open) (ruleChecks (c .kind) (c .setting))
 unfoldable pub markChecks : Composer → List Check
 markChecks c = (17, c .is-open && someUnplanned (c .setting .«relative_ts_number») (c .filled)) ∷ []
 
-abbrev pub lengthCheck : ℕ → Check
-lengthCheck lent = (1, not (eqb lent frameLength))
+-- 1: a frame's buffer of another length than the run's kind has
+abbrev pub lengthCheck : Composer → ℕ → Check
+lengthCheck c lent = (1, not (eqb lent (frameLength (slotsOf (c .kind)))))
 
 unfoldable pub beginRefusal : Composer → Setting → ℕ → ℕ
 beginRefusal c s lent =
-    firstOf (lengthCheck lent
+    firstOf (lengthCheck c lent
     ∷ (stateChecks c ++ (widthChecks (c .kind) s ++ (inTurn (openRuleChecks c) (ruleChecks (c .kind) s) ++ markChecks c))))
 
 -- 16, and the checks of an open frame
@@ -193,12 +195,12 @@ streamChecks c r stream =
 
 unfoldable pub putRefusal : Composer → ℕ → List ℕ → ℕ → ℕ
 putRefusal c r stream lent =
-    firstOf (lengthCheck lent
+    firstOf (lengthCheck c lent
     ∷ (1, not (eqb (length stream % packetLength) 0))
-    ∷ (stateChecks c ++ ((17, not (within firstStream lastStream r)) ∷ (openChecks c ++ streamChecks c r stream))))
+    ∷ (stateChecks c ++ ((17, not (within firstStream (streamsOf (c .kind)) r)) ∷ (openChecks c ++ streamChecks c r stream))))
 
 unfoldable pub closeRefusal : Composer → ℕ → ℕ
-closeRefusal c lent = firstOf (lengthCheck lent ∷ (stateChecks c ++ openChecks c))
+closeRefusal c lent = firstOf (lengthCheck c lent ∷ (stateChecks c ++ openChecks c))
 
 -- ---- the calls
 
@@ -214,7 +216,7 @@ unfoldable pub beginOf : Composer → Setting → ℕ → Answer
 beginOf c s lent = answer (beginRefusal c s lent) (opened c s) c
 
 unfoldable pub begunFrame : Composer → Setting → List ℕ → List ℕ
-begunFrame c s frame = leaves (beginRefusal c s (length frame)) (cleared frame) frame
+begunFrame c s frame = leaves (beginRefusal c s (length frame)) (cleared (slotsOf (c .kind)) frame) frame
 
 unfoldable pub putOf : Composer → ℕ → List ℕ → ℕ → Placed
 putOf c r stream lent =

@@ -5,6 +5,7 @@ use mathlib.Core.Bool.{true, false}
 use mathlib.Core.List.{List}
 use lib.ListN.{length}
 use Rattle.setting.specs.Rules.{pidAllowed}
+use Rattle.setting.specs.Size.{slotsOf}
 use Rattle.packet.specs.Packets.{packetLength, frameLength}
 use Rattle.setting_bytes.specs.Words.{wordAt}
 use Rattle.setting.specs.declared.Setting.{Setting}
@@ -27,7 +28,7 @@ pub record Uncoded (state : List ℕ) : Type 0 where
 -- Bytes that code no state are refused with 17 by each call, if its other buffers have the right lengths.
 abbrev pub UncodedRefused : Type 0
 UncodedRefused =
-    (state frame : List ℕ) → Uncoded state → length frame ≡ frameLength
+    (state frame : List ℕ) → Uncoded state → length frame ≡ frameLength (slotsOf (composerOf state .kind))
     → ((setting : List ℕ) → length setting ≡ settingLength → beginRefused state setting frame ≡ 17)
     × ((r : ℕ) (stream : List ℕ) → length stream % packetLength ≡ 0 → putRefused state r stream frame ≡ 17)
     × (closeRefused state frame ≡ 17)

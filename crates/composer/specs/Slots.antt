@@ -5,7 +5,6 @@ use mathlib.Core.List.{List, [], _∷_, _++_, zipWith}
 use lib.Dec.{eqb}
 use lib.ListN.{length, getD, take, drop}
 use Rattle.slices.specs.Slices.{anyBelow}
-use Rattle.counters.specs.Counters.{lastSlot}
 use Rattle.packet.specs.Packets.{packetLength, nullPacket, someUnfitIn}
 
 -- n null packets, one behind the other
@@ -13,9 +12,9 @@ unfoldable pub nulls : ℕ → List ℕ
 nulls zero = []
 nulls (suc n) = nullPacket ++ nulls n
 
--- a frame with null packets in slots 1 to 52, slot 0 as it was
-unfoldable pub cleared : List ℕ → List ℕ
-cleared frame = take packetLength frame ++ nulls lastSlot
+-- a frame with null packets in its slots, so many behind slot 0, which is as it was
+unfoldable pub cleared : ℕ → List ℕ → List ℕ
+cleared slots frame = take packetLength frame ++ nulls slots
 
 -- ---- put for stream r. A set of slots is a list with an entry for each slot, slot 1 first: true if the slot is in the set
 

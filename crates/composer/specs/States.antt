@@ -1,4 +1,4 @@
--- A composer's state as 390 bytes, and the state that bytes code.
+-- A composer's state as 436 bytes, and the state that bytes code.
 use Prim.Native.Nat.{ℕ, _+_, _-_}
 use mathlib.Core.Path.{_≡_}
 use mathlib.Core.Bool.{Bool, cond, not, _&&_}

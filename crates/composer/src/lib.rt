@@ -1,4 +1,4 @@
-// A run of frames: where the parts of its state stand. The state is 390 bytes that the caller keeps, in Rattle as in C. What each call
+// A run of frames: where the parts of its state stand. The state is 436 bytes that the caller keeps, in Rattle as in C. What each call
 // answers and leaves is said in specs/.
 use counters::SLOTS;
 use setting_bytes::ANNOUNCED;

@@ -8,14 +8,15 @@ use borrow.Author.Tests.{eq-eqb, leb-false}
 use Rattle.setting.specs.Refusal.{Check, firstOf}
 use Rattle.setting.proofs.Refusals.{passed, at-once, none-at}
 use Rattle.setting.specs.declared.Setting.{Setting}
+use Rattle.setting.specs.Size.{slotsOf}
 use Rattle.packet.specs.Packets.{frameLength}
 use Rattle.composer.specs.Composing.{Composer, stateChecks, beginRefusal}
 use Rattle.composer.proofs.Answers.{frame-lent}
 use Rattle.composer.proofs.Refusals.{state-none}
 
-pub begin-passed : (c : Composer) (s : Setting) (lent : ℕ) → beginRefusal c s lent ≡ 0 → lent ≡ frameLength
+pub begin-passed : (c : Composer) (s : Setting) (lent : ℕ) → beginRefusal c s lent ≡ 0 → lent ≡ frameLength (slotsOf (c .kind))
 unfolding beginRefusal
-begin-passed c s lent e = frame-lent lent _ e
+begin-passed c s lent e = frame-lent c lent _ e
 
 -- checks that do not answer before others do not answer
 front-none : (cs ds : List Check) → firstOf (cs ++ ds) ≡ 0 → firstOf cs ≡ 0
@@ -29,6 +30,6 @@ front-none cs ds e = either (ℕ-discrete (firstOf cs) 0)
 pub begin-counter : (c : Composer) (s : Setting) (lent : ℕ) → beginRefusal c s lent ≡ 0 → c .counter < 16
 unfolding beginRefusal stateChecks
 begin-counter c s lent e =
-    let behind = sym (passed 1 _ (ap not (eq-eqb lent frameLength (begin-passed c s lent e)))) ∙ e in
+    let behind = sym (passed 1 _ (ap not (eq-eqb lent (frameLength (slotsOf (c .kind))) (begin-passed c s lent e)))) ∙ e in
     let none = state-none c (front-none (stateChecks c) _ behind) in
     leb-false (2 ^ 4) (c .counter) (none-at none 1)

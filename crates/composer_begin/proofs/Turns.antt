@@ -75,6 +75,7 @@ rules-rise Kind.Extended s t b =
     (step 11 11 (omega arith)
     (step 11 11 (omega arith)
     (step 11 11 (omega arith) end))))))
+rules-rise Kind.Short s t b = step 1 8 (omega arith) (step 8 9 (omega arith) (step 9 10 (omega arith) end))
 
 -- no check has the number 0: where they answer 0, none holds
 numbered-turn : (cs ds : List Check) → numbered cs ≡ true → numbered ds ≡ true → numbered (inTurn cs ds) ≡ true

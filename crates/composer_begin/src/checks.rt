@@ -1,6 +1,5 @@
 // What begin checks of its state and its other buffers, in the order of the table of refusals.
 use composer::KIND;
-use packet::FRAME_BYTES;
 ghost use mathlib.Core.Path.{_≡_};
 ghost use lib.ListN.{length};
 ghost use Rattle.setting.specs.Refusal.{firstOf};
@@ -33,14 +32,15 @@ pub(crate) fn begin_refusal(state: &[u8], setting: &[u8], lent: usize) -> u8
     requires { ⌜ (length (now state) ≡ composerLength) × (length (now setting) ≡ settingLength) ⌝ }
     ensures { λ r. ⌜ r ≡ beginRefusal (composerOf (now (state .entry))) (settingOf (now (setting .entry))) lent ⌝ }
 {
-    if lent != FRAME_BYTES {
+    let kind = setting_bytes::kind_of(state[KIND]);
+    if lent != packet::frame_bytes(kind) {
         return 1;
     }
     let refused = composer_checks::state_refusal(state);
     if refused != 0 {
         return refused;
     }
-    let width = setting_checks::width_refusal(setting_bytes::kind_of(state[KIND]), setting);
+    let width = setting_checks::width_refusal(kind, setting);
     if width != 0 {
         return width;
     }

@@ -4,6 +4,7 @@ mod slots;
 
 use composer::COMPOSER_BYTES;
 use composer::FILLED;
+use composer::KIND;
 use composer::OPEN;
 use composer::SETTING;
 use setting_bytes::SETTING_BYTES;
@@ -25,7 +26,7 @@ fn open(state: &mut [u8], setting: &[u8])
     slices::fill(&mut state[FILLED..COMPOSER_BYTES], 0);
 }
 
-// Opens a frame: puts null packets into slots 1 to 52 and leaves slot 0 as it was. A frame that is still open is abandoned.
+// Opens a frame: puts null packets into its slots and leaves slot 0 as it was. A frame that is still open is abandoned.
 #[no_mangle]
 pub extern "C" fn niranbok_composer_begin(state: &mut [u8], frame: &mut [u8], setting: &[u8]) -> u8
     ensures { λ r. ⌜ r ≡ beginRefused (now (state .entry)) (now (setting .entry)) (now (frame .entry)) ⌝ }
@@ -44,7 +45,8 @@ pub extern "C" fn niranbok_composer_begin(state: &mut [u8], frame: &mut [u8], se
     }
     slices::are_bytes(state);
     slices::are_bytes(setting);
-    slots::clear(frame);
+    let size = setting::size_of(setting_bytes::kind_of(state[KIND]));
+    slots::clear(frame, size.slots as usize);
     open(state, setting);
     0
 }

@@ -1,5 +1,4 @@
 // The slots of a frame, one after another: slot i is the 188 bytes at 188 × i.
-use counters::SLOTS;
 use packet::PACKET_BYTES;
 ghost use mathlib.Core.Path.{_≡_};
 ghost use lib.ListN.{length};
@@ -17,13 +16,13 @@ fn write_null(slot: &mut [u8])
     slot[3] = 0x10;
 }
 
-// Writes null packets into slots 1 to 52.
-pub(crate) fn clear(frame: &mut [u8])
-    requires { ⌜ length (now frame) ≡ frameLength ⌝ }
-    ensures { λ _. ⌜ now (frame .exit) ≡ cleared (now (frame .entry)) ⌝ }
+// Writes null packets into the slots, of which the frame has so many.
+pub(crate) fn clear(frame: &mut [u8], slots: usize)
+    requires { ⌜ length (now frame) ≡ frameLength slots ⌝ }
+    ensures { λ _. ⌜ now (frame .exit) ≡ cleared slots (now (frame .entry)) ⌝ }
 {
     let mut i = 1;
-    while i <= SLOTS {
+    while i <= slots {
         let at = PACKET_BYTES * i;
         write_null(&mut frame[at..at + PACKET_BYTES]);
         i += 1;

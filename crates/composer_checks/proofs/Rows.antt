@@ -19,7 +19,7 @@ module _ (b : List ℕ) where
   rows = firstOf (stateChecks (composerOf b))
 
   abbrev shown : List Check
-  shown = announcedChecks (composerOf b .last)
+  shown = announcedChecks (composerOf b .kind) (composerOf b .last)
 
   abbrev widths : List Check
   widths = asked (composerOf b .is-open) (widthChecks (composerOf b .kind) (composerOf b .setting))

@@ -1,4 +1,4 @@
-// What every call checks of a composer's state, read straight from its 390 bytes. Any other length is a 1.
+// What every call checks of a composer's state, read straight from its 436 bytes. Any other length is a 1.
 use composer::COMPOSER_BYTES;
 use composer::COUNTER;
 use composer::FILLED;
@@ -63,7 +63,8 @@ fn long_state_refusal(bytes: &[u8]) -> u8
     if limits::VERSIONS <= bytes[VERSION] {
         return 17;
     }
-    let shown = setting_checks::announced_refusal(&bytes[LAST..OPEN]);
+    let kind = setting_bytes::kind_of(bytes[KIND]);
+    let shown = setting_checks::announced_refusal(kind, &bytes[LAST..OPEN]);
     if shown != 0 {
         return shown;
     }

@@ -22,11 +22,11 @@ use Rattle.composer.proofs.Same.{all-bytes, coded-by-counter, closed-bytes}
 -- the bytes of a state, and what the header says by them
 module _ (b : List ℕ) {s : Setting} (said : s ≡ closing (composerOf b)) where
   -- the header into a frame's slot 0
-  pub closed-memory : {kind : Kind} {pid : ℕ} {slot : List ℕ} (frame setting : List ℕ) → length frame ≡ frameLength → length setting ≡ settingLength
+  pub closed-memory : {kind : Kind} {pid : ℕ} {slot : List ℕ} (frame setting : List ℕ) (slots : ℕ) → length frame ≡ frameLength slots → length setting ≡ settingLength
       → kind ≡ composerOf b .kind → pid ≡ composerOf b .pid
       → slot ≡ cond (eqb (length (take packetLength frame)) headerLength && eqb (length setting) settingLength) (header kind pid s) (take packetLength frame)
       → slot ++ drop packetLength frame ≡ header (composerOf b .kind) (composerOf b .pid) (closing (composerOf b)) ++ drop packetLength frame
-  closed-memory frame setting whole long k n w =
+  closed-memory frame setting slots whole long k n w =
       rw (w, eq-eqb (length (take packetLength frame)) headerLength (length-part 0 packetLength frame (omega arith)), eq-eqb (length setting) settingLength long, k, n, said)
 
 -- and the state once it was written

@@ -102,10 +102,10 @@ module _ (t numbers : List ℕ) (counter version : ℕ) (long : length t ≡ set
 
   cut-setting : take settingLength (counter ∷ version ∷ (a ++ (numbers ++ drop privateAt t))) ≡ counter ∷ version ∷ (a ++ (numbers ++ rest))
   cut-setting =
-      let n₁ : 250 ≡ length a + 170 = omega (arith, length-a) in
-      let n₂ : 170 ≡ length numbers + settingFrom privateAt = omega (arith, slots) in
+      let n₁ : settingFrom announcedAt ≡ length a + settingFrom numbersAt = omega (arith, length-a) in
+      let n₂ : settingFrom numbersAt ≡ length numbers + settingFrom privateAt = omega (arith, slots) in
       ap (λ (l : List ℕ). counter ∷ version ∷ l)
-      (ap (λ (n : ℕ). take n (a ++ (numbers ++ drop privateAt t))) n₁ ∙ take-append-add a (numbers ++ drop privateAt t) 170
+      (ap (λ (n : ℕ). take n (a ++ (numbers ++ drop privateAt t))) n₁ ∙ take-append-add a (numbers ++ drop privateAt t) (settingFrom numbersAt)
       ∙ ap (λ (l : List ℕ). a ++ l)
       (ap (λ (n : ℕ). take n (numbers ++ drop privateAt t)) n₂ ∙ take-append-add numbers (drop privateAt t) (settingFrom privateAt)))
 

@@ -9,7 +9,6 @@ use composer::OPEN;
 use composer::PID;
 use composer::PID_LOW;
 use composer::SETTING;
-use packet::FRAME_BYTES;
 use packet::PACKET_BYTES;
 use setting_bytes::NUMBERS;
 ghost use mathlib.Core.Path.{_≡_};
@@ -25,7 +24,7 @@ fn close_refusal(state: &[u8], lent: usize) -> u8
     requires { ⌜ length (now state) ≡ composerLength ⌝ }
     ensures { λ r. ⌜ r ≡ closeRefusal (composerOf (now (state .entry))) lent ⌝ }
 {
-    if lent != FRAME_BYTES {
+    if lent != packet::frame_bytes(setting_bytes::kind_of(state[KIND])) {
         return 1;
     }
     let refused = composer_checks::state_refusal(state);

@@ -1,3 +1,5 @@
+mod Inside
 pub mod Passed
 mod Placed
 mod Placing
+mod Streams

@@ -4,16 +4,19 @@ use mathlib.Core.Path.{_≡_, refl, sym, ap, ap₂, _∙_}
 use mathlib.Core.Bool.{Bool, true, false, _||_, or-true, or-false}
 use mathlib.Core.Logic.{_⊎_, inl, inr, ⊎-elim}
 use mathlib.Core.List.{List, [], _∷_, _++_, map, zipWith, append-assoc}
+use native.Mathlib.Decide.{decLt}
 use native.Mathlib.Omega.{arith}
 use lib.Count.{trailingZeros}
 use lib.Dec.{eqb}
-use lib.ListN.{length, take, drop, set, replicate, length-append, length-drop, length-map, length-replicate, take-append-drop}
+use lib.Pow.{pow-mono}
+use lib.ListN.{length, take, drop, set, replicate, length-append, length-drop, length-map, length-replicate}
 use lib.Seq.{take-at, drop-at, take-add, drop-drop, length-take-le}
 use Rattle.slices.proofs.Front.{put}
 use Rattle.counters.specs.Counters.{lastSlot}
 use Rattle.packet.specs.Packets.{packetLength, restOf}
 use Rattle.composer.specs.Slots.{firstSlots, slotsIn, filledBy, slotsWith}
 use Rattle.composer.specs.States.{markByte, marksOf}
+use Rattle.composer.proofs.Slots.{slots-over}
 use Rattle.slot_bits.specs.Bits.{asBits, slotsAsBits}
 use Rattle.slot_bits.proofs.Bits.{FirstSlot, first-slot}
 
@@ -59,13 +62,6 @@ slots-one t later stream slots p k l long h e =
     (take-at p _ packetLength long ∙ e) (drop-at p _ packetLength long ∙ ap (λ (n : ℕ). drop n (drop at slots)) l)
     ∙ sym (slots-pass t (true ∷ later) stream slots)
 
--- all of them
-slots-over : (n : ℕ) (stream slots : List ℕ) → slotsWith (replicate n false) stream slots ≡ slots
-unfolding slotsWith
-slots-over zero stream slots = refl
-slots-over (suc n) stream slots =
-    ap (λ (l : List ℕ). take packetLength slots ++ l) (slots-over n stream (drop packetLength slots)) ∙ take-append-drop packetLength slots
-
 -- none is left, or no packet
 none-left : (n : ℕ) (bs : List Bool) → (asBits bs ≡ 0) ⊎ (n ≡ 0) → firstSlots n bs ≡ replicate (length bs) false
 unfolding firstSlots asBits
@@ -101,6 +97,14 @@ mark-more bytes i e =
     ap (map markByte) (set-map (λ (b : ℕ). eqb b 1) bytes i 1) ∙ set-map markByte (marksOf bytes) i true ∙ ap (λ (l : List ℕ). set l i 1) e
 
 -- ---- the loop
+
+-- a bit of a number that has so many
+pub bit-inside : {i k m : ℕ} → 2 ^ i ≤ m → m < 2 ^ k → i < k
+bit-inside {i} {k} h l = either (decLt i k)
+  where
+    either : Dec (i < k) → i < k
+    either (yes e) = e
+    either (no n) = let over : 2 ^ k ≤ 2 ^ i = pow-mono (omega arith) in absurd (omega arith)
 
 module _ (empty : List Bool) (stream frame₀ bytes₀ : List ℕ) where
   -- `now` is left of the stream, and m has the slots that are left: what follows makes of the frame and the marks as they are what the

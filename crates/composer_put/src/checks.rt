@@ -2,11 +2,11 @@
 use crate::slots;
 use composer::AVAILABILITY;
 use composer::AVAILABILITY_LOW;
+use composer::KIND;
 use composer::PID;
 use composer::PID_LOW;
 use counters::RelativeNumber;
 use counters::RelativeNumberAnswer;
-use packet::FRAME_BYTES;
 use packet::PACKET_BYTES;
 ghost use mathlib.Core.Path.{_≡_};
 ghost use lib.ListN.{length};
@@ -47,7 +47,8 @@ pub(crate) fn put_refusal(
     requires { ⌜ empty ≡ slotsAsBits (emptyFor (r .0) (part planAt lastSlot (now state)) (marksOf (part filledAt lastSlot (now state)))) ⌝ }
     ensures { λ t. ⌜ t ≡ putRefusal (composerOf (now (state .entry))) (r .0) (now (stream .entry)) lent ⌝ }
 {
-    if lent != FRAME_BYTES {
+    let kind = setting_bytes::kind_of(state[KIND]);
+    if lent != packet::frame_bytes(kind) {
         return 1;
     }
     if stream.len() % PACKET_BYTES != 0 {
@@ -60,6 +61,10 @@ pub(crate) fn put_refusal(
     let RelativeNumberAnswer::Is(number) = RelativeNumber::new(r.0) else {
         return 17;
     };
+    let size = setting::size_of(kind);
+    if size.streams < number.0 {
+        return 17;
+    }
     let not_open = composer_checks::open_refusal(state);
     if not_open != 0 {
         return not_open;

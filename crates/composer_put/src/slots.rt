@@ -3,7 +3,7 @@ use counters::RelativeNumber;
 use counters::SLOTS;
 use counters::Slot;
 use packet::PACKET_BYTES;
-ghost use Prim.Native.Nat.{_*_, _/_, min};
+ghost use Prim.Native.Nat.{_*_, _/_, _^_, _<_, min};
 ghost use mathlib.Core.Path.{_≡_};
 ghost use mathlib.Core.Bool.{Bool, false, _||_};
 ghost use mathlib.Core.List.{List, _∷_, map, zipWith};
@@ -11,7 +11,7 @@ ghost use lib.Count.{ones};
 ghost use lib.ListN.{length};
 ghost use Rattle.slices.specs.Slices.{someAtLeast};
 ghost use Rattle.counters.specs.Counters.{lastSlot};
-ghost use Rattle.packet.specs.Packets.{packetLength, frameLength, restOf};
+ghost use Rattle.packet.specs.Packets.{packetLength, restOf};
 ghost use Rattle.composer.specs.Slots.{emptyFor, slotsIn, filledBy, slotsWith};
 ghost use Rattle.composer.specs.States.{markByte, marksOf};
 ghost use Rattle.slot_bits.specs.Bits.{slotsAsBits};
@@ -52,14 +52,14 @@ fn start_of(slot: Slot) -> usize
 
 // Copies the stream's packets into the slots, in rising order, until slots or packets run out; marks these slots filled, and hands
 // back the rest of the stream. The lowest bit that is set is the next slot's, and is cleared once the slot is filled. The contract
-// speaks of the set of slots that the bits stand for.
+// speaks of the set of slots that the bits stand for, all of which the frame has.
 pub(crate) fn place<'a>(
     frame: &mut [u8],
     stream: &'a [u8],
     filled: &mut [u8],
     slots: u64,
 ) -> &'a [u8]
-    requires { ⌜ (length (now frame) ≡ frameLength) × (length (now filled) ≡ lastSlot) ⌝ }
+    requires { ⌜ (slots < 2 ^ (length (now frame) / packetLength)) × (length (now filled) ≡ lastSlot) ⌝ }
     requires { ⌜ someAtLeast 2 (now filled) ≡ false ⌝ }
     requires { ⌜ ((empty : List Bool) × (length empty ≡ lastSlot) × (slots ≡ slotsAsBits empty)) ⌝ }
     ensures { λ t. ⌜ ((empty : List Bool) → length empty ≡ lastSlot → slots ≡ slotsAsBits empty → now t ≡ restOf (now (stream .entry)) (slotsIn (filledBy (now (stream .entry)) empty))) ⌝ }

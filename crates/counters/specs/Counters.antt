@@ -13,12 +13,20 @@ firstSlot = 1
 abbrev pub lastSlot : ℕ
 lastSlot = 52
 
+-- the last one of a short frame
+abbrev pub lastShortSlot : ℕ
+lastShortSlot = 40
+
 -- relative numbers of streams
 abbrev pub firstStream : ℕ
 firstStream = 1
 
 abbrev pub lastStream : ℕ
 lastStream = 15
+
+-- the last one of a short frame
+abbrev pub lastShortStream : ℕ
+lastShortStream = 7
 
 -- positions of a frame in its super frame
 abbrev pub firstPosition : ℕ

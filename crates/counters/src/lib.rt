@@ -33,6 +33,9 @@ impl Slot {
 
     pub const LAST: u8 = 52;
 
+    // The last one of a short frame.
+    pub const LAST_SHORT: u8 = 40;
+
     pub fn new(n: u8) -> SlotAnswer
         ensures { λ r. ⌜ r ≡ slotAnswer (checked firstSlot lastSlot n) ⌝ }
     {
@@ -50,6 +53,9 @@ impl RelativeNumber {
     pub const FIRST: u8 = 1;
 
     pub const LAST: u8 = 15;
+
+    // The last one of a short frame.
+    pub const LAST_SHORT: u8 = 7;
 
     pub fn new(n: u8) -> RelativeNumberAnswer
         ensures { λ r. ⌜ r ≡ relativeNumberAnswer (checked firstStream lastStream n) ⌝ }
@@ -100,6 +106,11 @@ impl FramePosition {
 pub const SLOTS: usize = Slot::LAST as usize;
 
 pub const STREAMS: usize = RelativeNumber::LAST as usize;
+
+// The same of a short frame.
+pub const SHORT_SLOTS: usize = Slot::LAST_SHORT as usize;
+
+pub const SHORT_STREAMS: usize = RelativeNumber::LAST_SHORT as usize;
 
 // How many values the availability field has: there is a bit for each stream.
 pub const AVAILABILITIES: u16 = 1 << RelativeNumber::LAST;

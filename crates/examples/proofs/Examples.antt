@@ -7,6 +7,7 @@ use Rattle.header_layout.specs.Header.{paired, lineBits, body, header}
 use Rattle.header_layout.proofs.LaidOut.{laid-out}
 use Rattle.header_write.specs.Writing.{writeRefusal, written}
 use Rattle.setting.specs.Setting.{blank}
+use Rattle.setting.specs.Size.{sizeOf, resized}
 use Rattle.setting.specs.Refusal.{firstOf}
 use Rattle.setting.specs.Rules.{widthChecks, absentChecks, someUnavailable, pairTwice, bondingChecks, ruleChecks}
 use Rattle.counters.specs.Counters.{available}
@@ -18,5 +19,5 @@ use Rattle.examples.specs.Examples.{examples, ExamplesHold}
 use Rattle.examples.proofs.Pair.{first-places}
 
 pub examples-hold : ExamplesHold
-unfolding examples written writeRefusal firstOf widthChecks absentChecks ruleChecks bondingChecks someUnavailable pairTwice available anyBelow someAtLeast header body lineBits laid-out pack paired run bitsOf cut number registerFrom blank someDiffer announced differ nextCounter nextVersion openRow rowOf
+unfolding examples sizeOf resized written writeRefusal firstOf widthChecks absentChecks ruleChecks bondingChecks someUnavailable pairTwice available anyBelow someAtLeast header body lineBits laid-out pack paired run bitsOf cut number registerFrom blank someDiffer announced differ nextCounter nextVersion openRow rowOf
 examples-hold buffer lent = (refl, rw (lent, first-places buffer lent) refl)

@@ -14,6 +14,7 @@ use Rattle.bits.specs.Fields.{bitsOf, number, run, cut}
 use Rattle.crc.specs.Crc.{registerFrom}
 use Rattle.setting.specs.declared.Kind.{Kind}
 use Rattle.setting.specs.declared.Setting.{Setting}
+use Rattle.setting.specs.Size.{sizeOf, resized}
 use Rattle.setting.specs.Setting.{blank}
 use Rattle.setting.specs.Refusal.{firstOf}
 use Rattle.setting.specs.Rules.{widthChecks, absentChecks, someUnavailable, pairTwice, bondingChecks, ruleChecks}
@@ -54,12 +55,12 @@ module _ (buffer : List ℕ) (lent : length buffer ≡ headerLength) where
   length-written : (s : Setting) → Says s → length (written Kind.Extended pid s buffer) ≡ packetLength
   length-written s f = ap length (written-is s f) ∙ length-header Kind.Extended pid s
 
-  length-frame : (s : Setting) → Says s → length (written Kind.Extended pid s buffer ++ slots) ≡ frameLength
+  length-frame : (s : Setting) → Says s → length (written Kind.Extended pid s buffer ++ slots) ≡ frameLength lastSlot
   length-frame s f =
       length-append (written Kind.Extended pid s buffer) slots
       ∙ ap₂ _+_ (length-written s f) (length-replicate {A = ℕ} (packetLength * lastSlot) 0)
 
-  length-group : (ss : List Setting) → Each ss → length (groupOf buffer ss) ≡ frameLength * length ss
+  length-group : (ss : List Setting) → Each ss → length (groupOf buffer ss) ≡ frameLength lastSlot * length ss
   unfolding groupOf
   length-group [] none = refl
   length-group (s ∷ ss) (more f fs) =
@@ -86,7 +87,7 @@ module _ (buffer : List ℕ) (lent : length buffer ≡ headerLength) where
       ∙ said-each ss fs j (omega arith)
 
 all-say : Each bondedSettings
-unfolding writeRefusal firstOf widthChecks absentChecks ruleChecks bondingChecks someUnavailable pairTwice anyBelow someAtLeast header body lineBits laid-out pack paired firsts seconds run bitsOf cut number registerFrom reading rowAt place available
+unfolding sizeOf resized writeRefusal firstOf widthChecks absentChecks ruleChecks bondingChecks someUnavailable pairTwice anyBelow someAtLeast header body lineBits laid-out pack paired firsts seconds run bitsOf cut number registerFrom reading rowAt place available
 all-say =
     more {s = bondedSetting 1 3 1} (record { accepted = refl; back = refl })
     (more {s = bondedSetting 1 3 2} (record { accepted = refl; back = refl })
@@ -198,7 +199,7 @@ module _ (buffer : List ℕ) (lent : length buffer ≡ headerLength) where
       by-count (no l) = rw (le-ltb j 7 (omega arith)) refl
 
   frames-are : framesIn group ≡ 7
-  frames-are = ap (λ (n : ℕ). n / frameLength) (length-group buffer lent bondedSettings all-say)
+  frames-are = ap (λ (n : ℕ). n / frameLength lastSlot) (length-group buffer lent bondedSettings all-say)
 
   abbrev shownBy : (ℕ → Setting) → ℕ → List ℕ
   shownBy says n = firstSeven (placeBy says) (orderBy says n)

@@ -182,10 +182,10 @@ examples buffer =
     ∷ record { number = 10; said = firstPlaces buffer; written = 2 ∷ 1 ∷ 1 ∷ 1 ∷ 2 ∷ 2 ∷ 1 ∷ 2 ∷ 2 ∷ 3 ∷ 1 ∷ 3 ∷ 2 ∷ 4 ∷ 1 ∷ [] }
     ∷ record {
       number = 11;
-      said = told (rowOf (Stage.Open 4 52) good 5) ++ (told (rowOf (Stage.Open 4 51) good 5) ++ told (rowOf (Stage.Open 4 52) other 0));
+      said = told (rowOf lastSlot (Stage.Open 4 52) good 5) ++ (told (rowOf lastSlot (Stage.Open 4 51) good 5) ++ told (rowOf lastSlot (Stage.Open 4 52) other 0));
       written = 1 ∷ 0 ∷ 0 ∷ 1 ∷ 0 ∷ 2 ∷ [];
     }
-    ∷ record { number = 12; said = told (rowOf (Stage.Open 15 52) good 15); written = 0 ∷ 3 ∷ [] } ∷ []
+    ∷ record { number = 12; said = told (rowOf lastSlot (Stage.Open 15 52) good 15); written = 0 ∷ 3 ∷ [] } ∷ []
 
 -- whatever stood in the lent buffer: the table has the twelve examples, and what the definitions say of each is what the document says
 abbrev pub ExamplesHold : Type 0

@@ -11,7 +11,7 @@ use Rattle.setting_bytes.specs.Kinds.{isKind, kindOf}
 use Rattle.setting_bytes.specs.Settings.{settingLength, settingOf}
 use Rattle.header_calls.specs.Calls.{writeRefused, writeMemory, readRefused, readMemory}
 
--- 252 bytes that say a setting which meets the rules
+-- 298 bytes that say a setting which meets the rules
 pub record Meets (pid kind : ℕ) (setting : List ℕ) : Type 0 where
   pub is-kind : isKind kind ≡ true
   pub bytes : Fit 8 setting
@@ -19,7 +19,7 @@ pub record Meets (pid kind : ℕ) (setting : List ℕ) : Type 0 where
   pub rules : MeetsRules (kindOf kind) pid (settingOf setting)
 
 -- 'Every setting that meets the rules is written, and read back equal': what `niranbok_header_write` leaves in 188 bytes,
--- `niranbok_header_read` reads into 252 bytes, and they are those that were written
+-- `niranbok_header_read` reads into 298 bytes, and they are those that were written
 abbrev pub BytesBack : Type 0
 BytesBack =
     (pid kind : ℕ) (setting packet buffer : List ℕ) → Meets pid kind setting → length packet ≡ headerLength → length buffer ≡ settingLength

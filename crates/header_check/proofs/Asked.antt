@@ -1,47 +1,68 @@
 -- What a packet says in the parts that a check asks for, as byte-wise code reads them, and what is answered of them by the refusal.
 -- Assumes nothing.
-use Prim.Native.Nat.{ℕ, _/_, _%_}
-use mathlib.Core.Path.{_≡_, sym, ap, _∙_}
-use mathlib.Core.List.{List}
+use Prim.Native.Nat.{ℕ, _+_, _-_, _*_, _/_, _%_, _^_, _≤_, _<_}
+use mathlib.Core.Path.{_≡_, sym, ap, _∙_, subst}
+use mathlib.Core.List.{List, _++_}
 use borrow.Author.Tests.{ne-eqb}
 use native.Mathlib.Omega.{arith}
-use lib.ListN.{length, getD, take, drop}
+use lib.ListN.{length, getD, take, drop, replicate, length-replicate, replicate-append-replicate}
+use lib.Pow.{shr-lt, shl-exact}
+use lib.Seq.{drop-at}
 use Rattle.bits.specs.Fields.{Fit, run, cut}
+use Rattle.bits.proofs.Laws.{fit-getD, length-cut}
+use Rattle.slices.proofs.Front.{put}
 use Rattle.setting.specs.declared.Kind.{Kind}
+use Rattle.counters.specs.Counters.{lastSlot, lastStream}
 use Rattle.setting.specs.Setting.{blank}
-use Rattle.header_layout.specs.Rows.{place, rowAt}
-use Rattle.header_layout.specs.Header.{headerLength, firsts, seconds, reading}
+use Rattle.setting.specs.Size.{sizeOf, streamsOf, resized}
+use Rattle.setting.proofs.Sizes.{sized, resized-same, resized-longer}
+use Rattle.header_layout.specs.Header.{headerLength, reading}
 use Rattle.header_layout.proofs.Cut.{wordAt}
-use Rattle.header_layout.proofs.LaidOut.{laid-out}
-use Rattle.header_layout.proofs.Said.{fields-are, numbers-are, identifiers}
+use Rattle.header_layout.proofs.Said.{fields-are, streams-are, numbers-are}
 use Rattle.header_check.specs.declared.Checked.{Checked}
 use Rattle.header_check.specs.Checking.{readRefusal, partsOf, partsBeside, checkedOf}
 
--- both kinds have these parts in the same place
+-- the counter and the frame type, which stand in the same place in every kind
 module _ (kind : Kind) (p : List ℕ) (f : Fit 8 p) (h : length p ≡ headerLength) where
   pub counter-is : getD p 3 0 % 16 ≡ reading kind p .«continuity_counter»
-  unfolding reading laid-out rowAt place
-  counter-is = fields-are p f h .0
+  counter-is = fields-are p f h kind .0
 
   pub type-is : getD p 6 0 % 16 ≡ reading kind p .«frame_type»
-  unfolding reading laid-out rowAt place
-  type-is = fields-are p f h .3
+  type-is = fields-are p f h kind .3
 
-  pub streams-are : wordAt p 7 / 2 ≡ reading kind p .availability
-  unfolding reading laid-out rowAt place
-  streams-are = fields-are p f h .4
+-- the availability, shifted to where a setting has it
+pub streams-shifted : (kind : Kind) (p : List ℕ) → Fit 8 p → length p ≡ headerLength
+    → wordAt p 7 / 2 ^ (16 - streamsOf kind) * 2 ^ (lastStream - streamsOf kind) % 2 ^ 16 ≡ reading kind p .availability
+streams-shifted kind p f h =
+    let n = streamsOf kind in
+    let few : n ≤ lastStream = sized kind .streams in
+    let all : 16 ≡ n + (16 - n) = omega arith in
+    let word : wordAt p 7 < 2 ^ (n + (16 - n)) = subst (λ (w : ℕ). wordAt p 7 < 2 ^ w) all (omega (arith, fit-getD f 7, fit-getD f 8)) in
+    shl-exact n (lastStream - n) 16 (shr-lt n (16 - n) word) (omega arith) ∙ streams-are p f h kind
 
-  pub slots-are : cut 4 52 (run 8 (take 26 (drop 73 p))) ≡ reading kind p .«relative_ts_number»
-  unfolding reading laid-out rowAt place
-  slots-are = numbers-are p f h
+-- values written over the front of zeros
+pub over-zeros : (m n : ℕ) (vs : List ℕ) → length vs ≡ n → n ≤ m → put 0 n (replicate m 0) vs ≡ resized m vs
+over-zeros m n vs e h =
+    let zeros : drop {A = ℕ} n (replicate m 0) ≡ replicate (m - n) 0 =
+    let both : n + (m - n) ≡ m = omega arith in
+    sym (ap (λ (l : List ℕ). drop n l) (replicate-append-replicate n (m - n) 0 ∙ ap (λ (k : ℕ). replicate k 0) both))
+    ∙ drop-at (replicate n 0) (replicate (m - n) 0) n (length-replicate {A = ℕ} n 0) in
+    let fits : length vs ≤ m = omega arith in
+    ap (λ (l : List ℕ). vs ++ l) zeros ∙ ap (λ (k : ℕ). vs ++ replicate (m - k) 0) (sym e) ∙ sym (resized-longer m vs fits)
 
-  pub ts-ids-are : firsts (cut 16 30 (run 8 (take 60 (drop 9 p)))) ≡ reading kind p .«ts_id»
-  unfolding reading laid-out rowAt place
-  ts-ids-are = ap firsts (identifiers p f h 15 (omega arith))
+-- the slots' numbers of each kind, as they are read: two from a byte, or three bits each into the front of zeros
+module _ (p : List ℕ) (f : Fit 8 p) (h : length p ≡ headerLength) where
+  pub plain-numbers : cut 4 52 (run 8 (take 26 (drop 73 p))) ≡ reading Kind.Plain p .«relative_ts_number»
+  unfolding sizeOf
+  plain-numbers = sym (resized-same lastSlot _ (length-cut 4 52 (run 8 (take 26 (drop 73 p))))) ∙ numbers-are p f h Kind.Plain
 
-  pub network-ids-are : seconds (cut 16 30 (run 8 (take 60 (drop 9 p)))) ≡ reading kind p .«original_network_id»
-  unfolding reading laid-out rowAt place
-  network-ids-are = ap seconds (identifiers p f h 15 (omega arith))
+  pub extended-numbers : cut 4 52 (run 8 (take 26 (drop 73 p))) ≡ reading Kind.Extended p .«relative_ts_number»
+  unfolding sizeOf
+  extended-numbers = sym (resized-same lastSlot _ (length-cut 4 52 (run 8 (take 26 (drop 73 p))))) ∙ numbers-are p f h Kind.Extended
+
+  pub short-numbers : put 0 40 (replicate lastSlot 0) (cut 3 40 (run 8 (take 15 (drop 38 p)))) ≡ reading Kind.Short p .«relative_ts_number»
+  unfolding sizeOf
+  short-numbers = over-zeros lastSlot 40 _ (length-cut 3 40 (run 8 (take 15 (drop 38 p)))) (omega arith) ∙ numbers-are p f h Kind.Short
 
 -- the answer's parts are those of what the packet says
 pub record Answers (kind : Kind) (p : List ℕ) (r : Checked) : Type 0 where

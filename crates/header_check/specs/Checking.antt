@@ -1,15 +1,16 @@
 -- What checking a packet as a header answers.
 use Prim.Native.Nat.{ℕ}
-use mathlib.Core.Bool.{cond}
+use mathlib.Core.Bool.{cond, _&&_}
 use mathlib.Core.List.{List, _++_}
 use lib.Dec.{eqb}
 use lib.ListN.{length}
+use Rattle.counters.specs.Counters.{lastSlot}
 use Rattle.setting.specs.declared.Kind.{Kind}
 use Rattle.setting.specs.declared.Setting.{Setting}
 use Rattle.setting.specs.Setting.{blank}
 use Rattle.setting.specs.Refusal.{firstOf}
 use Rattle.setting.specs.Rules.{ruleChecks}
-use Rattle.header_layout.specs.Header.{reading, callChecks, packetChecks}
+use Rattle.header_layout.specs.Header.{headerLength, reading, callChecks, packetChecks}
 use Rattle.header_check.specs.declared.Checked.{Checked}
 
 -- the refusal of a read, or 0
@@ -39,3 +40,7 @@ partsBeside n kind p = partsOf n (cond (eqb n 0) (reading kind p) blank)
 -- what a check answers
 unfoldable pub checkedOf : Kind → ℕ → List ℕ → Checked
 checkedOf kind pid p = partsBeside (readRefusal kind pid p) kind p
+
+-- 52 bytes after the slots' numbers of a packet were read into them. Bytes and packets of any other length stay
+unfoldable pub numbersInto : Kind → List ℕ → List ℕ → List ℕ
+numbersInto kind p lent = cond (eqb (length lent) lastSlot && eqb (length p) headerLength) (reading kind p .«relative_ts_number») lent

@@ -4,8 +4,10 @@ use counters::FramePosition;
 use counters::SLOTS;
 use setting::Kind;
 ghost use mathlib.Core.Path.{_≡_};
-ghost use Rattle.header_check.specs.Checking.{checkedOf};
+ghost use Rattle.header_check.specs.Checking.{checkedOf, numbersInto};
+ghost use Rattle.header_check.specs.Cutting.{cutInto};
 
+mod packed;
 mod parts;
 
 // Refusal 0 and the fields that receiving and gathering use, or the refusal's number and zeros.
@@ -36,4 +38,39 @@ pub fn check(packet: &[u8], pid: u16, kind: Kind) -> Checked
         return parts::refused(shown);
     }
     parts::said_by(packet, kind)
+}
+
+// Reads the numbers of the slots from a packet into 52 bytes, with zeros behind the kind's last slot. A packet or bytes of any other length change
+// nothing.
+pub fn read_numbers(numbers: &mut [u8], packet: &[u8], kind: Kind)
+    ensures { λ _. ⌜ now (numbers .exit) ≡ numbersInto kind (now (packet .entry)) (now (numbers .entry)) ⌝ }
+{
+    if numbers.len() != SLOTS {
+        return;
+    }
+    if packet.len() != header_layout::HEADER_LENGTH {
+        return;
+    }
+    slices::fill(numbers, 0);
+    parts::read_numbers(numbers, packet, kind);
+}
+
+// The most values that one call cuts.
+const MOST_VALUES: usize = 255;
+
+// Cuts values of `width` bits from `part`, as many as `values` has. Nothing is written where the part has not enough bits, a value has more
+// than eight, or there are more than 255 values.
+pub fn cut_run(values: &mut [u8], part: &[u8], width: u8)
+    ensures { λ _. ⌜ now (values .exit) ≡ cutInto width (now (values .entry)) (now (part .entry)) ⌝ }
+{
+    if 8 < width {
+        return;
+    }
+    if MOST_VALUES < values.len() {
+        return;
+    }
+    if part.len() < (values.len() * width as usize + 7) / 8 {
+        return;
+    }
+    packed::read_run(values, part, width as u32);
 }

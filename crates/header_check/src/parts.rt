@@ -1,15 +1,20 @@
 // The parts of the check: what a packet of 188 bytes shows and says, as far as the check needs it.
 use crate::Checked;
+use crate::packed;
 use counters::FramePosition;
+use counters::RelativeNumber;
+use counters::SHORT_SLOTS;
 use counters::SLOTS;
+use counters::STREAMS;
 use setting::Kind;
 ghost use mathlib.Core.Path.{_≡_};
 ghost use Prim.Native.Nat.{_+_, _*_, _<_};
-ghost use lib.ListN.{length, getD};
+ghost use lib.ListN.{length, getD, replicate};
 ghost use Rattle.bits.specs.Fields.{run, cut};
 ghost use Rattle.setting.specs.Setting.{blank};
 ghost use Rattle.setting.specs.Refusal.{firstOf};
-ghost use Rattle.setting.specs.Rules.{bondingChecks, ruleChecks};
+ghost use Rattle.counters.specs.Counters.{lastSlot};
+ghost use Rattle.setting.specs.Rules.{pairTwice, bondingChecks, ruleChecks};
 ghost use Rattle.header_layout.specs.Header.{headerLength, packetChecks, reading};
 ghost use Rattle.header_check.specs.Checking.{partsOf, partsBeside};
 
@@ -60,13 +65,83 @@ fn read_halves(values: &mut [u8], part: &[u8])
     }
 }
 
-// The bonding fields: those of the packet for an extended header, zeros for a plain one.
+// The availability, as a setting has it: stream 1 is bit 14 in every kind. In the header its bit is the highest of byte 7.
+fn availability_of(packet: &[u8], kind: Kind) -> u16
+    requires { ⌜ length (now packet) ≡ headerLength ⌝ }
+    ensures { λ r. ⌜ r ≡ reading kind (now (packet .entry)) .availability ⌝ }
+{
+    let size = setting::size_of(kind);
+    let own = word_at(packet, header_layout::AVAILABILITY) >> ((16 - size.streams) as u32);
+    own << ((RelativeNumber::LAST - size.streams) as u32)
+}
+
+// The number of each slot that the kind has; those behind stay zeros.
+pub(crate) fn read_numbers(numbers: &mut [u8], packet: &[u8], kind: Kind)
+    requires { ⌜ (now numbers ≡ replicate lastSlot 0) × (length (now packet) ≡ headerLength) ⌝ }
+    ensures { λ _. ⌜ now (numbers .exit) ≡ reading kind (now (packet .entry)) .«relative_ts_number» ⌝ }
+{
+    match kind {
+        Kind::Plain => {
+            read_halves(
+                numbers,
+                &packet[header_layout::NUMBERS..header_layout::PRIVATE],
+            );
+        }
+        Kind::Extended => {
+            read_halves(
+                numbers,
+                &packet[header_layout::NUMBERS..header_layout::PRIVATE],
+            );
+        }
+        Kind::Short => {
+            packed::read_run(
+                &mut numbers[0..SHORT_SLOTS],
+                &packet[header_layout::SHORT_NUMBERS..header_layout::SHORT_PRIVATE],
+                3,
+            );
+        }
+    }
+}
+
+// The bytes of the identifiers of fifteen streams.
+const IDENTIFIERS_BYTES: usize = header_layout::STREAM_BYTES as usize * STREAMS;
+
+// Whether two available streams have equal identifier pairs. A stream that the kind does not have is not available, so what stands behind
+// the identifiers is not compared.
+fn has_pair_twice(packet: &[u8], kind: Kind, availability: u16) -> bool
+    requires { ⌜ (length (now packet) ≡ headerLength) × (availability ≡ reading kind (now packet) .availability) ⌝ }
+    ensures { λ r. ⌜ r ≡ pairTwice availability (reading kind (now (packet .entry)) .«ts_id») (reading kind (now (packet .entry)) .«original_network_id») ⌝ }
+{
+    let at = header_layout::places_of(kind);
+    let start = at.identifiers;
+    let end = start + IDENTIFIERS_BYTES;
+    setting_pairs::has_pair_twice(
+        availability,
+        &packet[start..end],
+        &packet[start + 2..end],
+        header_layout::STREAM_BYTES,
+    )
+}
+
+// The bonding fields: those of the packet for an extended header, zeros for any other.
 struct Bonding {
     group_id: u8,
     number_of_carriers: u8,
     carrier_sequence: u8,
     number_of_frames: u8,
     frame_position: u8,
+}
+
+fn no_bonding() -> Bonding
+    ensures { λ r. ⌜ r ≡ record { «group_id» = 0; «number_of_carriers» = 0; «carrier_sequence» = 0; «number_of_frames» = 0; «frame_position» = 0 } ⌝ }
+{
+    Bonding {
+        group_id: 0,
+        number_of_carriers: 0,
+        carrier_sequence: 0,
+        number_of_frames: 0,
+        frame_position: 0,
+    }
 }
 
 fn bonding_of(packet: &[u8], kind: Kind) -> Bonding
@@ -78,13 +153,8 @@ fn bonding_of(packet: &[u8], kind: Kind) -> Bonding
     ensures { λ r. ⌜ r .«frame_position» ≡ reading kind (now (packet .entry)) .«frame_position» .0 ⌝ }
 {
     match kind {
-        Kind::Plain => Bonding {
-            group_id: 0,
-            number_of_carriers: 0,
-            carrier_sequence: 0,
-            number_of_frames: 0,
-            frame_position: 0,
-        },
+        Kind::Plain => no_bonding(),
+        Kind::Short => no_bonding(),
         Kind::Extended => {
             let frames = packet[header_layout::BONDING + 3];
             Bonding {
@@ -119,21 +189,13 @@ pub(crate) fn said_by(packet: &[u8], kind: Kind) -> Checked
     if !setting_rules::frame_type_allowed(kind, packet[6] % 16) {
         return refused(8);
     }
-    let availability = word_at(packet, 7) / 2;
+    let availability = availability_of(packet, kind);
     let mut numbers = [0u8; SLOTS];
-    read_halves(
-        &mut numbers,
-        &packet[header_layout::NUMBERS..header_layout::PRIVATE],
-    );
+    read_numbers(&mut numbers, packet, kind);
     if setting_slots::has_unavailable(availability, &numbers) {
         return refused(9);
     }
-    if setting_pairs::has_pair_twice(
-        availability,
-        &packet[header_layout::IDENTIFIERS..header_layout::CONTROL],
-        &packet[header_layout::NETWORK_ID..header_layout::CONTROL],
-        header_layout::STREAM_BYTES,
-    ) {
+    if has_pair_twice(packet, kind, availability) {
         return refused(10);
     }
     let bonding = bonding_of(packet, kind);

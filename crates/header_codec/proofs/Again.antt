@@ -1,25 +1,28 @@
 -- A header that the reader accepts, written again, is the same but for reserved bits. Assumes nothing.
-use Prim.Native.Nat.{ℕ, _+_, _-_, _^_, _<_}
+use Prim.Native.Nat.{ℕ, _+_, _-_, _*_, _^_, _≤_, _<_}
 use mathlib.Core.Path.{_≡_, refl, sym, ap, ap₂, _∙_, subst}
 use mathlib.Core.List.{List, [], _∷_, _++_}
 use native.Mathlib.Omega.{arith}
 use lib.Dec.{lit<}
 use lib.ListN.{length, getD, take, drop, take-append-drop, length-drop}
-use lib.Pow.{ones-lt}
+use lib.Pow.{ones-lt, shl-shr}
 use Rattle.bits.specs.Fields.{Fit, bitsOf, number, run}
 use Rattle.bits.proofs.Laws.{fit-run, fit-drop, length-run, bitsOf-number, number-lt}
 use Rattle.crc.proofs.Laws.{own-bits-only}
 use Rattle.setting.specs.declared.Kind.{Kind}
-use Rattle.counters.specs.Counters.{lastStream}
+use Rattle.counters.specs.Counters.{lastSlot, lastStream}
+use Rattle.setting.specs.Setting.{privateBytes}
+use Rattle.setting.specs.Size.{sizeOf, slotsOf, streamsOf}
+use Rattle.setting.proofs.Sizes.{sized, resized-again}
 use Rattle.header_layout.specs.Layout.{Field, layout}
-use Rattle.header_layout.specs.Header.{headerLength, one, paired, firsts, seconds, allOnes, content, lineBits, body, header, row, reading}
+use Rattle.header_layout.specs.Header.{headerLength, one, paired, firsts, seconds, allOnes, streamsBeyond, content, lineBits, body, header, row, reading}
 use Rattle.header_codec.specs.Demands.{fieldAt, SameButReserved, ReservedOnes, WrittenAgain}
 use Rattle.header_layout.proofs.Rows.{rowOf, Fills, Suits, Each, next, done, each-at, pack-rows}
 use Rattle.header_layout.proofs.LaidOut.{laid-out, bodyBits, size-layout, length-content}
 use Rattle.header_write.proofs.Calls.{not-refused}
 use Rattle.header_layout.proofs.Content.{fills-replicate}
 use Rattle.header_layout.proofs.Whole.{crcOf, crc-lt, header-only, register-behind, row-header}
-use Rattle.header_check.proofs.Accepted.{Shown, shown, long, row-filled, meets}
+use Rattle.header_check.proofs.Accepted.{Shown, shown, length-firsts, length-seconds, long, row-filled, meets}
 
 -- ---- row by row
 
@@ -43,7 +46,7 @@ data Stands (kind : Kind) (pid : ℕ) (p : List ℕ) (k : ℕ) : Type 0 where
 module _ (kind : Kind) (pid : ℕ) (p : List ℕ) (a : Shown kind pid p) where
   -- a row of one value is that value
   sole : (k : ℕ) → k < length (layout kind) → rowOf (layout kind) k .1 ≡ 1 → one (getD (row kind p k) 0 0) ≡ row kind p k
-  sole k h e = single (row kind p k) (row-filled kind pid p a k h .0 ∙ e)
+  sole k h e = single (row kind p k) (row-filled kind p (a .whole) k h .0 ∙ e)
 
   common : Each (Stands kind pid p) (length (layout kind)) 17 → Each (Stands kind pid p) (length (layout kind)) 0
   unfolding laid-out reading
@@ -58,17 +61,32 @@ module _ (kind : Kind) (pid : ℕ) (p : List ℕ) (a : Shown kind pid p) where
       (next (kept (sole 7 (omega arith) refl))
       (next (kept (sole 8 (omega arith) refl))
       (next (kept (sole 9 (omega arith) refl))
-      (next (kept (sole 10 (omega arith) refl))
+      (next (kept (ap one (shl-shr (getD (row kind p 10) 0 0) (streamsBeyond (sizeOf kind))) ∙ sole 10 (omega arith) refl))
       (next (reserved refl refl)
-      (next (kept (halves (row kind p 12) lastStream (row-filled kind pid p a 12 (omega arith) .0)))
-      (next (kept refl)
+      (next (kept (ap₂ paired (resized-again n lastStream (firsts (row kind p 12)) (length-firsts (row kind p 12) n pairs) few) (resized-again n lastStream (seconds (row kind p 12)) (length-seconds (row kind p 12) n pairs) few) ∙ halves (row kind p 12) n pairs))
+      (next (kept (resized-again n lastStream (row kind p 13) (filled-row 13 (omega arith) .0) few))
       (next (reserved refl refl)
       (next (kept (sole 15 (omega arith) refl))
-      (next (kept refl) behind))))))))))))))))
+      (next (kept (resized-again (slotsOf kind) lastSlot (row kind p 16) (filled-row 16 (omega arith) .0) (sized kind .slots))) behind))))))))))))))))
+    where
+      n : ℕ
+      n = streamsOf kind
+
+      few : streamsOf kind ≤ lastStream
+      few = sized kind .streams
+
+      filled-row : (k : ℕ) → k < length (layout kind) → Fills (rowOf (layout kind) k) (row kind p k)
+      filled-row = row-filled kind p (a .whole)
+
+      pairs : length (row kind p 12) ≡ n + n
+      pairs = filled-row 12 (omega arith) .0 ∙ omega arith
 
 private-rows : (kind : Kind) (pid : ℕ) (p : List ℕ) → Shown kind pid p → Each (Stands kind pid p) (length (layout kind)) 17
 unfolding laid-out reading
-private-rows Kind.Plain pid p a = next (kept refl) done
+private-rows Kind.Plain pid p a =
+    next (kept (resized-again (sizeOf Kind.Plain .«private_bytes») privateBytes (row Kind.Plain p 17) (row-filled Kind.Plain p (a .whole) 17 (lit< tt) .0) (sized Kind.Plain .privates))) done
+private-rows Kind.Short pid p a =
+    next (kept (resized-again (sizeOf Kind.Short .«private_bytes») privateBytes (row Kind.Short p 17) (row-filled Kind.Short p (a .whole) 17 (lit< tt) .0) (sized Kind.Short .privates))) done
 private-rows Kind.Extended pid p a =
     next (kept refl) (next (kept (only 18 (lit< tt) refl)) (next (kept (only 19 (lit< tt) refl)) (next (kept (only 20 (lit< tt) refl))
     (next (kept (only 21 (lit< tt) refl)) (next (kept (only 22 (lit< tt) refl)) (next (reserved refl refl) done))))))
@@ -87,7 +105,7 @@ module _ (kind : Kind) (pid : ℕ) (p : List ℕ) (a : Shown kind pid p) where
   filled = record { count = length-content kind pid (reading kind p); each = λ k h. fills k h (stands kind pid p a k h) }
     where
       fills : (k : ℕ) → k < length (layout kind) → Stands kind pid p k → Fills (rowOf (layout kind) k) (getD (content kind pid (reading kind p)) k [])
-      fills k h (kept e) = subst (Fills (rowOf (layout kind) k)) (sym e) (row-filled kind pid p a k h)
+      fills k h (kept e) = subst (Fills (rowOf (layout kind) k)) (sym e) (row-filled kind p (a .whole) k h)
       fills k h (reserved r e) =
           let w = rowOf (layout kind) k .0 in
           subst (Fills (rowOf (layout kind) k)) (sym e) (fills-replicate w (rowOf (layout kind) k .1) (2 ^ w - 1) (ones-lt w))
@@ -107,7 +125,7 @@ module _ (kind : Kind) (pid : ℕ) (p : List ℕ) (a : Shown kind pid p) where
   same-body : ReservedOnes kind p → body kind pid (reading kind p) ≡ take bodyBits (run 8 p)
   unfolding body lineBits
   same-body ones =
-      pack-rows (layout kind) (content kind pid (reading kind p)) (run 8 p) (fit-run 8 p) (long kind pid p a) (length-content kind pid (reading kind p))
+      pack-rows (layout kind) (content kind pid (reading kind p)) (run 8 p) (fit-run 8 p) (long kind p (a .whole)) (length-content kind pid (reading kind p))
       (λ k h. as-read k h (ones k h))
       ∙ ap (λ (n : ℕ). take n (run 8 p)) (size-layout kind)
 

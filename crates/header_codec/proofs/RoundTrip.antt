@@ -1,28 +1,32 @@
 -- A setting that meets the rules is written, and read back equal. Assumes nothing.
-use Prim.Native.Nat.{ℕ, _^_, _<_}
+use Prim.Native.Nat.{ℕ, _+_, _*_, _/_, _^_, _≤_, _<_}
 use mathlib.Core.Path.{_≡_, refl, sym, ap, ap₂, _∙_, subst}
 use mathlib.Core.Bool.{Bool, true, false, cond, not, _&&_}
 use mathlib.Core.List.{List, [], _∷_}
 use native.Mathlib.Omega.{arith}
-use native.Mathlib.Nat.{suc-inj}
+use native.Mathlib.Nat.{suc-inj, add-zero}
 use lib.Arith.{lt-one}
 use lib.Dec.{lit<, leb, eqb}
 use lib.ListN.{length, getD, drop, replicate}
+use lib.Pow.{split}
 use borrow.Author.Tests.{leb-false, eq-eqb}
 use Rattle.bits.specs.Fields.{Fit}
 use Rattle.slices.specs.Slices.{someAtLeast}
 use Rattle.crc.specs.Crc.{registerOf}
 use Rattle.setting.specs.declared.Kind.{Kind}
 use Rattle.setting.specs.declared.Setting.{Setting}
+use Rattle.counters.specs.Counters.{lastSlot, lastStream}
 use Rattle.setting.specs.Setting.{privateBytes, auxiliaryBytes, blank, OfItsTypes}
+use Rattle.setting.specs.Size.{sizeOf, slotsOf, streamsOf, resized}
 use Rattle.setting.specs.Refusal.{NoneHolds, none, more}
 use Rattle.setting.specs.Rules.{widthChecks, absentChecks, ruleChecks}
-use Rattle.setting.proofs.Fields.{fit-some}
-use Rattle.setting.proofs.Refusals.{first-none, none-at, none-append, none-behind}
+use Rattle.setting.proofs.Fields.{fit-some, Narrow, narrow as narrow-of}
+use Rattle.setting.proofs.Sizes.{sized, length-resized, resized-back}
+use Rattle.setting.proofs.Refusals.{first-none, none-at, none-append, none-before, none-behind}
 use Rattle.header_read.specs.declared.Reading.{Reading}
 use Rattle.header_layout.specs.Rows.{place, rowAt}
 use Rattle.header_layout.specs.Layout.{Field, table, layout, rowWith}
-use Rattle.header_layout.specs.Header.{paired, firsts, seconds, content, headerLength, header, values, value, reading, packetChecks}
+use Rattle.header_layout.specs.Header.{paired, firsts, seconds, streamsBeyond, content, headerLength, header, values, value, reading, packetChecks}
 use Rattle.header_write.specs.Writing.{written}
 use Rattle.header_check.specs.Checking.{readRefusal}
 use Rattle.header_read.specs.Reader.{readOf}
@@ -87,12 +91,12 @@ module _ (kind : Kind) (pid : ℕ) (s : Setting) (t : OfItsTypes s) (m : MeetsRu
         «version_number» = value-back Field.version (omega arith) i;
         «slot_allocation_type» = value-back Field.slot-type (omega arith) i;
         «frame_type» = value-back Field.frame-type (omega arith) i;
-        availability = value-back Field.streams (omega arith) i;
-        «ts_id» = (ap firsts (row-back Field.identifiers (omega arith)) ∙ firsts-paired (s .«ts_id») (s .«original_network_id») same-count) i;
-        «original_network_id» = (ap seconds (row-back Field.identifiers (omega arith)) ∙ seconds-paired (s .«ts_id») (s .«original_network_id») same-count) i;
-        «receive_status» = row-back Field.statuses (omega arith) i;
+        availability = (ap (λ (v : ℕ). v * 2 ^ streamsBeyond (sizeOf kind)) (value-back Field.streams (omega arith)) ∙ streams-whole) i;
+        «ts_id» = (ap (λ (l : List ℕ). resized lastStream (firsts l)) (row-back Field.identifiers (omega arith)) ∙ ap (resized lastStream) (firsts-paired (resized n (s .«ts_id»)) (resized n (s .«original_network_id»)) same-count) ∙ resized-back n lastStream (s .«ts_id») (t .ts-id .0) few (narrow .ts-behind)) i;
+        «original_network_id» = (ap (λ (l : List ℕ). resized lastStream (seconds l)) (row-back Field.identifiers (omega arith)) ∙ ap (resized lastStream) (seconds-paired (resized n (s .«ts_id»)) (resized n (s .«original_network_id»)) same-count) ∙ resized-back n lastStream (s .«original_network_id») (t .network-id .0) few (narrow .network-behind)) i;
+        «receive_status» = (ap (resized lastStream) (row-back Field.statuses (omega arith)) ∙ resized-back n lastStream (s .«receive_status») (t .statuses .0) few (narrow .statuses-behind)) i;
         «emergency_indicator» = value-back Field.emergency (omega arith) i;
-        «relative_ts_number» = row-back Field.numbers (omega arith) i;
+        «relative_ts_number» = (ap (resized lastSlot) (row-back Field.numbers (omega arith)) ∙ resized-back (slotsOf kind) lastSlot (s .«relative_ts_number») (t .numbers .0) (sized kind .slots) (narrow .numbers-behind)) i;
         «private_data» = private .privates i;
         auxiliary = private .auxiliaries i;
         «group_id» = private .group i;
@@ -102,24 +106,54 @@ module _ (kind : Kind) (pid : ℕ) (s : Setting) (t : OfItsTypes s) (m : MeetsRu
         «frame_position» = record { 0 = private .position i };
       }
     where
-      same-count : length (s .«ts_id») ≡ length (s .«original_network_id»)
-      same-count = t .ts-id .0 ∙ sym (t .network-id .0)
+      n : ℕ
+      n = streamsOf kind
+
+      few : streamsOf kind ≤ lastStream
+      few = sized kind .streams
+
+      narrow : Narrow kind s
+      narrow = narrow-of kind (none-before (widthChecks kind s) (ruleChecks kind s) (m .fields))
+
+      same-count : length (resized n (s .«ts_id»)) ≡ length (resized n (s .«original_network_id»))
+      same-count = length-resized n (s .«ts_id») ∙ sym (length-resized n (s .«original_network_id»))
+
+      -- the streams beyond the size are not available, so no bit is lost
+      streams-whole : s .availability / 2 ^ streamsBeyond (sizeOf kind) * 2 ^ streamsBeyond (sizeOf kind) ≡ s .availability
+      streams-whole =
+          let rest = narrow .streams-behind in
+          let all = split (s .availability) (streamsBeyond (sizeOf kind)) in
+          sym (add-zero _) ∙ ap (λ (r : ℕ). s .availability / 2 ^ streamsBeyond (sizeOf kind) * 2 ^ streamsBeyond (sizeOf kind) + r) (sym rest) ∙ all
 
 private-back : (kind : Kind) (pid : ℕ) (s : Setting) → OfItsTypes s → MeetsRules kind pid s → SamePrivate (reading kind (header kind pid s)) s
-unfolding laid-out reading widthChecks absentChecks
+unfolding laid-out reading widthChecks absentChecks resized sizeOf
 private-back Kind.Plain pid s t m =
     record {
-      privates = row-back Kind.Plain pid s t m Field.privates (lit< tt);
-      auxiliaries = absent-list auxiliaryBytes (s .auxiliary) (t .auxiliaries .0) (none-at (m .fields) 8);
-      group = absent (s .«group_id») (none-at (m .fields) 9);
-      carriers = absent (s .«number_of_carriers») (none-at (m .fields) 10);
-      sequence = absent (s .«carrier_sequence») (none-at (m .fields) 11);
-      frames = absent (s .«number_of_frames») (none-at (m .fields) 12);
-      position = absent (s .«frame_position» .0) (none-at (m .fields) 13);
+      privates =
+          ap (resized privateBytes) (row-back Kind.Plain pid s t m Field.privates (lit< tt))
+          ∙ resized-back (sizeOf Kind.Plain .«private_bytes») privateBytes (s .«private_data») (t .privates .0) (sized Kind.Plain .privates) (none-at (m .fields) 13);
+      auxiliaries = absent-list auxiliaryBytes (s .auxiliary) (t .auxiliaries .0) (none-at (m .fields) 14);
+      group = absent (s .«group_id») (none-at (m .fields) 15);
+      carriers = absent (s .«number_of_carriers») (none-at (m .fields) 16);
+      sequence = absent (s .«carrier_sequence») (none-at (m .fields) 17);
+      frames = absent (s .«number_of_frames») (none-at (m .fields) 18);
+      position = absent (s .«frame_position» .0) (none-at (m .fields) 19);
+    }
+private-back Kind.Short pid s t m =
+    record {
+      privates =
+          ap (resized privateBytes) (row-back Kind.Short pid s t m Field.privates (lit< tt))
+          ∙ resized-back (sizeOf Kind.Short .«private_bytes») privateBytes (s .«private_data») (t .privates .0) (sized Kind.Short .privates) (none-at (m .fields) 13);
+      auxiliaries = absent-list auxiliaryBytes (s .auxiliary) (t .auxiliaries .0) (none-at (m .fields) 14);
+      group = absent (s .«group_id») (none-at (m .fields) 15);
+      carriers = absent (s .«number_of_carriers») (none-at (m .fields) 16);
+      sequence = absent (s .«carrier_sequence») (none-at (m .fields) 17);
+      frames = absent (s .«number_of_frames») (none-at (m .fields) 18);
+      position = absent (s .«frame_position» .0) (none-at (m .fields) 19);
     }
 private-back Kind.Extended pid s t m =
     record {
-      privates = absent-list privateBytes (s .«private_data») (t .privates .0) (none-at (m .fields) 8);
+      privates = resized-back (sizeOf Kind.Extended .«private_bytes») privateBytes (s .«private_data») (t .privates .0) (sized Kind.Extended .privates) (none-at (m .fields) 13);
       auxiliaries = row-back Kind.Extended pid s t m Field.auxiliary (lit< tt);
       group = value-back Kind.Extended pid s t m Field.group (lit< tt);
       carriers = value-back Kind.Extended pid s t m Field.carriers (lit< tt);

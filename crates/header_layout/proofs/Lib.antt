@@ -7,6 +7,7 @@ pub mod Cut
 pub mod Halves
 pub mod Identifiers
 pub mod LaidOut
+pub mod Numbers
 pub mod Packet
 pub mod Private
 pub mod Rows

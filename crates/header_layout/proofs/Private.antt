@@ -10,6 +10,7 @@ use Rattle.bits.proofs.Laws.{run-append}
 use Rattle.slices.specs.Slices.{copied}
 use Rattle.slices.proofs.Front.{put, front-none, front-part, front-length, front-all}
 use Rattle.setting.specs.declared.Kind.{Kind}
+use Rattle.setting.specs.declared.Size.{Size}
 use Rattle.setting.specs.declared.Setting.{Setting}
 use Rattle.header_layout.specs.Rows.{pack}
 use Rattle.header_layout.specs.Layout.{privateTable}
@@ -33,10 +34,10 @@ bonding-bits g c q f p rest =
     let last = ap (λ (l : List ℕ). l ++ rest) (byte (f % 16 * 16 + p % 16) (f * 16 + p % 16) (omega arith)) in
     simp (append-nil, append-assoc) (ap (λ (l : List ℕ). bitsOf 8 g ++ (bitsOf 8 c ++ (bitsOf 8 q ++ l))) (last ∙ sym (joined 4 4 f p refl)))
 
-pub extended-bits : (pid : ℕ) (s : Setting)
-    → run 8 ((s .auxiliary ++ bondingBytes s) ++ replicate 53 0xFF) ≡ lineBits pid s (privateTable Kind.Extended)
+pub extended-bits : (z : Size) (pid : ℕ) (s : Setting)
+    → run 8 ((s .auxiliary ++ bondingBytes s) ++ replicate 53 0xFF) ≡ lineBits z pid s (privateTable Kind.Extended)
 unfolding privateTable held lineBits pack
-extended-bits pid s =
+extended-bits z pid s =
     let aux = s .auxiliary in
     let bonding = bondingBytes s in
     run-append 8 (aux ++ bonding) (replicate 53 0xFF) ∙ ap (λ (l : List ℕ). l ++ run 8 (replicate 53 0xFF)) (run-append 8 aux bonding)
@@ -46,14 +47,14 @@ extended-bits pid s =
     ∙ bonding-bits (s .«group_id») (s .«number_of_carriers») (s .«carrier_sequence») (s .«number_of_frames») (s .«frame_position» .0) (run 8 (replicate 53 0xFF) ++ []))
 
 -- three parts of the private data, filled one after the other
-pub extended-parts : (pid : ℕ) (s : Setting) (part aux bonding ones : List ℕ) → length part ≡ 85 → length (s .auxiliary) ≡ 28
+pub extended-parts : (z : Size) (pid : ℕ) (s : Setting) (part aux bonding ones : List ℕ) → length part ≡ 85 → length (s .auxiliary) ≡ 28
     → aux ≡ s .auxiliary → bonding ≡ bondingBytes s → ones ≡ replicate (length (take 53 (drop 32 (put 28 4 (put 0 28 part aux) bonding)))) 0xFF
-    → run 8 (put 32 53 (put 28 4 (put 0 28 part aux) bonding) ones) ≡ lineBits pid s (privateTable Kind.Extended)
-extended-parts pid s part aux bonding ones l a p q r =
+    → run 8 (put 32 53 (put 28 4 (put 0 28 part aux) bonding) ones) ≡ lineBits z pid s (privateTable Kind.Extended)
+extended-parts z pid s part aux bonding ones l a p q r =
     let two = put 28 4 (put 0 28 part aux) bonding in
     let front = front-part part aux (put 0 28 part aux) bonding 28 4 (front-part part [] part aux 0 28 (front-none part) (ap length p ∙ a)) (ap length q) in
     let whole : length two ≡ length part = front-length part (aux ++ bonding) two 32 front (omega arith) in
     let behind : 53 ≤ length (drop 32 two) = rw length-drop (omega arith) in
     let all : ones ≡ replicate 53 0xFF = r ∙ ap (λ (n : ℕ). replicate n 0xFF) (length-take-le 53 (drop 32 two) behind) in
     ap (run 8) (front-all part ((aux ++ bonding) ++ ones) _ 85 (front-part part (aux ++ bonding) two ones 32 53 front (ap length all)) (omega arith))
-    ∙ ap (run 8) (ap₂ (λ (x y : List ℕ). x ++ y) (ap₂ (λ (x y : List ℕ). x ++ y) p q) all) ∙ extended-bits pid s
+    ∙ ap (run 8) (ap₂ (λ (x y : List ℕ). x ++ y) (ap₂ (λ (x y : List ℕ). x ++ y) p q) all) ∙ extended-bits z pid s

@@ -1,5 +1,5 @@
 -- What stands in the rows of a header, the header made of them, and what a packet says when it is read as a header.
-use Prim.Native.Nat.{ℕ, _-_, _^_}
+use Prim.Native.Nat.{ℕ, _-_, _*_, _/_, _^_}
 use mathlib.Core.Bool.{not, _&&_}
 use mathlib.Core.List.{List, [], _∷_, _++_, map}
 use lib.Dec.{eqb}
@@ -7,8 +7,11 @@ use lib.ListN.{getD, drop, replicate}
 use Rattle.bits.specs.Fields.{bitsOf, run, cut}
 use Rattle.crc.specs.Crc.{registerFrom, registerOf}
 use Rattle.setting.specs.declared.Kind.{Kind}
+use Rattle.setting.specs.declared.Size.{Size}
 use Rattle.setting.specs.declared.Setting.{Setting}
 use Rattle.setting.specs.Setting.{privateBytes, auxiliaryBytes}
+use Rattle.setting.specs.Size.{sizeOf, resized}
+use Rattle.counters.specs.Counters.{lastSlot, lastStream}
 use Rattle.setting.specs.Refusal.{Check}
 use Rattle.setting.specs.Rules.{byKind, pidAllowed}
 use Rattle.header_layout.specs.Rows.{Row, pack, rowAt}
@@ -42,42 +45,46 @@ seconds (t ∷ o ∷ ids) = o ∷ seconds ids
 abbrev pub allOnes : Row → List ℕ
 allOnes r = replicate (r .1) (2 ^ r .0 - 1)
 
--- what stands in a line's row of a setting's header. Reserved bits are ones
-unfoldable pub held : ℕ → Setting → Line → List ℕ
-held pid s (Field.reserved, r) = allOnes r
-held pid s (Field.sync-byte, r) = one syncByte
-held pid s (Field.zeros, r) = one 0
-held pid s (Field.header-pid, r) = one pid
-held pid s (Field.payload, r) = one 1
-held pid s (Field.counter, r) = one (s .«continuity_counter»)
-held pid s (Field.tsmf-sync, r) = one tsmfSync
-held pid s (Field.version, r) = one (s .«version_number»)
-held pid s (Field.slot-type, r) = one (s .«slot_allocation_type»)
-held pid s (Field.frame-type, r) = one (s .«frame_type»)
-held pid s (Field.streams, r) = one (s .availability)
-held pid s (Field.identifiers, r) = paired (s .«ts_id») (s .«original_network_id»)
-held pid s (Field.statuses, r) = s .«receive_status»
-held pid s (Field.emergency, r) = one (s .«emergency_indicator»)
-held pid s (Field.numbers, r) = s .«relative_ts_number»
-held pid s (Field.privates, r) = s .«private_data»
-held pid s (Field.auxiliary, r) = s .auxiliary
-held pid s (Field.group, r) = one (s .«group_id»)
-held pid s (Field.carriers, r) = one (s .«number_of_carriers»)
-held pid s (Field.sequence, r) = one (s .«carrier_sequence»)
-held pid s (Field.frames, r) = one (s .«number_of_frames»)
-held pid s (Field.position, r) = one (s .«frame_position» .0)
+-- how many streams a setting has room for beyond those of a size. The availability's lowest bits are theirs
+abbrev pub streamsBeyond : Size → ℕ
+streamsBeyond z = lastStream - z .streams
+
+-- what stands in a line's row of a setting's header of this size. Reserved bits are ones
+unfoldable pub held : Size → ℕ → Setting → Line → List ℕ
+held z pid s (Field.reserved, r) = allOnes r
+held z pid s (Field.sync-byte, r) = one syncByte
+held z pid s (Field.zeros, r) = one 0
+held z pid s (Field.header-pid, r) = one pid
+held z pid s (Field.payload, r) = one 1
+held z pid s (Field.counter, r) = one (s .«continuity_counter»)
+held z pid s (Field.tsmf-sync, r) = one tsmfSync
+held z pid s (Field.version, r) = one (s .«version_number»)
+held z pid s (Field.slot-type, r) = one (s .«slot_allocation_type»)
+held z pid s (Field.frame-type, r) = one (s .«frame_type»)
+held z pid s (Field.streams, r) = one (s .availability / 2 ^ streamsBeyond z)
+held z pid s (Field.identifiers, r) = paired (resized (z .streams) (s .«ts_id»)) (resized (z .streams) (s .«original_network_id»))
+held z pid s (Field.statuses, r) = resized (z .streams) (s .«receive_status»)
+held z pid s (Field.emergency, r) = one (s .«emergency_indicator»)
+held z pid s (Field.numbers, r) = resized (z .slots) (s .«relative_ts_number»)
+held z pid s (Field.privates, r) = resized (z .«private_bytes») (s .«private_data»)
+held z pid s (Field.auxiliary, r) = s .auxiliary
+held z pid s (Field.group, r) = one (s .«group_id»)
+held z pid s (Field.carriers, r) = one (s .«number_of_carriers»)
+held z pid s (Field.sequence, r) = one (s .«carrier_sequence»)
+held z pid s (Field.frames, r) = one (s .«number_of_frames»)
+held z pid s (Field.position, r) = one (s .«frame_position» .0)
 
 -- the bits of some lines of the table, one row behind the other
-unfoldable pub lineBits : ℕ → Setting → List Line → List ℕ
-lineBits pid s lines = pack (rowsOf lines) (map (held pid s) lines)
+unfoldable pub lineBits : Size → ℕ → Setting → List Line → List ℕ
+lineBits z pid s lines = pack (rowsOf lines) (map (held z pid s) lines)
 
 -- what stands in each row
 abbrev pub content : Kind → ℕ → Setting → List (List ℕ)
-content kind pid s = map (held pid s) (table kind)
+content kind pid s = map (held (sizeOf kind) pid s) (table kind)
 
 -- the header's bits before the CRC
 unfoldable pub body : Kind → ℕ → Setting → List ℕ
-body kind pid s = lineBits pid s (table kind)
+body kind pid s = lineBits (sizeOf kind) pid s (table kind)
 
 -- the header's 188 bytes. The CRC is what the register holds after the bytes from byte 4 on
 unfoldable pub header : Kind → ℕ → Setting → List ℕ
@@ -96,7 +103,7 @@ values kind p f = row kind p (rowWith f (table kind))
 abbrev pub value : Kind → List ℕ → Field → ℕ
 value kind p f = getD (values kind p f) 0 0
 
--- what a packet says, read as a header. The parts that its kind does not have are zeros
+-- what a packet says, read as a header. What its kind does not have is zeros
 unfoldable pub reading : Kind → List ℕ → Setting
 reading kind p =
     record {
@@ -104,13 +111,13 @@ reading kind p =
       «version_number» = value kind p Field.version;
       «slot_allocation_type» = value kind p Field.slot-type;
       «frame_type» = value kind p Field.frame-type;
-      availability = value kind p Field.streams;
-      «ts_id» = firsts (values kind p Field.identifiers);
-      «original_network_id» = seconds (values kind p Field.identifiers);
-      «receive_status» = values kind p Field.statuses;
+      availability = value kind p Field.streams * 2 ^ streamsBeyond (sizeOf kind);
+      «ts_id» = resized lastStream (firsts (values kind p Field.identifiers));
+      «original_network_id» = resized lastStream (seconds (values kind p Field.identifiers));
+      «receive_status» = resized lastStream (values kind p Field.statuses);
       «emergency_indicator» = value kind p Field.emergency;
-      «relative_ts_number» = values kind p Field.numbers;
-      «private_data» = byKind kind (values kind p Field.privates) (replicate privateBytes 0);
+      «relative_ts_number» = resized lastSlot (values kind p Field.numbers);
+      «private_data» = resized privateBytes (byKind kind (values kind p Field.privates) []);
       auxiliary = byKind kind (replicate auxiliaryBytes 0) (values kind p Field.auxiliary);
       «group_id» = byKind kind 0 (value kind p Field.group);
       «number_of_carriers» = byKind kind 0 (value kind p Field.carriers);

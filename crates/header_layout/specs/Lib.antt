@@ -4,3 +4,4 @@ pub mod Layout
 pub mod Header
 pub mod Bytes
 pub mod Meets
+pub mod Places

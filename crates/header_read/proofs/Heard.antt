@@ -3,9 +3,7 @@ use Prim.Native.Nat.{ℕ}
 use mathlib.Core.Path.{_≡_, ap}
 use mathlib.Core.List.{List, [], _∷_}
 use Rattle.setting.specs.declared.Kind.{Kind}
-use Rattle.header_layout.specs.Rows.{place, rowAt}
 use Rattle.header_layout.specs.Header.{reading}
-use Rattle.header_layout.proofs.LaidOut.{laid-out}
 use Rattle.header_check.specs.declared.Checked.{Checked}
 use Rattle.header_check.specs.Checking.{partsOf}
 
@@ -14,14 +12,9 @@ module _ (kind : Kind) (p : List ℕ) (h : Checked) (e : h ≡ partsOf 0 (readin
   unfolding partsOf
   counter-heard = ap (λ (x : Checked). x .«continuity_counter») e
 
-  -- both kinds have the availability in the same place
-  pub streams-heard : h .availability ≡ reading Kind.Plain p .availability
-  unfolding partsOf reading laid-out rowAt place
-  streams-heard = ap (λ (x : Checked). x .availability) e
-
-  pub numbers-heard : h .«relative_ts_number» ≡ reading kind p .«relative_ts_number»
+  pub streams-heard : h .availability ≡ reading kind p .availability
   unfolding partsOf
-  numbers-heard = ap (λ (x : Checked). x .«relative_ts_number») e
+  streams-heard = ap (λ (x : Checked). x .availability) e
 
   -- the bonding fields, a byte each
   pub bonding-heard : h .«group_id» ∷ h .«number_of_carriers» ∷ h .«carrier_sequence» ∷ h .«number_of_frames» ∷ h .«frame_position» .0 ∷ []

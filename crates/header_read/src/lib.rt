@@ -5,7 +5,6 @@ use setting_bytes::SETTING_BYTES;
 ghost use mathlib.Core.Path.{_≡_};
 ghost use Rattle.header_read.specs.Reader.{readOf, intoRefused, intoMemory};
 
-mod packed;
 mod reader;
 
 // What a read answers: refusal 0 and the setting, or the refusal's number and zeros.
@@ -14,7 +13,7 @@ pub struct Reading {
     pub setting: Setting,
 }
 
-// Reads the packet as a header and writes its setting into the lent 252 bytes. Answers 0; or the refusal's number, and leaves the bytes as
+// Reads the packet as a header and writes its setting into the lent 298 bytes. Answers 0; or the refusal's number, and leaves the bytes as
 // they were. Bytes of any other length are a 1.
 pub fn read_into(packet: &[u8], pid: u16, kind: Kind, setting: &mut [u8]) -> u8
     ensures { λ r. ⌜ r ≡ intoRefused kind pid (now (packet .entry)) (now (setting .entry)) ⌝ }

@@ -33,7 +33,7 @@ pub fn write_header(buffer: &mut [u8], pid: u16, kind: Kind, setting: &[u8])
 }
 
 // Writes the setting's header into a buffer of 188 bytes. Answers 0; or answers the refusal's number, and leaves the buffer as it was: 1
-// also where the setting is not 252 bytes.
+// also where the setting is not 298 bytes.
 pub fn write(buffer: &mut [u8], pid: u16, kind: Kind, setting: &[u8]) -> u8
     ensures { λ r. ⌜ r ≡ ofLength settingLength (length (now (setting .entry))) (writeRefusal kind pid (settingOf (now (setting .entry))) (length (now (buffer .entry)))) ⌝ }
     ensures { λ _. ⌜ now (buffer .exit) ≡ cond (eqb (length (now (setting .entry))) settingLength) (written kind pid (settingOf (now (setting .entry))) (now (buffer .entry))) (now (buffer .entry)) ⌝ }

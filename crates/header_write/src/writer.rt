@@ -1,9 +1,8 @@
 // The parts of the writer: each fills its own bytes of the buffer, straight from the setting's bytes. Of each field the low bits are written.
 use crate::packed;
-use counters::STREAMS;
+use counters::SHORT_SLOTS;
 use setting::AUXILIARY_BYTES;
 use setting::Kind;
-use setting::PRIVATE_BYTES;
 use setting_bytes::ANNOUNCED;
 use setting_bytes::AUXILIARY;
 use setting_bytes::BONDING;
@@ -16,14 +15,15 @@ use setting_bytes::PRIVATE;
 use setting_bytes::SEQUENCE;
 use setting_bytes::VERSION;
 ghost use mathlib.Core.Path.{_≡_};
-ghost use Prim.Native.Nat.{ℕ, _*_};
+ghost use Prim.Native.Nat.{ℕ, _+_, _-_, _*_, _/_, _≤_};
 ghost use lib.ListN.{length};
 ghost use Rattle.bits.specs.Fields.{bitsOf, run};
-ghost use Rattle.counters.specs.Counters.{lastStream};
-ghost use Rattle.setting.specs.Setting.{privateBytes};
+ghost use Rattle.counters.specs.Counters.{lastSlot, lastStream, lastShortStream};
 ghost use Rattle.setting_bytes.specs.Words.{wordsOf};
 ghost use Rattle.setting_bytes.specs.Settings.{settingLength, settingOf};
-ghost use Rattle.header_layout.specs.Layout.{startTable, controlTable, privateTable};
+ghost use Rattle.setting.specs.declared.Size.{Size};
+ghost use Rattle.setting.specs.Size.{sizeOf, slotsOf, streamsOf, resized};
+ghost use Rattle.header_layout.specs.Layout.{extendedBytes, startTable, streamTable, controlTable, privateTable, streamsStart, privateStart};
 ghost use Rattle.header_layout.specs.Bytes.{bondingBytes};
 ghost use Rattle.header_layout.specs.Header.{paired, lineBits, body};
 
@@ -44,12 +44,16 @@ const STATUSES: usize = ANNOUNCED + setting_bytes::RECEIVE_STATUS;
 
 const EMERGENCY: usize = ANNOUNCED + setting_bytes::EMERGENCY;
 
-// Bytes 0 to 8: packet header, sync, version, types and availability.
+// What an extended header has in the place of private data.
+const EXTENDED_BYTES: usize = AUXILIARY_BYTES
+    + header_layout::BONDING_BYTES
+    + header_layout::RESERVED_BYTES;
+
+// Bytes 0 to 6, which are the same for every size: packet header, sync, version and types.
 fn write_start(part: &mut [u8], pid: u16, setting: &[u8])
-    requires { ⌜ (length (now part) ≡ 9) × (length (now setting) ≡ settingLength) ⌝ }
-    ensures { λ _. ⌜ run 8 (now (part .exit)) ≡ lineBits pid (settingOf (now (setting .entry))) startTable ⌝ }
+    requires { ⌜ (length (now part) ≡ streamsStart) × (length (now setting) ≡ settingLength) ⌝ }
+    ensures { λ _. ⌜ ((z : Size) → run 8 (now (part .exit)) ≡ lineBits z pid (settingOf (now (setting .entry))) startTable) ⌝ }
 {
-    let availability = bits::word(setting[AVAILABILITY], setting[AVAILABILITY_LOW]);
     part[0] = 0x47;
     part[1] = (pid / 256 % 32) as u8;
     part[2] = (pid % 256) as u8;
@@ -59,18 +63,47 @@ fn write_start(part: &mut [u8], pid: u16, setting: &[u8])
     part[6] = setting[VERSION] % 8 * 32
         + setting[SLOT_ALLOCATION_TYPE] % 2 * 16
         + setting[FRAME_TYPE] % 16;
-    part[7] = (availability / 128 % 256) as u8;
-    part[8] = (availability % 128 * 2 + 1) as u8;
 }
 
-// The identifiers of each stream, as they stand in the setting: TS_id and then original_network_id, high byte first.
-fn write_identifiers(part: &mut [u8], ts: &[u8], os: &[u8])
-    requires { ⌜ (length (now part) ≡ 2 * length (now ts)) × (length (now os) ≡ length (now ts)) ⌝ }
-    requires { ⌜ length (now ts) ≡ 2 * lastStream ⌝ }
-    ensures { λ _. ⌜ run 8 (now (part .exit)) ≡ run 16 (paired (wordsOf (now (ts .entry))) (wordsOf (now (os .entry)))) ⌝ }
+// The availability of fifteen streams and a reserved bit: two bytes.
+fn write_fifteen(part: &mut [u8], setting: &[u8])
+    requires { ⌜ (length (now part) ≡ 2) × (length (now setting) ≡ settingLength) ⌝ }
+    ensures { λ _. ⌜ ((z : Size) (pid : ℕ) → z .streams ≡ lastStream → run 8 (now (part .exit)) ≡ lineBits z pid (settingOf (now (setting .entry))) (streamTable z)) ⌝ }
+{
+    let availability = bits::word(setting[AVAILABILITY], setting[AVAILABILITY_LOW]);
+    part[0] = (availability / 128 % 256) as u8;
+    part[1] = (availability % 128 * 2 + 1) as u8;
+}
+
+// The availability of seven streams, which stand in the setting's highest bits, and a reserved bit: one byte.
+fn write_seven(part: &mut [u8], setting: &[u8])
+    requires { ⌜ (length (now part) ≡ 1) × (length (now setting) ≡ settingLength) ⌝ }
+    ensures { λ _. ⌜ ((z : Size) (pid : ℕ) → z .streams ≡ lastShortStream → run 8 (now (part .exit)) ≡ lineBits z pid (settingOf (now (setting .entry))) (streamTable z)) ⌝ }
+{
+    let availability = bits::word(setting[AVAILABILITY], setting[AVAILABILITY_LOW]);
+    part[0] = (availability / 256 % 128 * 2 + 1) as u8;
+}
+
+// The availability of each stream of the kind.
+fn write_streams(part: &mut [u8], kind: Kind, setting: &[u8])
+    requires { ⌜ (length (now part) ≡ (streamsOf kind + 1) / 8) × (length (now setting) ≡ settingLength) ⌝ }
+    ensures { λ _. ⌜ ((pid : ℕ) → run 8 (now (part .exit)) ≡ lineBits (sizeOf kind) pid (settingOf (now (setting .entry))) (streamTable (sizeOf kind))) ⌝ }
+{
+    match kind {
+        Kind::Plain => write_fifteen(part, setting),
+        Kind::Extended => write_fifteen(part, setting),
+        Kind::Short => write_seven(part, setting),
+    }
+}
+
+// The identifiers of so many streams, as they stand in the setting: TS_id and then original_network_id, high byte first.
+fn write_identifiers(part: &mut [u8], ts: &[u8], os: &[u8], streams: usize)
+    requires { ⌜ (length (now part) ≡ 4 * streams) × (streams ≤ lastStream) ⌝ }
+    requires { ⌜ (length (now ts) ≡ 2 * lastStream) × (length (now os) ≡ 2 * lastStream) ⌝ }
+    ensures { λ _. ⌜ run 8 (now (part .exit)) ≡ run 16 (paired (resized streams (wordsOf (now (ts .entry)))) (resized streams (wordsOf (now (os .entry))))) ⌝ }
 {
     let mut k = 0;
-    while k < STREAMS {
+    while k < streams {
         part[4 * k] = ts[2 * k];
         part[4 * k + 1] = ts[2 * k + 1];
         part[4 * k + 2] = os[2 * k];
@@ -79,10 +112,10 @@ fn write_identifiers(part: &mut [u8], ts: &[u8], os: &[u8])
     }
 }
 
-// The statuses, and in the last byte behind them a reserved bit and the emergency bit.
-fn write_control(part: &mut [u8], setting: &[u8])
+// The statuses of fifteen streams, and in the last byte behind them a reserved bit and the emergency bit.
+fn write_fifteen_statuses(part: &mut [u8], setting: &[u8])
     requires { ⌜ (length (now part) ≡ 4) × (length (now setting) ≡ settingLength) ⌝ }
-    ensures { λ _. ⌜ ((pid : ℕ) → run 8 (now (part .exit)) ≡ lineBits pid (settingOf (now (setting .entry))) controlTable) ⌝ }
+    ensures { λ _. ⌜ ((z : Size) (pid : ℕ) → z .streams ≡ lastStream → run 8 (now (part .exit)) ≡ lineBits z pid (settingOf (now (setting .entry))) (controlTable z)) ⌝ }
 {
     let r = &setting[STATUSES..EMERGENCY];
     part[0] = packed::four(r[0], r[1], r[2], r[3]);
@@ -90,6 +123,42 @@ fn write_control(part: &mut [u8], setting: &[u8])
     part[2] = packed::four(r[8], r[9], r[10], r[11]);
     // The last value is the reserved bit, a one, and the emergency bit.
     part[3] = packed::four(r[12], r[13], r[14], 2 + setting[EMERGENCY] % 2);
+}
+
+// The same of seven streams.
+fn write_seven_statuses(part: &mut [u8], setting: &[u8])
+    requires { ⌜ (length (now part) ≡ 2) × (length (now setting) ≡ settingLength) ⌝ }
+    ensures { λ _. ⌜ ((z : Size) (pid : ℕ) → z .streams ≡ lastShortStream → run 8 (now (part .exit)) ≡ lineBits z pid (settingOf (now (setting .entry))) (controlTable z)) ⌝ }
+{
+    let r = &setting[STATUSES..EMERGENCY];
+    part[0] = packed::four(r[0], r[1], r[2], r[3]);
+    part[1] = packed::four(r[4], r[5], r[6], 2 + setting[EMERGENCY] % 2);
+}
+
+// The control information of the kind.
+fn write_control(part: &mut [u8], kind: Kind, setting: &[u8])
+    requires { ⌜ (length (now part) ≡ (streamsOf kind + 1) / 4) × (length (now setting) ≡ settingLength) ⌝ }
+    ensures { λ _. ⌜ ((pid : ℕ) → run 8 (now (part .exit)) ≡ lineBits (sizeOf kind) pid (settingOf (now (setting .entry))) (controlTable (sizeOf kind))) ⌝ }
+{
+    match kind {
+        Kind::Plain => write_fifteen_statuses(part, setting),
+        Kind::Extended => write_fifteen_statuses(part, setting),
+        Kind::Short => write_seven_statuses(part, setting),
+    }
+}
+
+// The number of each slot of the kind.
+fn write_numbers(part: &mut [u8], kind: Kind, numbers: &[u8])
+    requires { ⌜ (length (now part) ≡ slotsOf kind * sizeOf kind .«number_bits» / 8) × (length (now numbers) ≡ lastSlot) ⌝ }
+    ensures { λ _. ⌜ run 8 (now (part .exit)) ≡ run (sizeOf kind .«number_bits») (resized (slotsOf kind) (now (numbers .entry))) ⌝ }
+{
+    match kind {
+        Kind::Plain => packed::write_halves(part, numbers),
+        Kind::Extended => packed::write_halves(part, numbers),
+        Kind::Short => {
+            packed::write_run(part, &numbers[0..SHORT_SLOTS], 3);
+        }
+    }
 }
 
 // The bonding fields of an extended header.
@@ -105,8 +174,8 @@ fn write_bonding(part: &mut [u8], setting: &[u8])
 
 // Auxiliary information, the bonding fields and reserved bytes.
 fn write_extended(part: &mut [u8], setting: &[u8])
-    requires { ⌜ (length (now part) ≡ privateBytes) × (length (now setting) ≡ settingLength) ⌝ }
-    ensures { λ _. ⌜ ((pid : ℕ) → run 8 (now (part .exit)) ≡ lineBits pid (settingOf (now (setting .entry))) (privateTable Kind.Extended)) ⌝ }
+    requires { ⌜ (length (now part) ≡ extendedBytes) × (length (now setting) ≡ settingLength) ⌝ }
+    ensures { λ _. ⌜ ((z : Size) (pid : ℕ) → run 8 (now (part .exit)) ≡ lineBits z pid (settingOf (now (setting .entry))) (privateTable Kind.Extended)) ⌝ }
 {
     slices::copy(&mut part[0..AUXILIARY_BYTES], &setting[AUXILIARY..BONDING]);
     write_bonding(
@@ -114,22 +183,20 @@ fn write_extended(part: &mut [u8], setting: &[u8])
         setting,
     );
     slices::fill(
-        &mut part[AUXILIARY_BYTES + header_layout::BONDING_BYTES..PRIVATE_BYTES],
+        &mut part[AUXILIARY_BYTES + header_layout::BONDING_BYTES..EXTENDED_BYTES],
         0xFF,
     );
 }
 
+// The private data of a plain or a short header, as many as it has room for; else what an extended header has in their place.
 fn write_private(part: &mut [u8], kind: Kind, setting: &[u8])
-    requires { ⌜ (length (now part) ≡ privateBytes) × (length (now setting) ≡ settingLength) ⌝ }
-    ensures { λ _. ⌜ ((pid : ℕ) → run 8 (now (part .exit)) ≡ lineBits pid (settingOf (now (setting .entry))) (privateTable kind)) ⌝ }
+    requires { ⌜ (length (now part) ≡ 184 - privateStart (sizeOf kind)) × (length (now setting) ≡ settingLength) ⌝ }
+    ensures { λ _. ⌜ ((pid : ℕ) → run 8 (now (part .exit)) ≡ lineBits (sizeOf kind) pid (settingOf (now (setting .entry))) (privateTable kind)) ⌝ }
 {
     match kind {
-        Kind::Plain => {
-            slices::copy(part, &setting[PRIVATE..AUXILIARY]);
-        }
-        Kind::Extended => {
-            write_extended(part, setting);
-        }
+        Kind::Plain => slices::copy(part, &setting[PRIVATE..AUXILIARY]),
+        Kind::Short => slices::copy(part, &setting[PRIVATE..AUXILIARY]),
+        Kind::Extended => write_extended(part, setting),
     }
 }
 
@@ -138,25 +205,32 @@ pub(crate) fn write_body(part: &mut [u8], pid: u16, kind: Kind, setting: &[u8])
     requires { ⌜ (length (now part) ≡ 184) × (length (now setting) ≡ settingLength) ⌝ }
     ensures { λ _. ⌜ run 8 (now (part .exit)) ≡ body kind pid (settingOf (now (setting .entry))) ⌝ }
 {
-    write_start(&mut part[0..header_layout::IDENTIFIERS], pid, setting);
-    write_identifiers(
-        &mut part[header_layout::IDENTIFIERS..header_layout::CONTROL],
-        &setting[STREAM_IDS..NETWORK_IDS],
-        &setting[NETWORK_IDS..STATUSES],
-    );
-    write_control(
-        &mut part[header_layout::CONTROL..header_layout::NUMBERS],
-        setting,
-    );
-    packed::write_halves(
-        &mut part[header_layout::NUMBERS..header_layout::PRIVATE],
-        &setting[NUMBERS..PRIVATE],
-    );
-    write_private(
-        &mut part[header_layout::PRIVATE..header_layout::CRC],
+    let size = setting::size_of(kind);
+    let streams = size.streams as usize;
+    let at = header_layout::places_of(kind);
+    let identifiers = at.identifiers;
+    let control = at.control;
+    let numbers = at.numbers;
+    let private = at.private;
+    write_start(&mut part[0..header_layout::AVAILABILITY], pid, setting);
+    write_streams(
+        &mut part[header_layout::AVAILABILITY..identifiers],
         kind,
         setting,
     );
+    write_identifiers(
+        &mut part[identifiers..control],
+        &setting[STREAM_IDS..NETWORK_IDS],
+        &setting[NETWORK_IDS..STATUSES],
+        streams,
+    );
+    write_control(&mut part[control..numbers], kind, setting);
+    write_numbers(
+        &mut part[numbers..private],
+        kind,
+        &setting[NUMBERS..PRIVATE],
+    );
+    write_private(&mut part[private..header_layout::CRC], kind, setting);
 }
 
 // A number of 32 bits, high byte first.

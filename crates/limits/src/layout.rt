@@ -1,8 +1,11 @@
 // Lengths in bytes, and where the fields of a setting stand in its bytes.
+use counters::SHORT_SLOTS;
 use counters::SLOTS;
 use counters::STREAMS;
 use libc::STDOUT_FILENO;
+use packet::PACKET_BYTES;
 use setting::AUXILIARY_BYTES;
+use setting::Kind;
 use setting::PRIVATE_BYTES;
 
 fn print_length(name: &[u8], bytes: u64) {
@@ -24,12 +27,22 @@ fn print_place(name: &[u8], at: u64, bytes: u64) {
 }
 
 pub(crate) fn print_lengths() {
-    print_length(b"packet", packet::PACKET_BYTES as u64);
+    print_length(b"packet", PACKET_BYTES as u64);
     print_length(b"frame", packet::FRAME_BYTES as u64);
     print_length(b"store", receiver::STORE_BYTES as u64);
+    print_length(b"short_frame", packet::frame_bytes(Kind::Short) as u64);
+    print_length(b"short_store", (PACKET_BYTES * SHORT_SLOTS) as u64);
     print_length(b"setting", setting_bytes::SETTING_BYTES as u64);
     print_length(b"composer", composer::COMPOSER_BYTES as u64);
     print_length(b"receiver", receiver::RECEIVER_BYTES as u64);
+}
+
+// How much of a setting's private data a plain header has, and a short one.
+pub(crate) fn print_private_lengths() {
+    let plain = setting::size_of(Kind::Plain);
+    let short = setting::size_of(Kind::Short);
+    print_length(b"private_data", plain.private_bytes as u64);
+    print_length(b"short_private_data", short.private_bytes as u64);
 }
 
 pub(crate) fn print_places() {

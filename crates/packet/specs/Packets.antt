@@ -5,7 +5,6 @@ use mathlib.Core.List.{List, [], _∷_}
 use lib.Dec.{eqb}
 use lib.ListN.{length, take, drop, replicate}
 use Rattle.slices.specs.Slices.{anyBelow}
-use Rattle.counters.specs.Counters.{lastSlot}
 use Rattle.setting.specs.Refusal.{firstOf}
 use Rattle.header_layout.specs.Layout.{syncByte, Field}
 use Rattle.header_layout.specs.Header.{headerLength, startValue}
@@ -14,9 +13,9 @@ use Rattle.header_layout.specs.Header.{headerLength, startValue}
 abbrev pub packetLength : ℕ
 packetLength = headerLength
 
--- the header and a packet for each slot: 9,964 bytes
-abbrev pub frameLength : ℕ
-frameLength = packetLength * (lastSlot + 1)
+-- the header and a packet for each of so many slots: 9,964 bytes for 52
+abbrev pub frameLength : ℕ → ℕ
+frameLength slots = packetLength * (slots + 1)
 
 -- slot i: the 188 bytes that start at 188 × i. Slot 0 is the header
 unfoldable pub slot : ℕ → List ℕ → List ℕ

@@ -1,14 +1,25 @@
 // Packets of 188 bytes: whether one may stand in a slot, and what is left of a stream of them.
 use counters::SLOTS;
 use header_layout::HEADER_LENGTH;
+use setting::Kind;
 ghost use mathlib.Core.Path.{_≡_};
-ghost use Rattle.packet.specs.Packets.{placeRefusal, someUnfitIn, restOf};
+ghost use Rattle.setting.specs.Size.{slotsOf};
+ghost use Rattle.packet.specs.Packets.{frameLength, placeRefusal, someUnfitIn, restOf};
 ghost use lib.ListN.{length};
 
 // A header is a packet.
 pub const PACKET_BYTES: usize = HEADER_LENGTH;
 
+// The frame of a kind that has as many slots as there can be.
 pub const FRAME_BYTES: usize = PACKET_BYTES * (SLOTS + 1);
+
+// How many bytes a frame of this kind has: its header, and a packet for each slot.
+pub fn frame_bytes(kind: Kind) -> usize
+    ensures { λ r. ⌜ r ≡ frameLength (slotsOf kind) ⌝ }
+{
+    let size = setting::size_of(kind);
+    PACKET_BYTES * (size.slots as usize + 1)
+}
 
 // 1: not 188 bytes; 12: lacks 0x47 or bears the header PID; 0: may stand in a slot.
 pub fn place_refusal(packet: &[u8], pid: u16) -> u8

@@ -11,7 +11,7 @@ use Rattle.slices.specs.Slices.{copied}
 use Rattle.setting.specs.Refusal.{ofLength, firstOf, none}
 use Rattle.setting.specs.Rules.{pidAllowed}
 use Rattle.setting.proofs.Refusals.{answers, passed, first-none, kept, written}
-use Rattle.setting_bytes.specs.Kinds.{isKind, kindOf}
+use Rattle.setting_bytes.specs.Kinds.{kinds, isKind, kindOf}
 use Rattle.setting_bytes.specs.Words.{wordBytes}
 use Rattle.setting_bytes.proofs.KindsBack.{kind-same}
 use Rattle.receiver.specs.declared.HandedOut.{HandedOut}
@@ -23,7 +23,7 @@ use Rattle.receiver.proofs.Bytes.{zeros-packed}
 -- ---- start
 
 -- zeros, and over them PID and kind
-pub fresh-bytes : (state : List ℕ) (pid kind : ℕ) → length state ≡ receiverLength → kind < 2 → {zeros after : List ℕ} → zeros ≡ replicate (length state) 0
+pub fresh-bytes : (state : List ℕ) (pid kind : ℕ) → length state ≡ receiverLength → kind < kinds → {zeros after : List ℕ} → zeros ≡ replicate (length state) 0
     → after ≡ copied zeros (pid / 256 ∷ pid % 256 ∷ kind ∷ []) → after ≡ receiverBytes (waiting (kindOf kind) pid)
 unfolding waiting receiverBytes wordBytes stageBytes copied
 fresh-bytes state pid kind l h {zeros} n e =
@@ -54,13 +54,13 @@ module _ (state : List ℕ) (pid kind : ℕ) where
       unfolding startRefused
       by-kind = passed 1 _ (ap not (eq-eqb _ _ l)) ∙ passed 2 _ (ap not p)
 
-      pub start-no-kind : 1 < kind → Starts 17 state
-      start-no-kind k = refused (sym (by-kind ∙ answers 17 [] (ap not (le-ltb kind 2 (omega arith))))) (λ z. omega (arith, z))
+      pub start-no-kind : kinds ≤ kind → Starts 17 state
+      start-no-kind k = refused (sym (by-kind ∙ answers 17 [] (ap not (le-ltb kind kinds k)))) (λ z. omega (arith, z))
 
-      pub starts : kind ≤ 1 → {after : List ℕ} → after ≡ receiverBytes (waiting (kindOf kind) pid) → Starts 0 after
+      pub starts : kind < kinds → {after : List ℕ} → after ≡ receiverBytes (waiting (kindOf kind) pid) → Starts 0 after
       unfolding startState
       starts h e =
-          let granted = sym (by-kind ∙ passed 17 [] (ap not (lt-ltb kind 2 (omega arith))) ∙ first-none none) in
+          let granted = sym (by-kind ∙ passed 17 [] (ap not (lt-ltb kind kinds h)) ∙ first-none none) in
           (granted, e ∙ written granted _ state refl)
 
 -- ---- receive

@@ -12,7 +12,7 @@ use Rattle.bits.proofs.Laws.{fit-take, fit-drop}
 use Rattle.slices.specs.Slices.{over, someAtLeast}
 use Rattle.setting.proofs.Fields.{fit-some}
 use Rattle.setting_bytes.specs.Words.{wordBytes, wordAt}
-use Rattle.setting_bytes.specs.Kinds.{isKind, kindOf, kindNumber}
+use Rattle.setting_bytes.specs.Kinds.{kinds, isKind, kindOf, kindNumber}
 use Rattle.setting_bytes.specs.Settings.{part}
 use Rattle.setting_bytes.proofs.KindsBack.{kind-same}
 use Rattle.counters.specs.Counters.{lastSlot}
@@ -43,7 +43,7 @@ front-same (x ∷ y ∷ []) h f k = absurd (omega arith)
 front-same (x ∷ y ∷ z ∷ b) h (more f (more g t)) k =
     let high : (x * 256 + y) / 256 ≡ x = omega arith in
     let low : (x * 256 + y) % 256 ≡ y = omega arith in
-    rw (high, low, kind-same z (ltb-true z 2 k)) refl
+    rw (high, low, kind-same z (ltb-true z kinds k)) refl
 
 module _ (b : List ℕ) (l : length b ≡ receiverLength) (w : someAtLeast (2 ^ 8) b ≡ false) where
   -- numbers taken out and packed again

@@ -9,6 +9,7 @@ use borrow.Author.Tests.{eq-eqb, ne-eqb}
 use lib.Dec.{eqb}
 use lib.ListN.{length}
 use Rattle.setting.specs.Refusal.{ofLength}
+use Rattle.setting.proofs.Refusals.{off-length}
 use Rattle.receiver.specs.Bytes.{receiverLength}
 use Rattle.receiver.specs.Calls.{lentRefusal}
 
@@ -27,6 +28,11 @@ module _ (state : List ℕ) (refusal : ℕ) {n : ℕ} where
       by-length : Dec (length state ≡ receiverLength) → (length state ≡ receiverLength) × (refusal ≡ 0)
       by-length (yes l) = (l, sym (own-refusal l e) ∙ z)
       by-length (no d) = absurd (omega (arith, other-refusal d e, z))
+
+-- a state of another length
+pub no-length : (state : List ℕ) (refusal : ℕ) → (length state ≡ receiverLength → ⊥) → 1 ≡ lentRefusal state refusal
+unfolding lentRefusal
+no-length state refusal h = sym (off-length receiverLength (length state) refusal h)
 
 -- where something else has a wrong length, that of the state does not matter
 pub one-anyway : (state : List ℕ) (refusal : ℕ) → refusal ≡ 1 → 1 ≡ lentRefusal state refusal

@@ -2,6 +2,7 @@ pub mod Rows
 pub mod Packing
 pub mod ReceiverChecks
 pub mod Sorts
+pub mod Said
 pub mod Store
 pub mod LentRefusal
 pub mod Refused

@@ -9,15 +9,15 @@ use borrow.Author.Tests.{eq-eqb, ne-eqb}
 use lib.Dec.{eqb}
 use lib.ListN.{length, length-append}
 use Rattle.setting.specs.declared.Kind.{Kind}
+use Rattle.setting.proofs.Sizes.{length-resized, fit-four}
 use Rattle.setting.specs.Refusal.{ofLength, leaves}
 use Rattle.setting.specs.Setting.{Array}
 use Rattle.setting_bytes.specs.Words.{wordBytes}
 use Rattle.counters.specs.Counters.{lastSlot}
-use Rattle.header_layout.specs.Layout.{Field, table, layout, rowWith}
 use Rattle.header_layout.specs.Header.{reading}
-use Rattle.header_layout.proofs.LaidOut.{laid-out}
+use Rattle.header_layout.proofs.Numbers.{numbers-fit}
 use Rattle.header_check.specs.Checking.{readRefusal}
-use Rattle.header_check.proofs.Accepted.{shown, row-filled}
+use Rattle.header_check.proofs.Accepted.{shown}
 use Rattle.packet.specs.Packets.{unfit}
 use Rattle.receiver.specs.declared.Event.{Event}
 use Rattle.receiver.specs.declared.Stage.{Stage}
@@ -69,10 +69,10 @@ module _ (c : Receiver) (h : Codable c) where
         hands-out = λ r store out. rw (there, receiver-back c h) (refl, (refl, refl));
       }
 
--- a header that is accepted says a number of four bits for each slot
+-- a header that is accepted says a number of at most four bits for each slot
 pub numbers-said : (kind : Kind) (pid : ℕ) (p : List ℕ) → readRefusal kind pid p ≡ 0 → Array lastSlot 4 (reading kind p .«relative_ts_number»)
-unfolding laid-out reading
-numbers-said kind pid p e = row-filled kind pid p (shown kind pid p e) (rowWith Field.numbers (table kind)) (omega arith)
+unfolding reading
+numbers-said kind pid p e = (length-resized lastSlot _, fit-four kind (numbers-fit kind p (shown kind pid p e .whole)))
 
 kept-with : (c : Receiver) → Codable c → (sort : Sort) (stage : Stage) (said : List ℕ) → (sort ≡ good → Array lastSlot 4 said) → Codable (receiverAfter c sort stage said)
 unfolding receiverAfter moved renumbered

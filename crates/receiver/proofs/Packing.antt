@@ -9,10 +9,14 @@ use lib.ListN.{length, take, drop, length-drop, take-append-drop}
 use lib.Seq.{take-all, drop-drop, length-take-le}
 use Rattle.bits.specs.Fields.{Fit, number, run, cut}
 use Rattle.bits.proofs.Laws.{length-run, length-cut, fit-run, fit-cut, cut-run, run-cut, run-append, run-drop, cut-front}
+use Rattle.setting.specs.declared.Kind.{Kind}
+use Rattle.setting.specs.Refusal.{NoneHolds, none, more}
+use Rattle.setting.specs.Rules.{numberChecks}
 use Rattle.setting.specs.Setting.{Array}
+use Rattle.setting.specs.Size.{sizeOf}
 use Rattle.slices.specs.Slices.{someAtLeast}
 use Rattle.counters.specs.Counters.{lastSlot}
-use Rattle.setting.proofs.Fields.{some-fit}
+use Rattle.setting.proofs.Fields.{some-fit, none-left}
 use Rattle.receiver.specs.Packed.{packedLength, packed, unpacked}
 
 -- n values of v bits, as many bits as m of w, cut into those and cut again
@@ -44,8 +48,19 @@ pub unpacked-fit : (bs : List ℕ) → length bs ≡ packedLength → Fit 4 (unp
 unfolding unpacked
 unpacked-fit bs l = fit-cut 4 lastSlot (run 8 bs) (fit-run 8 bs) (rw (length-run, l) (le-of-eq refl))
 
-pub none-past-last : (bs : List ℕ) → length bs ≡ packedLength → someAtLeast (2 ^ 4) (unpacked bs) ≡ false
+none-past-last : (bs : List ℕ) → length bs ≡ packedLength → someAtLeast (2 ^ 4) (unpacked bs) ≡ false
 none-past-last bs l = some-fit 4 (unpacked bs) (unpacked-fit bs l)
+
+-- the kinds whose numbers have four bits and that have all slots
+pub data Long : Kind → Type 0 where
+  plain : Long Kind.Plain
+  extended : Long Kind.Extended
+
+-- their numbers need no check
+pub none-wrong : {kind : Kind} → Long kind → (bs : List ℕ) → length bs ≡ packedLength → NoneHolds (numberChecks (sizeOf kind) (unpacked bs))
+unfolding sizeOf
+none-wrong plain bs l = more (none-past-last bs l) (more (none-left 1 lastSlot (unpacked bs) (length-unpacked bs)) none)
+none-wrong extended bs l = more (none-past-last bs l) (more (none-left 1 lastSlot (unpacked bs) (length-unpacked bs)) none)
 
 -- ---- the numbers that some of the bytes say
 

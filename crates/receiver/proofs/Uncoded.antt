@@ -10,6 +10,7 @@ use lib.ListN.{length, getD}
 use Rattle.setting.specs.Refusal.{ofLength, firstOf}
 use Rattle.setting.specs.Rules.{pidAllowed}
 use Rattle.setting.proofs.Refusals.{passed, at-once}
+use Rattle.setting.specs.Size.{slotsOf}
 use Rattle.packet.specs.Packets.{packetLength}
 use Rattle.setting_bytes.specs.Kinds.{isKind}
 use Rattle.receiver.specs.declared.Stage.{Stage}
@@ -55,7 +56,7 @@ module _ (c : Receiver) (p : pidAllowed (c .pid) ≡ true) (s : c .stage ≡ noS
   unfolding receiverChecks stageChecks firstOf
   receiver-refused = rw (p, s) refl
 
-  module _ (store : ℕ) (l : store ≡ storeLength) where
+  module _ (store : ℕ) (l : store ≡ storeLength (slotsOf (c .kind))) where
     receive-refusal : (packet : ℕ) → packet ≡ packetLength → receiveRefusal c packet store ≡ 17
     unfolding receiveRefusal
     receive-refusal packet q = passed 1 _ (ap not (eq-eqb _ _ q)) ∙ passed 1 _ (ap not (eq-eqb _ _ l)) ∙ receiver-refused

@@ -5,7 +5,6 @@ use mathlib.Core.List.{List}
 use lib.Dec.{ltb, eqb}
 use Rattle.slices.specs.Slices.{over}
 use Rattle.setting.specs.declared.Kind.{Kind}
-use Rattle.counters.specs.Counters.{lastSlot}
 use Rattle.header_check.specs.Checking.{readRefusal}
 use Rattle.packet.specs.Packets.{packetLength, unfit}
 use Rattle.receiver.specs.declared.Stage.{Stage}
@@ -16,7 +15,7 @@ unfoldable pub sortOf : Kind → ℕ → List ℕ → Sort
 sortOf kind pid p = cond (eqb (readRefusal kind pid p) 0) good (cond (unfit pid p) broken other)
 
 -- the store afterwards: with k packets stored, one that is neither a header nor broken goes to slot k + 1, at byte 188 × k, if there is one
-unfoldable pub storeAfter : Stage → Sort → List ℕ → List ℕ → List ℕ
-storeAfter stage good p store = store
-storeAfter stage broken p store = store
-storeAfter stage other p store = cond (ltb (storedOf stage) lastSlot) (over (packetLength * storedOf stage) p store) store
+unfoldable pub storeAfter : ℕ → Stage → Sort → List ℕ → List ℕ → List ℕ
+storeAfter slots stage good p store = store
+storeAfter slots stage broken p store = store
+storeAfter slots stage other p store = cond (ltb (storedOf slots stage) slots) (over (packetLength * storedOf slots stage) p store) store

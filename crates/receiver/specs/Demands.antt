@@ -8,6 +8,7 @@ use Rattle.setting.specs.Rules.{pidAllowed}
 use Rattle.packet.specs.Packets.{packetLength}
 use Rattle.setting_bytes.specs.Words.{wordAt}
 use Rattle.receiver.specs.Receiving.{Receiver, receiveOf, receiveStore, handOutOf, handOutBuffer}
+use Rattle.setting.specs.Size.{slotsOf}
 use Rattle.receiver.specs.Store.{storeLength}
 use Rattle.receiver.specs.Bytes.{receiverLength, pidAt, receiverBytes, receiverOf, Codable, isCoded, eventNumber}
 use Rattle.receiver.specs.Calls.{receiveRefused, receiveEvent, receiveState, receiveMemory, handOutRefused, handOutPackets, handOutMemory}
@@ -24,7 +25,7 @@ UncodedRefused =
     → length state ≡ receiverLength
     → pidAllowed (wordAt pidAt state) ≡ true
     → isCoded state ≡ false
-    → length store ≡ storeLength
+    → length store ≡ storeLength (slotsOf (receiverOf state .kind))
     → ((p : List ℕ) → length p ≡ packetLength → receiveRefused state p store ≡ 17)
     × ((r : ℕ) (out : List ℕ) → handOutRefused state r store out ≡ 17)
 

@@ -1,14 +1,15 @@
 -- The receiver: what each call answers, and what it leaves.
-use Prim.Native.Nat.{ℕ, _*_, _^_}
+use Prim.Native.Nat.{ℕ, _*_}
 use mathlib.Core.Bool.{cond, not}
 use mathlib.Core.List.{List, [], _∷_, _++_}
 use lib.Dec.{ltb, eqb}
 use lib.ListN.{length, replicate}
-use Rattle.slices.specs.Slices.{someAtLeast, over}
+use Rattle.slices.specs.Slices.{over}
 use Rattle.setting.specs.declared.Kind.{Kind}
-use Rattle.counters.specs.Counters.{firstStream, lastStream, lastSlot, within}
+use Rattle.counters.specs.Counters.{firstStream, lastSlot, within}
 use Rattle.setting.specs.Refusal.{Check, firstOf, leaves}
-use Rattle.setting.specs.Rules.{pidAllowed}
+use Rattle.setting.specs.Rules.{pidAllowed, numberChecks}
+use Rattle.setting.specs.Size.{sizeOf, slotsOf, streamsOf}
 use Rattle.header_layout.specs.Header.{reading}
 use Rattle.packet.specs.Packets.{packetLength}
 use Rattle.receiver.specs.declared.Stage.{Stage}
@@ -63,18 +64,18 @@ receiverAfter c other stage said = moved c stage
 unfoldable pub receiverChecks : Receiver → List Check
 receiverChecks c =
     (2, not (pidAllowed (c .pid)))
-    ∷ (stageChecks (c .stage)
-    ++ ((17, someAtLeast (2 ^ 4) (c .numbers)) ∷ (17, someAtLeast (2 ^ 4) (c .before)) ∷ []))
+    ∷ (stageChecks (slotsOf (c .kind)) (c .stage)
+    ++ (numberChecks (sizeOf (c .kind)) (c .numbers) ++ numberChecks (sizeOf (c .kind)) (c .before)))
 
 unfoldable pub receiveRefusal : Receiver → ℕ → ℕ → ℕ
 receiveRefusal c packet store =
-    firstOf ((1, not (eqb packet packetLength)) ∷ (1, not (eqb store storeLength)) ∷ receiverChecks c)
+    firstOf ((1, not (eqb packet packetLength)) ∷ (1, not (eqb store (storeLength (slotsOf (c .kind))))) ∷ receiverChecks c)
 
 unfoldable pub handOutRefusal : Receiver → ℕ → ℕ → ℕ → ℕ
 handOutRefusal c r store out =
-    firstOf ((1, not (eqb store storeLength))
+    firstOf ((1, not (eqb store (storeLength (slotsOf (c .kind)))))
     ∷ (receiverChecks c
-    ++ ((17, not (within firstStream lastStream r))
+    ++ ((17, not (within firstStream (streamsOf (c .kind)) r))
     ∷ (16, not (isReady (c .stage)))
     ∷ (15, ltb out (packetLength * slotsFor r (c .before)))
     ∷ [])))
@@ -91,7 +92,7 @@ startOf kind pid =
 
 -- the row of the table that applies to a packet
 unfoldable pub rowFor : Receiver → List ℕ → Row
-rowFor c p = rowOf (c .stage) (sortOf (c .kind) (c .pid) p) (reading (c .kind) p .«continuity_counter»)
+rowFor c p = rowOf (slotsOf (c .kind)) (c .stage) (sortOf (c .kind) (c .pid) p) (reading (c .kind) p .«continuity_counter»)
 
 unfoldable pub receiveOf : Receiver → List ℕ → ℕ → Received
 receiveOf c p store =
@@ -105,7 +106,7 @@ receiveOf c p store =
 
 unfoldable pub receiveStore : Receiver → List ℕ → List ℕ → List ℕ
 receiveStore c p store =
-    leaves (receiveRefusal c (length p) (length store)) (storeAfter (c .stage) (sortOf (c .kind) (c .pid) p) p store) store
+    leaves (receiveRefusal c (length p) (length store)) (storeAfter (slotsOf (c .kind)) (c .stage) (sortOf (c .kind) (c .pid) p) p store) store
 
 -- how many packets of the ready frame have number r
 unfoldable pub handOutOf : Receiver → ℕ → ℕ → ℕ → HandedOut

@@ -1,10 +1,10 @@
--- The receiver's table: what each sort of packet does to a receiver, and where the receiver stands afterwards.
+-- The receiver's table: what each sort of packet does to a receiver, and where the receiver stands afterwards. A frame has `slots` slots
+-- behind its header: 52, or what the kind's size says.
 use Prim.Native.Nat.{ℕ, _+_, _-_, _%_, _^_}
 use mathlib.Core.Bool.{Bool, true, false, cond, _&&_}
 use mathlib.Core.List.{List, [], _∷_}
 use lib.Dec.{leb, ltb, eqb}
 use Rattle.setting.specs.Refusal.{Check}
-use Rattle.counters.specs.Counters.{lastSlot}
 use Rattle.receiver.specs.declared.Stage.{Stage}
 use Rattle.receiver.specs.declared.Event.{Event}
 use Rattle.receiver.specs.declared.Row.{Row}
@@ -24,21 +24,21 @@ abbrev pub row : Event → Stage → Row
 row event stage = record { event = event; stage = stage }
 
 -- the rows of an open frame with counter `from` and k packets stored; `to` is the counter of a good header
-unfoldable pub openRow : ℕ → ℕ → Sort → ℕ → Row
-openRow from k good to =
-    cond (eqb k lastSlot && eqb (counterStep from to) 1)
+unfoldable pub openRow : ℕ → ℕ → ℕ → Sort → ℕ → Row
+openRow slots from k good to =
+    cond (eqb k slots && eqb (counterStep from to) 1)
     (row Event.Ready (Stage.Ready to))
-    (row (cond (ltb k lastSlot) Event.Short Event.Jump) (Stage.Open to 0))
-openRow from k broken to = row Event.Broken Stage.Waiting
-openRow from k other to = cond (ltb k lastSlot) (row Event.Stored (Stage.Open from (k + 1))) (row Event.Long Stage.Waiting)
+    (row (cond (ltb k slots) Event.Short Event.Jump) (Stage.Open to 0))
+openRow slots from k broken to = row Event.Broken Stage.Waiting
+openRow slots from k other to = cond (ltb k slots) (row Event.Stored (Stage.Open from (k + 1))) (row Event.Long Stage.Waiting)
 
 -- all rows. While a frame is ready, the next one is open with no packet stored
-unfoldable pub rowOf : Stage → Sort → ℕ → Row
-rowOf Stage.Waiting good to = row Event.Opened (Stage.Open to 0)
-rowOf Stage.Waiting broken to = row Event.Nothing Stage.Waiting
-rowOf Stage.Waiting other to = row Event.Nothing Stage.Waiting
-rowOf (Stage.Open from k) sort to = openRow from k sort to
-rowOf (Stage.Ready from) sort to = openRow from 0 sort to
+unfoldable pub rowOf : ℕ → Stage → Sort → ℕ → Row
+rowOf slots Stage.Waiting good to = row Event.Opened (Stage.Open to 0)
+rowOf slots Stage.Waiting broken to = row Event.Nothing Stage.Waiting
+rowOf slots Stage.Waiting other to = row Event.Nothing Stage.Waiting
+rowOf slots (Stage.Open from k) sort to = openRow slots from k sort to
+rowOf slots (Stage.Ready from) sort to = openRow slots from 0 sort to
 
 -- what an event means: whether a frame became ready, and why one was dropped (1 short, 2 long, 3 jump, 4 broken, 0 none was dropped)
 abbrev pub makesReady : Event → Bool
@@ -68,13 +68,13 @@ isReady (Stage.Open from k) = false
 isReady (Stage.Ready from) = true
 
 -- how many packets of the open frame are stored; if none is open, as many as there are slots
-unfoldable pub storedOf : Stage → ℕ
-storedOf Stage.Waiting = lastSlot
-storedOf (Stage.Open from k) = k
-storedOf (Stage.Ready from) = 0
+unfoldable pub storedOf : ℕ → Stage → ℕ
+storedOf slots Stage.Waiting = slots
+storedOf slots (Stage.Open from k) = k
+storedOf slots (Stage.Ready from) = 0
 
 -- 17: the counter and the number of stored packets
-unfoldable pub stageChecks : Stage → List Check
-stageChecks Stage.Waiting = []
-stageChecks (Stage.Open from k) = (17, leb (2 ^ 4) from) ∷ (17, ltb lastSlot k) ∷ []
-stageChecks (Stage.Ready from) = (17, leb (2 ^ 4) from) ∷ []
+unfoldable pub stageChecks : ℕ → Stage → List Check
+stageChecks slots Stage.Waiting = []
+stageChecks slots (Stage.Open from k) = (17, leb (2 ^ 4) from) ∷ (17, ltb slots k) ∷ []
+stageChecks slots (Stage.Ready from) = (17, leb (2 ^ 4) from) ∷ []

@@ -23,10 +23,10 @@ pub enum Event {
     Stored,
     // The frame before is ready, and a new one opened.
     Ready,
-    // The frame before is dropped, and a new one opened: it had less than 52 packets, or the counter did not step by one.
+    // The frame before is dropped, and a new one opened: it had fewer packets than slots, or the counter did not step by one.
     Short,
     Jump,
-    // The open frame is dropped: by a 53rd packet, or by a broken one.
+    // The open frame is dropped: by a packet for which there is no slot, or by a broken one.
     Long,
     Broken,
 }
@@ -43,7 +43,7 @@ pub struct HandedOut {
     pub packets: usize,
 }
 
-// The bytes of the store: a packet for each slot but the header's.
+// The most bytes that a store has: a packet for each of 52 slots.
 pub const STORE_BYTES: usize = PACKET_BYTES * SLOTS;
 
 // How many bytes the numbers of all slots take, two a byte as a header has them.

@@ -1,25 +1,45 @@
 -- What handing out was given that is not refused, and what it answers and leaves. Assumes nothing.
 use Prim.Native.Nat.{ℕ, _*_, _≤_}
 use mathlib.Core.Path.{_≡_, refl, sym, ap, _∙_}
-use mathlib.Core.Bool.{Bool, true, false, cond, not}
+use mathlib.Core.Bool.{Bool, true, false, cond, not, true≢false}
 use mathlib.Core.List.{List, [], _∷_, _++_, append-assoc}
+use native.Mathlib.Omega.{arith}
 use borrow.Author.Tests.{eqb-true, leb-true, not-false}
 use lib.Dec.{eqb, leb, ltb}
-use lib.ListN.{length}
-use Rattle.slices.specs.Slices.{over}
+use lib.ListN.{length, drop}
+use Rattle.slices.specs.Slices.{someAtLeast, over}
 use Rattle.slices.proofs.Any.{both}
-use Rattle.counters.specs.Counters.{firstStream, lastStream, within}
+use Rattle.counters.specs.Counters.{firstStream, within}
+use Rattle.counters.proofs.Within.{between}
 use Rattle.setting.specs.Refusal.{ofLength, Check, firstOf, NoneHolds, leaves}
-use Rattle.setting.proofs.Refusals.{none-first, none-at, none-behind, numbered-append, onward, at-once}
+use Rattle.setting.specs.Rules.{pidAllowed, numberChecks}
+use Rattle.setting.specs.Size.{sizeOf, slotsOf, streamsOf}
+use Rattle.setting.proofs.Refusals.{none-first, none-at, none-before as none-front, none-behind, numbered-append, onward, at-once}
+use Rattle.setting.proofs.Fields.{at-most}
 use Rattle.packet.specs.Packets.{packetLength}
-use Rattle.receiver.specs.Table.{isReady}
+use Rattle.receiver.specs.Table.{stageChecks, isReady}
 use Rattle.receiver.specs.declared.HandedOut.{HandedOut}
-use Rattle.receiver.specs.Store.{storeLength, numbered, slotsFor}
+use Rattle.receiver.specs.Store.{storeLength, numbered, slotsFor, HasPackets}
+use Rattle.receiver.proofs.Store.{has-packets}
 use Rattle.receiver.specs.Receiving.{Receiver, receiverChecks, handOutRefusal, handOutOf, handOutBuffer}
 use Rattle.receiver.specs.Bytes.{receiverLength}
 use Rattle.receiver.specs.Calls.{lentRefusal}
 use Rattle.receiver.proofs.ReceiverChecks.{receiver-numbered}
 use Rattle.receiver_hand_out.specs.Ready.{readyChecks}
+
+-- a number between a first and a last value is no less than the first; and one that is not between them is not between the first and less
+pub at-least : (first last n : ℕ) → within first last n ≡ true → first ≤ n
+at-least first last n e = leb-true first n (both (leb first n) (leb n last) e .0)
+
+pub outside-less : (first last less n : ℕ) → less ≤ last → within first last n ≡ false → within first less n ≡ false
+outside-less first last less n h e = by-test (within first less n) refl
+  where
+    by-test : (t : Bool) → within first less n ≡ t → t ≡ false
+    by-test false d = refl
+    by-test true d =
+        let low = at-least first less n d in
+        let high = at-most first less n d in
+        absurd (true≢false (sym (between first last n low (omega arith)) ∙ e))
 
 pub receiver-none : (c : Receiver) → firstOf (receiverChecks c) ≡ 0 → NoneHolds (receiverChecks c)
 receiver-none c e = none-first (receiverChecks c) (receiver-numbered c) e
@@ -32,8 +52,8 @@ module _ (c : Receiver) (r store : ℕ) where
   room-last : (out : ℕ) → handOutRefusal c r store out ≡ firstOf (readyChecks c r store ++ ((15, short out) ∷ []))
   unfolding handOutRefusal readyChecks
   room-last out =
-      ap (λ (cs : List Check). firstOf ((1, not (eqb store storeLength)) ∷ cs))
-      (sym (append-assoc (receiverChecks c) ((17, not (within firstStream lastStream r)) ∷ (16, not (isReady (c .stage))) ∷ []) ((15, short out) ∷ [])))
+      ap (λ (cs : List Check). firstOf ((1, not (eqb store (storeLength (slotsOf (c .kind))))) ∷ cs))
+      (sym (append-assoc (receiverChecks c) ((17, not (within firstStream (streamsOf (c .kind)) r)) ∷ (16, not (isReady (c .stage))) ∷ []) ((15, short out) ∷ [])))
 
   pub refused-before : (out : ℕ) → (firstOf (readyChecks c r store) ≡ 0 → ⊥) → handOutRefusal c r store out ≡ firstOf (readyChecks c r store)
   refused-before out h = room-last out ∙ at-once (readyChecks c r store) ((15, short out) ∷ []) h
@@ -44,17 +64,34 @@ module _ (c : Receiver) (r store : ℕ) where
     unfolding readyChecks
     none-before =
         none-first (readyChecks c r store)
-        (numbered-append (receiverChecks c) ((17, not (within firstStream lastStream r)) ∷ (16, not (isReady (c .stage))) ∷ []) (receiver-numbered c) refl) e
+        (numbered-append (receiverChecks c) ((17, not (within firstStream (streamsOf (c .kind)) r)) ∷ (16, not (isReady (c .stage))) ∷ []) (receiver-numbered c) refl) e
 
-    pub handed-store : store ≡ storeLength
+    whole-store : store ≡ storeLength (slotsOf (c .kind))
     unfolding readyChecks
-    handed-store = eqb-true store storeLength (not-false _ (none-at none-before 0))
+    whole-store = eqb-true store (storeLength (slotsOf (c .kind))) (not-false _ (none-at none-before 0))
 
-    pub handed-number : r ≤ lastStream
+    -- a stream of the kind
+    pub handed-number : (firstStream ≤ r) × (r ≤ streamsOf (c .kind))
     unfolding readyChecks
     handed-number =
-        let behind = none-behind (receiverChecks c) (none-behind ((1, not (eqb store storeLength)) ∷ []) none-before) in
-        leb-true r lastStream (both (leb firstStream r) (leb r lastStream) (not-false _ (none-at behind 0)) .1)
+        let behind = none-behind (receiverChecks c) (none-behind ((1, not (eqb store (storeLength (slotsOf (c .kind))))) ∷ []) none-before) in
+        let inside = not-false _ (none-at behind 0) in
+        (at-least firstStream (streamsOf (c .kind)) r inside, at-most firstStream (streamsOf (c .kind)) r inside)
+
+    -- behind the last slot there is no number
+    no-number : someAtLeast 1 (drop (slotsOf (c .kind)) (c .before)) ≡ false
+    unfolding readyChecks receiverChecks
+    no-number =
+        let checks = none-behind ((1, not (eqb store (storeLength (slotsOf (c .kind))))) ∷ []) none-before in
+        let state = none-front (receiverChecks c) _ checks in
+        let numbers = none-behind (stageChecks (slotsOf (c .kind)) (c .stage)) (none-behind ((2, not (pidAllowed (c .pid))) ∷ []) state) in
+        none-at (none-behind (numberChecks (sizeOf (c .kind)) (c .numbers)) numbers) 1
+
+    -- so a store of its length has the packets
+    pub handed-packets : (bytes : List ℕ) → length bytes ≡ store → HasPackets r (c .before) bytes
+    handed-packets bytes l =
+        let whole = whole-store in
+        has-packets r (slotsOf (c .kind)) (c .before) bytes (handed-number .0) no-number (omega arith)
 
     by-room : (out : ℕ) → handOutRefusal c r store out ≡ cond (short out) 15 0
     unfolding firstOf

@@ -13,7 +13,7 @@ use Rattle.slices.proofs.Front.{put}
 use Rattle.slices.proofs.Toward.{Toward, toward-none, toward-kept, toward-part, toward-all}
 use Rattle.packet.specs.Packets.{packetLength}
 use Rattle.slices.specs.Slices.{over}
-use Rattle.receiver.specs.Store.{numbered, slotsFor}
+use Rattle.receiver.specs.Store.{numbered, slotsFor, HasPackets}
 use Rattle.receiver.proofs.Store.{length-numbered}
 
 -- no slot, no packet
@@ -59,7 +59,7 @@ module _ (r : ℕ) (ns store out₀ : List ℕ) (at₀ : ℕ) where
         at
     pub left : at + packetLength * slotsFor r (drop i ns) ≡ at₀ + packetLength * slotsFor r ns
 
-  pub handing-none : packetLength * length ns ≤ length store → at₀ ≤ length out₀ → HandingOut out₀ 0 at₀
+  pub handing-none : HasPackets r ns store → at₀ ≤ length out₀ → HandingOut out₀ 0 at₀
   unfolding over
   handing-none h g =
       record {

@@ -3,4 +3,5 @@ mod Frames
 mod Handing
 mod Joined
 mod Marks
+mod Packets
 mod Parts

@@ -12,7 +12,7 @@ use lib.ListN.{length, getD, take, drop, length-drop}
 use lib.Pow.{pow-add, pow-pos, shl-shr}
 use Rattle.bits.proofs.Laws.{fit-drop}
 use Rattle.packet.specs.Packets.{packetLength}
-use Rattle.receiver.specs.Store.{numbered, slotsFor}
+use Rattle.receiver.specs.Store.{numbered, slotsFor, HasPackets, none, more}
 use Rattle.receiver_hand_out.specs.Halves.{halvesOf, marked}
 use Rattle.receiver_hand_out.proofs.Joined.{joined, joined-lt, joined-from, joined-none, marked-fit, length-halves, halves-fit}
 use Rattle.receiver_hand_out.proofs.Handing.{HandingOut, handing-passed}
@@ -51,6 +51,11 @@ unfolding marked numbered
 marked-numbered r [] bytes = refl
 marked-numbered r (n ∷ ns) bytes =
     ap₂ (λ (t : Bool) (l : List ℕ). cond t (take packetLength bytes ++ l) l) (eight (eqb n r)) (marked-numbered r ns (drop packetLength bytes))
+
+pub marked-held : {r : ℕ} {ns bytes : List ℕ} → HasPackets r ns bytes → HasPackets 8 (marked r ns) bytes
+unfolding marked
+marked-held none = none
+marked-held {r} (more {n = n} h t) = more (λ e. h (sym (eight (eqb n r)) ∙ e)) (marked-held t)
 
 marked-at : (r : ℕ) (ns : List ℕ) (i : ℕ) → i < length ns → getD (marked r ns) i 0 ≡ cond (eqb (getD ns i 0) r) 8 0
 unfolding marked

@@ -1,6 +1,6 @@
 -- The slots with one number, sixteen at a time: what a word of marks says of them, and what is copied word by word. Assumes nothing.
 use Prim.Native.Nat.{ℕ, zero, suc, _+_, _*_, _≤_}
-use mathlib.Core.Path.{_≡_, refl, sym, ap, ap₂, _∙_}
+use mathlib.Core.Path.{_≡_, refl, sym, ap, ap₂, subst, _∙_}
 use mathlib.Core.Bool.{Bool, true, false, cond}
 use mathlib.Core.List.{List, [], _∷_, _++_, append-assoc}
 use native.Mathlib.Nat.{zero-add, add-assoc}
@@ -11,10 +11,11 @@ use lib.Seq.{take-all, take-at, drop-drop, drop-append-add, take-add, length-tak
 use Rattle.slices.specs.Slices.{over}
 use Rattle.counters.specs.Counters.{lastSlot}
 use Rattle.packet.specs.Packets.{packetLength}
-use Rattle.receiver.specs.Store.{storeLength, numbered, slotsFor}
+use Rattle.receiver.specs.Store.{numbered, slotsFor, HasPackets}
 use Rattle.receiver.proofs.Store.{length-numbered}
 use Rattle.receiver_hand_out.specs.Halves.{halvesOf, marked}
-use Rattle.receiver_hand_out.proofs.Marks.{marked-again, marked-slots, marked-numbered}
+use Rattle.receiver_hand_out.proofs.Marks.{marked-again, marked-slots, marked-numbered, marked-held}
+use Rattle.receiver_hand_out.proofs.Packets.{has-take, has-drop, has-passed}
 
 -- ---- numbers in two parts
 
@@ -46,6 +47,7 @@ pub record Says (r m : ℕ) (hs : List ℕ) (k : ℕ) : Type 0 where
   pub are : marked 8 (halvesOf m) ≡ halvesOf m
   pub count : slotsFor 8 (halvesOf m) ≡ slotsFor r hs
   pub packets : (bytes : List ℕ) → numbered 8 (halvesOf m) bytes ≡ numbered r hs (drop (packetLength * k) bytes)
+  pub held : (bytes : List ℕ) → HasPackets r hs (drop (packetLength * k) bytes) → HasPackets 8 (halvesOf m) bytes
 
 pub says : (r m : ℕ) {hs : List ℕ} → halvesOf m ≡ marked r hs → Says r m hs 0
 says r m {hs} e =
@@ -53,6 +55,7 @@ says r m {hs} e =
       are = ap (marked 8) e ∙ marked-again r hs ∙ sym e;
       count = ap (slotsFor 8) e ∙ marked-slots r hs;
       packets = λ bytes. ap (λ (l : List ℕ). numbered 8 l bytes) e ∙ marked-numbered r hs bytes;
+      held = λ bytes h. subst (λ (l : List ℕ). HasPackets 8 l bytes) (sym e) (marked-held h);
     }
 
 -- of the last four
@@ -81,6 +84,7 @@ says-last r m hs e =
       count = ap (slotsFor 8) e ∙ passed-slots 12 (marked r hs) ∙ marked-slots r hs;
       packets = λ bytes.
           ap (λ (l : List ℕ). numbered 8 l bytes) e ∙ passed-numbered 12 (marked r hs) bytes ∙ marked-numbered r hs (drop (packetLength * 12) bytes);
+      held = λ bytes h. subst (λ (l : List ℕ). HasPackets 8 l bytes) (sym e) (has-passed 12 (marked-held h));
     }
 
 -- ---- what is copied
@@ -98,7 +102,7 @@ over-next p q out₀ at l =
     ∙ sym (append-assoc p q (drop (0 + length (p ++ q)) out₀))
 
 -- the packets of the first o slots were copied, `at` bytes
-module _ (r : ℕ) (ns store out₀ : List ℕ) (long : length ns ≡ lastSlot) (stored : length store ≡ storeLength) where
+module _ (r : ℕ) (ns store out₀ : List ℕ) (long : length ns ≡ lastSlot) (stored : HasPackets r ns store) where
   pub record Gone (out : List ℕ) (o at : ℕ) : Type 0 where
     pub is : out ≡ over 0 (numbered r (take o ns) store) out₀
     pub bytes : at ≡ packetLength * slotsFor r (take o ns)
@@ -132,7 +136,7 @@ module _ (r : ℕ) (ns store out₀ : List ℕ) (long : length ns ≡ lastSlot) 
         let more = slots-to o n in
         let here = s .count in
         let before = g .bytes in
-        let long-enough : length (numbered r done store) ≡ at = length-numbered r done store (omega arith) ∙ sym before in
+        let long-enough : length (numbered r done store) ≡ at = length-numbered r done store (has-take o stored) ∙ sym before in
         record {
           is =
               x
@@ -145,6 +149,13 @@ module _ (r : ℕ) (ns store out₀ : List ℕ) (long : length ns ≡ lastSlot) 
               (sym (numbered-append r done (take n (drop o ns)) store) ∙ ap (λ (l : List ℕ). numbered r l store) (sym (take-add o n ns)));
           bytes = omega arith;
         }
+
+    -- the store has its packets
+    pub gone-held : f + k ≡ o → HasPackets 8 (halvesOf m) (drop (packetLength * f) store)
+    gone-held e =
+        let end : packetLength * f + packetLength * k ≡ packetLength * o = omega arith in
+        s .held (drop (packetLength * f) store)
+        (subst (HasPackets r (take n (drop o ns))) (sym (drop-drop (packetLength * k) (packetLength * f) store ∙ ap (λ (i : ℕ). drop i store) end)) (has-take n (has-drop o stored)))
 
     pub gone-room : packetLength * slotsFor r ns ≤ length out₀ → at + packetLength * slotsFor 8 (halvesOf m) ≤ length out₀
     gone-room e =

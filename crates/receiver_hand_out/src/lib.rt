@@ -4,9 +4,9 @@ mod numbered;
 use counters::RelativeNumber;
 use counters::RelativeNumberAnswer;
 use receiver::BEFORE;
+use receiver::KIND;
 use receiver::RECEIVER_BYTES;
 use receiver::STAGE;
-use receiver::STORE_BYTES;
 ghost use mathlib.Core.Path.{_≡_};
 ghost use Rattle.setting.specs.Refusal.{firstOf};
 ghost use Rattle.receiver.specs.Bytes.{receiverOf};
@@ -18,7 +18,11 @@ ghost use Rattle.receiver_hand_out.specs.Ready.{readyChecks};
 fn ready_refusal(state: &[u8], r: RelativeNumber, store: usize) -> u8
     ensures { λ t. ⌜ t ≡ lentRefusal (now (state .entry)) (firstOf (readyChecks (receiverOf (now (state .entry))) (r .0) store)) ⌝ }
 {
-    if store != STORE_BYTES {
+    if state.len() != RECEIVER_BYTES {
+        return 1;
+    }
+    let kind = setting_bytes::kind_of(state[KIND]);
+    if store != receiver_stage::store_bytes(kind) {
         return 1;
     }
     let refusal = receiver_stage::state_refusal(state);
@@ -28,6 +32,10 @@ fn ready_refusal(state: &[u8], r: RelativeNumber, store: usize) -> u8
     let RelativeNumberAnswer::Is(_) = RelativeNumber::new(r.0) else {
         return 17;
     };
+    let size = setting::size_of(kind);
+    if size.streams < r.0 {
+        return 17;
+    }
     if state[STAGE] != 2 {
         return 16;
     }

@@ -11,7 +11,7 @@ ghost use lib.ListN.{length, take, drop, replicate};
 ghost use Rattle.packet.specs.Packets.{packetLength};
 ghost use Rattle.slices.specs.Slices.{over};
 ghost use Rattle.receiver.specs.Packed.{packedLength, unpacked};
-ghost use Rattle.receiver.specs.Store.{storeLength, numbered, slotsFor};
+ghost use Rattle.receiver.specs.Store.{numbered, slotsFor, HasPackets};
 ghost use Rattle.receiver_hand_out.specs.Halves.{halvesOf, marked};
 
 // Marks each half byte of `word` that is r, by the highest bit of that half. In x such a half is 0. In y the highest bit of a half is set
@@ -54,7 +54,7 @@ fn count(a: u64, b: u64, c: u64, d: u64) -> usize
 // Copies the packets of the marked slots to `out`, from place `from` on. The marks are for the sixteen slots behind slot `first`. Answers
 // where the copies end.
 fn copy_marked(out: &mut [u8], from: usize, store: &[u8], first: usize, marks: u64) -> usize
-    requires { ⌜ (marked 8 (halvesOf marks) ≡ halvesOf marks) × (packetLength * (first + 16) ≤ length (now store)) × (from + packetLength * slotsFor 8 (halvesOf marks) ≤ length (now out)) ⌝ }
+    requires { ⌜ (marked 8 (halvesOf marks) ≡ halvesOf marks) × (HasPackets 8 (halvesOf marks) (drop (packetLength * first) (now store))) × (from + packetLength * slotsFor 8 (halvesOf marks) ≤ length (now out)) ⌝ }
     ensures { λ t. ⌜ t ≡ from + packetLength * slotsFor 8 (halvesOf marks) ⌝ }
     ensures { λ _. ⌜ now (out .exit) ≡ over from (numbered 8 (halvesOf marks) (drop (packetLength * first) (now (store .entry)))) (now (out .entry)) ⌝ }
 {
@@ -76,7 +76,7 @@ fn copy_marked(out: &mut [u8], from: usize, store: &[u8], first: usize, marks: u
 // Copies the packets with number r, in slot order, to the front of `out`; 15 if it has no room for them. The marks of the last four slots
 // are the end of those for the last sixteen.
 pub(crate) fn hand_out(out: &mut [u8], store: &[u8], numbers: &[u8], r: RelativeNumber) -> HandedOut
-    requires { ⌜ (length (now numbers) ≡ packedLength) × (length (now store) ≡ storeLength) × (r .0 ≤ 15) ⌝ }
+    requires { ⌜ (length (now numbers) ≡ packedLength) × (HasPackets (r .0) (unpacked (now numbers)) (now store)) × (r .0 ≤ 15) ⌝ }
     ensures { λ t. ⌜ t ≡ cond (ltb (length (now (out .entry))) (packetLength * slotsFor (r .0) (unpacked (now (numbers .entry))))) (record { refusal = 15; packets = 0 }) (record { refusal = 0; packets = slotsFor (r .0) (unpacked (now (numbers .entry))) }) ⌝ }
     ensures { λ _. ⌜ now (out .exit) ≡ cond (ltb (length (now (out .entry))) (packetLength * slotsFor (r .0) (unpacked (now (numbers .entry))))) (now (out .entry)) (over 0 (numbered (r .0) (unpacked (now (numbers .entry))) (now (store .entry))) (now (out .entry))) ⌝ }
 {

@@ -1,24 +1,27 @@
 -- Numbers in two parts, put together, and those of a header. Assumes nothing.
-use Prim.Native.Nat.{ℕ, _+_, _≤_, _^_}
+use Prim.Native.Nat.{ℕ, _+_, _*_, _≤_, _^_}
 use mathlib.Core.Path.{_≡_, sym, ap, ap₂, _∙_}
 use mathlib.Core.Bool.{false}
-use mathlib.Core.List.{List, [], _++_}
+use mathlib.Core.List.{List, [], _++_, append-nil}
 use native.Mathlib.Omega.{arith}
 use lib.ListN.{length, take, drop, replicate, length-drop, length-replicate}
 use lib.Seq.{length-take-le}
+use Rattle.bits.specs.Fields.{run, cut}
+use Rattle.bits.proofs.Laws.{length-run, length-cut, cut-run}
 use Rattle.slices.specs.Slices.{copied, someAtLeast}
 use Rattle.slices.proofs.Front.{put, front-none, front-part, front-length, front-all, copied-over}
 use Rattle.counters.specs.Counters.{lastSlot}
 use Rattle.setting.specs.declared.Kind.{Kind}
+use Rattle.setting.specs.Size.{sizeOf}
 use Rattle.setting.proofs.Fields.{fit-some}
+use Rattle.setting.proofs.Sizes.{resized-same}
 use Rattle.header_layout.specs.Rows.{place, rowAt}
-use Rattle.header_layout.specs.Layout.{numbersStart}
 use Rattle.header_layout.specs.Header.{reading}
 use Rattle.header_layout.proofs.Cut.{part-row}
-use Rattle.header_layout.proofs.LaidOut.{laid-out, numbers-start}
+use Rattle.header_layout.proofs.LaidOut.{laid-out}
 use Rattle.packet.specs.Packets.{packetLength}
 use Rattle.receiver.specs.Packed.{packedLength, packed, unpacked}
-use Rattle.receiver.proofs.Packing.{packed-unpacked}
+use Rattle.receiver.proofs.Packing.{Long, plain, extended, packed-unpacked}
 
 -- a part of the numbers copied over as many zeros
 pub copied-part : (b : List ℕ) (i k : ℕ) → i + packedLength ≤ length b → k ≡ packedLength → copied (replicate packedLength 0) (take k (drop i b)) ≡ take packedLength (drop i b)
@@ -39,19 +42,33 @@ joined ns a b l m n {x} {y} e f =
     front-all ns (x ++ y) _ (packedLength + packedLength) (front-part ns x _ y packedLength packedLength fronted (ap length second ∙ n)) (omega (arith, l))
     ∙ ap₂ (λ (u v : List ℕ). u ++ v) first second
 
+-- where a header of 52 slots has its numbers
+abbrev start : ℕ
+start = 73
+
+abbrev pub ownOf : List ℕ → List ℕ
+ownOf p = take packedLength (drop start p)
+
 -- a packet has as many bytes from there on
-pub length-own : (p : List ℕ) → length p ≡ packetLength → length (take packedLength (drop numbersStart p)) ≡ packedLength
-length-own p l = length-take-le packedLength (drop numbersStart p) (rw length-drop (omega (arith, l, numbers-start)))
+pub length-own : (p : List ℕ) → length p ≡ packetLength → length (ownOf p) ≡ packedLength
+length-own p l = length-take-le packedLength (drop start p) (rw length-drop (omega (arith, l)))
 
-numbers-said : (kind : Kind) (p : List ℕ) → length p ≡ packetLength → unpacked (take packedLength (drop numbersStart p)) ≡ reading kind p .«relative_ts_number»
-unfolding unpacked reading numbersStart laid-out rowAt place
-numbers-said Kind.Plain p l = part-row p numbersStart packedLength 4 lastSlot (omega (arith, l)) (omega arith)
-numbers-said Kind.Extended p l = part-row p numbersStart packedLength 4 lastSlot (omega (arith, l)) (omega arith)
+long-said : {kind : Kind} → Long kind → (p : List ℕ) → length p ≡ packetLength → unpacked (ownOf p) ≡ reading kind p .«relative_ts_number»
+unfolding unpacked reading laid-out sizeOf rowAt place
+long-said plain p l = part-row p start packedLength 4 lastSlot (omega (arith, l)) (omega arith) ∙ sym (resized-same lastSlot _ (length-cut 4 lastSlot (drop (start * 8) (run 8 p))))
+long-said extended p l = part-row p start packedLength 4 lastSlot (omega (arith, l)) (omega arith) ∙ sym (resized-same lastSlot _ (length-cut 4 lastSlot (drop (start * 8) (run 8 p))))
 
--- a header's numbers are the bytes that it has them in
-pub opened-is : (kind : Kind) (p : List ℕ) → length p ≡ packetLength → someAtLeast (2 ^ 8) (take packedLength (drop numbersStart p)) ≡ false
-    → packed (reading kind p .«relative_ts_number») ≡ take packedLength (drop numbersStart p)
-opened-is kind p l b =
-    let opened = take packedLength (drop numbersStart p) in
-    ap packed (sym (numbers-said kind p l))
-    ∙ packed-unpacked opened (length-own p l, fit-some 8 opened b)
+-- the numbers of a long header are the bytes that it has them in
+pub long-own : {kind : Kind} → Long kind → (p : List ℕ) → length p ≡ packetLength → someAtLeast (2 ^ 8) (ownOf p) ≡ false
+    → ownOf p ≡ packed (reading kind p .«relative_ts_number»)
+long-own long p l b = sym (ap packed (sym (long-said long p l)) ∙ packed-unpacked (ownOf p) (length-own p l, fit-some 8 (ownOf p) b))
+
+-- bytes that were packed from numbers
+pub packed-own : (own ns : List ℕ) → length ns ≡ lastSlot → someAtLeast (2 ^ 8) own ≡ false → run 8 own ≡ run 4 ns → own ≡ packed ns
+unfolding packed
+packed-own own ns l b e =
+    let bits : length own * 8 ≡ length ns * 4 = sym (length-run 8 own) ∙ ap length e ∙ length-run 4 ns in
+    let long : length own ≡ packedLength = omega (arith, bits, l) in
+    sym (cut-run (fit-some 8 own b) [])
+    ∙ ap (λ (n : ℕ). cut 8 n (run 8 own ++ [])) long
+    ∙ ap (cut 8 packedLength) (append-nil (run 8 own) ∙ e)

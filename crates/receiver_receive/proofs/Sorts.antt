@@ -1,6 +1,6 @@
 -- What sort of packet comes, by whether it may stand in a slot and what the reader says of it. Assumes nothing.
 use Prim.Native.Nat.{ℕ}
-use mathlib.Core.Path.{_≡_, refl, ap, _∙_}
+use mathlib.Core.Path.{_≡_, refl, sym, ap, _∙_}
 use mathlib.Core.Bool.{Bool, true, false, cond}
 use mathlib.Core.List.{List}
 use borrow.Author.Tests.{eq-eqb, ne-eqb}
@@ -15,10 +15,10 @@ use Rattle.receiver.specs.declared.Stage.{Stage}
 use Rattle.receiver.specs.Arriving.{sortOf, storeAfter}
 use Rattle.receiver.proofs.Sorts.{not-good}
 
-no-other : (b : Bool) (stage : Stage) (p store : List ℕ) → storeAfter stage (cond b good broken) p store ≡ store
+no-other : (b : Bool) (slots : ℕ) (stage : Stage) (p store : List ℕ) → storeAfter slots stage (cond b good broken) p store ≡ store
 unfolding storeAfter
-no-other true stage p store = refl
-no-other false stage p store = refl
+no-other true slots stage p store = refl
+no-other false slots stage p store = refl
 
 module _ (kind : Kind) (pid : ℕ) (p : List ℕ) where
   pub other-sort : unfit pid p ≡ false → sortOf kind pid p ≡ other
@@ -44,6 +44,6 @@ module _ (kind : Kind) (pid : ℕ) (p : List ℕ) where
     checked-counter z = ap (λ (t : Checked). t .«continuity_counter») e ∙ rw (eq-eqb (readRefusal kind pid p) 0 z) refl
 
   -- a packet that may stand in no slot is not stored
-  pub not-stored : unfit pid p ≡ true → (stage : Stage) (store : List ℕ) → storeAfter stage (sortOf kind pid p) p store ≡ store
+  pub not-stored : unfit pid p ≡ true → (slots : ℕ) (stage : Stage) (store : List ℕ) → storeAfter slots stage (sortOf kind pid p) p store ≡ store
   unfolding sortOf
-  not-stored u stage store = rw u (no-other (eqb (readRefusal kind pid p) 0) stage p store)
+  not-stored u slots stage store = rw u (no-other (eqb (readRefusal kind pid p) 0) slots stage p store)

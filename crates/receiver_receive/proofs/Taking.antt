@@ -9,8 +9,8 @@ use lib.ListN.{length, getD, set, replicate, take, drop, length-drop, length-app
 use lib.Seq.{length-take-le, take-take, drop-at, drop-drop}
 use Rattle.slices.specs.Slices.{over, someAtLeast}
 use Rattle.slices.proofs.Front.{put}
-use Rattle.counters.specs.Counters.{lastSlot}
 use Rattle.setting.specs.declared.Setting.{Setting}
+use Rattle.setting.specs.Size.{slotsOf}
 use Rattle.setting.proofs.Refusals.{answers, passed}
 use Rattle.setting_bytes.specs.Kinds.{isKind}
 use Rattle.packet.specs.Packets.{packetLength, unfit}
@@ -34,6 +34,9 @@ use Rattle.receiver_receive.proofs.Receipts.{sound-state, keeping, renu
 -- ---- the refusal
 
 module _ (b : List ℕ) (packet store : ℕ) where
+  abbrev long-store : ℕ
+  long-store = storeLength (slotsOf (receiverOf b .kind))
+
   abbrev refusal : ℕ
   refusal = lentRefusal b (receiveRefusal (receiverOf b) packet store)
 
@@ -42,17 +45,17 @@ module _ (b : List ℕ) (packet store : ℕ) where
   no-packet h = one-anyway b (receiveRefusal (receiverOf b) packet store) (answers 1 _ (ap not (ne-eqb packet packetLength h)))
 
   module _ (l : packet ≡ packetLength) where
-    pub no-store : (store ≡ storeLength → ⊥) → 1 ≡ refusal
+    pub no-store : (store ≡ long-store → ⊥) → 1 ≡ refusal
     unfolding receiveRefusal
     no-store h =
         one-anyway b (receiveRefusal (receiverOf b) packet store)
-        (passed 1 _ (ap not (eq-eqb packet packetLength l)) ∙ answers 1 _ (ap not (ne-eqb store storeLength h)))
+        (passed 1 _ (ap not (eq-eqb packet packetLength l)) ∙ answers 1 _ (ap not (ne-eqb store long-store h)))
 
-    pub the-states : store ≡ storeLength → stateRefused b ≡ refusal
+    pub the-states : store ≡ long-store → stateRefused b ≡ refusal
     unfolding receiveRefusal stateRefused
     the-states m =
         ap (lentRefusal b)
-        (sym (passed 1 _ (ap not (eq-eqb packet packetLength l)) ∙ passed 1 (receiverChecks (receiverOf b)) (ap not (eq-eqb store storeLength m))))
+        (sym (passed 1 _ (ap not (eq-eqb packet packetLength l)) ∙ passed 1 (receiverChecks (receiverOf b)) (ap not (eq-eqb store long-store m))))
 
 -- ---- the state's bytes
 
@@ -121,11 +124,14 @@ module _ (b p store : List ℕ) (l : length b ≡ receiverLength) (w : someAtLea
       (event ≡ eventNumber (receiveOf c p (length store) .event))
       × ((after ≡ receiverBytes (receiveOf c p (length store) .state)) × (memory ≡ receiveStore c p store))
 
-  stood : Stands (getD b stageAt 0) (getD b counterAt 0) (getD b storedAt 0) (c .stage)
+  abbrev slots : ℕ
+  slots = slotsOf (c .kind)
+
+  stood : Stands slots (getD b stageAt 0) (getD b counterAt 0) (getD b storedAt 0) (c .stage)
   stood = standing b (sound-state c (length p) (length store) e)
 
-  by-row : (r : Row) → r ≡ rowOf (c .stage) other 0 → {after memory : List ℕ} → after ≡ take stageAt b ++ (stageBytes (r .stage) ++ drop numbersAt b)
-      → memory ≡ storeAfter (c .stage) other p store → Takes (eventNumber (r .event)) after memory
+  by-row : (r : Row) → r ≡ rowOf slots (c .stage) other 0 → {after memory : List ℕ} → after ≡ take stageAt b ++ (stageBytes (r .stage) ++ drop numbersAt b)
+      → memory ≡ storeAfter slots (c .stage) other p store → Takes (eventNumber (r .event)) after memory
   by-row r t a m =
       let sort = other-sort (c .kind) (c .pid) p u in
       let moves = keeps b p (length store) l w e r refl (other-receipt c p (length store) e sort t) a in
@@ -136,41 +142,38 @@ module _ (b p store : List ℕ) (l : length b ≡ receiverLength) (w : someAtLea
   unfolding rowOf stageBytes storeAfter storedOf eventNumber
   waiting-on z = by-standing stood
     where
-      by-standing : Stands (getD b stageAt 0) (getD b counterAt 0) (getD b storedAt 0) (c .stage) → Takes 0 b store
+      by-standing : Stands slots (getD b stageAt 0) (getD b counterAt 0) (getD b storedAt 0) (c .stage) → Takes 0 b store
       by-standing (waits t f k s) =
-          by-row (row Event.Nothing Stage.Waiting) (rw s refl) (unstaged b (omega (arith, l)) t f k) (rw s refl)
+          by-row (row Event.Nothing Stage.Waiting) (rw s refl) (unstaged b (omega (arith, l)) t f k) (rw s (rw (le-ltb slots slots (omega arith)) refl))
       by-standing (opens t k s) = absurd (omega (arith, t, z))
       by-standing (readies t k s) = absurd (omega (arith, t, z))
 
   module _ (o : getD b stageAt 0 ≡ 0 → ⊥) where
-    -- no room: the frame is dropped
-    pub too-long : lastSlot ≤ getD b storedAt 0 → {zeros : List ℕ} → zeros ≡ replicate (length (take 3 (drop stageAt b))) 0 → Takes 6 (put stageAt 3 b zeros) store
-    unfolding rowOf stageBytes storeAfter storedOf eventNumber
-    too-long h {zeros} n = by-standing stood
+    -- a frame is open, with as many packets stored as the byte says
+    opened : (rowOf slots (c .stage) other 0 ≡ openRow slots (getD b counterAt 0) (getD b storedAt 0) other 0) × (storedOf slots (c .stage) ≡ getD b storedAt 0)
+    unfolding rowOf storedOf
+    opened = by-standing stood
       where
-        by-standing : Stands (getD b stageAt 0) (getD b counterAt 0) (getD b storedAt 0) (c .stage) → Takes 6 (put stageAt 3 b zeros) store
+        by-standing : Stands slots (getD b stageAt 0) (getD b counterAt 0) (getD b storedAt 0) (c .stage)
+            → (rowOf slots (c .stage) other 0 ≡ openRow slots (getD b counterAt 0) (getD b storedAt 0) other 0) × (storedOf slots (c .stage) ≡ getD b storedAt 0)
         by-standing (waits t f k s) = absurd (o t)
-        by-standing (opens t k s) =
-            by-row (row Event.Long Stage.Waiting) (sym (rw s (long (getD b counterAt 0) (getD b storedAt 0) 0 h)))
-            (ap₂ (λ (x y : List ℕ). take stageAt b ++ (x ++ y))
-            (n ∙ ap (λ (m : ℕ). replicate m 0) (length-take-le 3 (drop stageAt b) (rw length-drop (omega (arith, l))))) (drop-drop 3 stageAt b))
-            (rw s (rw (le-ltb (getD b storedAt 0) lastSlot h) refl))
-        by-standing (readies t k s) = absurd (omega (arith, k, h))
+        by-standing (opens t k s) = rw s (refl, refl)
+        by-standing (readies t k s) = rw (s, k) (refl, refl)
+
+    -- no room: the frame is dropped
+    pub too-long : slots ≤ getD b storedAt 0 → {zeros : List ℕ} → zeros ≡ replicate (length (take 3 (drop stageAt b))) 0 → Takes 6 (put stageAt 3 b zeros) store
+    unfolding stageBytes storeAfter eventNumber
+    too-long h n =
+        by-row (row Event.Long Stage.Waiting) (sym (opened .0 ∙ long slots (getD b counterAt 0) (getD b storedAt 0) 0 h))
+        (ap₂ (λ (x y : List ℕ). take stageAt b ++ (x ++ y))
+        (n ∙ ap (λ (m : ℕ). replicate m 0) (length-take-le 3 (drop stageAt b) (rw length-drop (omega (arith, l))))) (drop-drop 3 stageAt b))
+        (rw (opened .1, le-ltb (getD b storedAt 0) slots h) refl)
 
     -- stored behind those that are
-    pub stored-on : getD b storedAt 0 < lastSlot
+    pub stored-on : getD b storedAt 0 < slots
         → Takes 2 (set (set b stageAt 1) storedAt (getD b storedAt 0 + 1)) (over (packetLength * getD b storedAt 0) p store)
-    unfolding rowOf openRow stageBytes storeAfter storedOf eventNumber
-    stored-on h = by-standing stood
-      where
-        by-standing : Stands (getD b stageAt 0) (getD b counterAt 0) (getD b storedAt 0) (c .stage)
-            → Takes 2 (set (set b stageAt 1) storedAt (getD b storedAt 0 + 1)) (over (packetLength * getD b storedAt 0) p store)
-        by-standing (waits t f k s) = absurd (o t)
-        by-standing (opens t k s) =
-            by-row (row Event.Stored (Stage.Open (getD b counterAt 0) (getD b storedAt 0 + 1)))
-            (sym (rw s (kept (getD b counterAt 0) (getD b storedAt 0) 0 h))) (counted b (getD b storedAt 0 + 1) (omega (arith, l)))
-            (rw s (rw (lt-ltb (getD b storedAt 0) lastSlot h) refl))
-        by-standing (readies t k s) =
-            by-row (row Event.Stored (Stage.Open (getD b counterAt 0) (getD b storedAt 0 + 1)))
-            (rw (s, k) refl) (counted b (getD b storedAt 0 + 1) (omega (arith, l)))
-            (rw (s, k) refl)
+    unfolding stageBytes storeAfter eventNumber
+    stored-on h =
+        by-row (row Event.Stored (Stage.Open (getD b counterAt 0) (getD b storedAt 0 + 1)))
+        (sym (opened .0 ∙ kept slots (getD b counterAt 0) (getD b storedAt 0) 0 h)) (counted b (getD b storedAt 0 + 1) (omega (arith, l)))
+        (rw (opened .1, lt-ltb (getD b storedAt 0) slots h) refl)

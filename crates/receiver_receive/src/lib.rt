@@ -11,19 +11,21 @@ use receiver::PID_LOW;
 use receiver::RECEIVER_BYTES;
 use receiver::Row;
 use receiver::STAGE;
-use receiver::STORE_BYTES;
 use receiver::STORED;
 use receiver::events;
+use setting::Kind;
 ghost use mathlib.Core.Path.{_≡_};
 ghost use mathlib.Core.Bool.{true, false};
 ghost use mathlib.Core.List.{_++_};
-ghost use Prim.Native.Nat.{_+_, _*_, _^_, _<_};
-ghost use lib.ListN.{length, getD, set, take, drop};
+ghost use Prim.Native.Nat.{_+_, _*_, _^_, _<_, _≤_};
+ghost use lib.ListN.{length, getD, set, take};
+ghost use Rattle.bits.specs.Fields.{run};
 ghost use Rattle.slices.specs.Slices.{over, someAtLeast};
 ghost use Rattle.counters.specs.Counters.{lastSlot};
-ghost use Rattle.header_layout.specs.Layout.{numbersStart};
+ghost use Rattle.setting.specs.Size.{slotsOf};
 ghost use Rattle.packet.specs.Packets.{packetLength, unfit};
-ghost use Rattle.receiver.specs.Packed.{packedLength};
+ghost use Rattle.header_layout.specs.Header.{reading};
+ghost use Rattle.receiver.specs.Packed.{packedLength, packed};
 ghost use Rattle.receiver.specs.Store.{storeLength};
 ghost use Rattle.receiver.specs.Receiving.{receiveRefusal, receiveOf, receiveStore};
 ghost use Rattle.receiver.specs.Bytes.{stageAt, storedAt, receiverLength, stageBytes, receiverOf, receiverBytes, eventNumber};
@@ -52,7 +54,10 @@ fn receive_refusal(state: &[u8], packet: usize, store: usize) -> u8
     if packet != PACKET_BYTES {
         return 1;
     }
-    if store != STORE_BYTES {
+    if state.len() != RECEIVER_BYTES {
+        return 1;
+    }
+    if store != receiver_stage::store_bytes(setting_bytes::kind_of(state[KIND])) {
         return 1;
     }
     receiver_stage::state_refusal(state)
@@ -61,7 +66,7 @@ fn receive_refusal(state: &[u8], packet: usize, store: usize) -> u8
 // Puts the packet into the next slot of the open frame, and counts it. From then on the frame before it is no longer ready.
 fn store_next(state: &mut [u8], packet: &[u8], store: &mut [u8])
     requires { ⌜ (length (now state) ≡ receiverLength) × (getD (now state) storedAt 0 < lastSlot) ⌝ }
-    requires { ⌜ (length (now packet) ≡ packetLength) × (length (now store) ≡ storeLength) ⌝ }
+    requires { ⌜ (length (now packet) ≡ packetLength) × (packetLength * (getD (now state) storedAt 0 + 1) ≤ length (now store)) ⌝ }
     ensures { λ _. ⌜ now (state .exit) ≡ set (set (now (state .entry)) stageAt 1) storedAt (getD (now (state .entry)) storedAt 0 + 1) ⌝ }
     ensures { λ _. ⌜ now (store .exit) ≡ over (packetLength * getD (now (state .entry)) storedAt 0) (now (packet .entry)) (now (store .entry)) ⌝ }
 {
@@ -83,7 +88,8 @@ fn take_packet(state: &mut [u8], packet: &[u8], store: &mut [u8]) -> u8
     if state[STAGE] == 0 {
         return events::NOTHING;
     }
-    if (SLOTS as u8) <= state[STORED] {
+    let size = setting::size_of(setting_bytes::kind_of(state[KIND]));
+    if size.slots <= state[STORED] {
         slices::fill(&mut state[STAGE..NUMBERS], 0);
         return events::LONG;
     }
@@ -91,22 +97,62 @@ fn take_packet(state: &mut [u8], packet: &[u8], store: &mut [u8]) -> u8
     events::STORED
 }
 
-// Writes the slots' numbers after a good header: first the header's own, then those of the frame that was open until now. `are_bytes` tells
-// the proof that the header's are bytes, so that they can be unpacked and packed again.
-fn renew(numbers: &mut [u8], packet: &[u8])
-    requires { ⌜ (length (now numbers) ≡ packedLength + packedLength) × (length (now packet) ≡ packetLength) ⌝ }
-    ensures { λ _. ⌜ now (numbers .exit) ≡ take packedLength (drop numbersStart (now (packet .entry))) ++ take packedLength (now (numbers .entry)) ⌝ }
-    ensures { λ _. ⌜ someAtLeast (2 ^ 8) (take packedLength (drop numbersStart (now (packet .entry)))) ≡ false ⌝ }
+// Writes the slots' numbers after a good header: first its own, then those of the frame that was open until now. `are_bytes` tells the proof
+// that its own are bytes, so that they can be unpacked and packed again.
+fn renew(numbers: &mut [u8], own: &[u8])
+    requires { ⌜ (length (now numbers) ≡ packedLength + packedLength) × (length (now own) ≡ packedLength) ⌝ }
+    ensures { λ _. ⌜ now (numbers .exit) ≡ now (own .entry) ++ take packedLength (now (numbers .entry)) ⌝ }
+    ensures { λ _. ⌜ someAtLeast (2 ^ 8) (now (own .entry)) ≡ false ⌝ }
 {
     let mut before = [0u8; PACKED_BYTES];
     slices::copy(&mut before, &numbers[0..PACKED_BYTES]);
-    let own = &packet[header_layout::NUMBERS..header_layout::PRIVATE];
     slices::are_bytes(own);
     slices::copy(&mut numbers[0..PACKED_BYTES], own);
     slices::copy(
         &mut numbers[PACKED_BYTES..PACKED_BYTES + PACKED_BYTES],
         &before,
     );
+}
+
+// Packs numbers of four bits, two a byte.
+fn pack(part: &mut [u8], values: &[u8])
+    requires { ⌜ length (now values) ≡ 2 * length (now part) ⌝ }
+    ensures { λ _. ⌜ run 8 (now (part .exit)) ≡ run 4 (now (values .entry)) ⌝ }
+{
+    let mut k = 0;
+    while k < part.len() {
+        part[k] = values[2 * k] % 16 * 16 + values[2 * k + 1] % 16;
+        k += 1;
+    }
+}
+
+// Writes the slots' numbers after a good header of this kind, which says `said`. A plain or an extended header has them in the state's form;
+// those of a short one are packed.
+fn renumber(numbers: &mut [u8], packet: &[u8], kind: Kind)
+    requires { ⌜ (length (now numbers) ≡ packedLength + packedLength) × (length (now packet) ≡ packetLength) ⌝ }
+    ensures { λ _. ⌜ now (numbers .exit) ≡ packed (reading kind (now (packet .entry)) .«relative_ts_number») ++ take packedLength (now (numbers .entry)) ⌝ }
+{
+    match kind {
+        Kind::Plain => {
+            renew(
+                numbers,
+                &packet[header_layout::NUMBERS..header_layout::PRIVATE],
+            );
+        }
+        Kind::Extended => {
+            renew(
+                numbers,
+                &packet[header_layout::NUMBERS..header_layout::PRIVATE],
+            );
+        }
+        Kind::Short => {
+            let mut said = [0u8; SLOTS];
+            header_check::read_numbers(&mut said, packet, Kind::Short);
+            let mut own = [0u8; PACKED_BYTES];
+            pack(&mut own, &said);
+            renew(numbers, &own);
+        }
+    }
 }
 
 // Writes the stage that a row of the table gives. Answers what happened.
@@ -124,9 +170,9 @@ fn move_on(state: &mut [u8], row: Row) -> u8
 // Takes a packet that may not stand in a slot: a good header, which opens a frame, or a broken packet. Answers what it did.
 fn take_header(state: &mut [u8], packet: &[u8]) -> u8
     requires { ⌜ (length (now state) ≡ receiverLength) × (someAtLeast (2 ^ 8) (now state) ≡ false) ⌝ }
-    requires { ⌜ (unfit (receiverOf (now state) .pid) (now packet) ≡ true) × (receiveRefusal (receiverOf (now state)) (length (now packet)) storeLength ≡ 0) ⌝ }
-    ensures { λ r. ⌜ r ≡ eventNumber (receiveOf (receiverOf (now (state .entry))) (now (packet .entry)) storeLength .event) ⌝ }
-    ensures { λ _. ⌜ now (state .exit) ≡ receiverBytes (receiveOf (receiverOf (now (state .entry))) (now (packet .entry)) storeLength .state) ⌝ }
+    requires { ⌜ (unfit (receiverOf (now state) .pid) (now packet) ≡ true) × (receiveRefusal (receiverOf (now state)) (length (now packet)) (storeLength (slotsOf (receiverOf (now state) .kind))) ≡ 0) ⌝ }
+    ensures { λ r. ⌜ r ≡ eventNumber (receiveOf (receiverOf (now (state .entry))) (now (packet .entry)) (storeLength (slotsOf (receiverOf (now (state .entry)) .kind))) .event) ⌝ }
+    ensures { λ _. ⌜ now (state .exit) ≡ receiverBytes (receiveOf (receiverOf (now (state .entry))) (now (packet .entry)) (storeLength (slotsOf (receiverOf (now (state .entry)) .kind))) .state) ⌝ }
 {
     let pid = bits::word(state[PID], state[PID_LOW]);
     let kind = setting_bytes::kind_of(state[KIND]);
@@ -135,10 +181,11 @@ fn take_header(state: &mut [u8], packet: &[u8]) -> u8
     if said.refusal != 0 {
         return move_on(state, receiver_table::broken_row(stage));
     }
-    renew(&mut state[NUMBERS..RECEIVER_BYTES], packet);
+    let size = setting::size_of(kind);
+    renumber(&mut state[NUMBERS..RECEIVER_BYTES], packet, kind);
     move_on(
         state,
-        receiver_table::header_row(stage, said.continuity_counter),
+        receiver_table::header_row(size.slots, stage, said.continuity_counter),
     )
 }
 

@@ -1,23 +1,36 @@
-// What every call checks of a receiver's state, and how the stage is read from its 58 bytes and written to them.
-use counters::SLOTS;
+// What every call checks of a receiver's state, how long a store is, and how the stage is read from the state's 58 bytes and written to them.
+use counters::RelativeNumber;
+use counters::SHORT_SLOTS;
+use packet::PACKET_BYTES;
+use receiver::BEFORE;
 use receiver::COUNTER;
 use receiver::KIND;
+use receiver::NUMBERS;
+use receiver::PACKED_BYTES;
 use receiver::PID;
 use receiver::PID_LOW;
 use receiver::RECEIVER_BYTES;
 use receiver::STAGE;
 use receiver::STORED;
 use receiver::Stage;
+use setting::Kind;
 use setting::limits;
 use setting_bytes::LAST_KIND;
 ghost use mathlib.Core.Path.{_≡_};
 ghost use mathlib.Core.Bool.{cond};
+ghost use mathlib.Core.List.{_++_};
+ghost use Prim.Native.Nat.{_*_, _<_};
 ghost use lib.Dec.{eqb};
 ghost use lib.ListN.{length};
-ghost use Rattle.slices.specs.Slices.{copied};
+ghost use Rattle.bits.specs.Fields.{run, cut};
+ghost use Rattle.slices.specs.Slices.{copied, someAtLeast};
 ghost use Rattle.setting.specs.Refusal.{firstOf};
+ghost use Rattle.setting.specs.Rules.{numberChecks};
+ghost use Rattle.setting.specs.Size.{sizeOf, slotsOf};
+ghost use Rattle.receiver.specs.Packed.{packedLength, unpacked};
+ghost use Rattle.receiver.specs.Store.{storeLength};
 ghost use Rattle.receiver.specs.Table.{stageChecks};
-ghost use Rattle.receiver.specs.Bytes.{receiverLength, stageBytes, noStage, stageOf, stageIn};
+ghost use Rattle.receiver.specs.Bytes.{receiverLength, stageBytes, noStage, stageOf, stageIn, receiverOf};
 ghost use Rattle.receiver.specs.Calls.{stateRefused};
 
 // Bytes that code no stage are read as this one, which every call refuses with 17.
@@ -80,14 +93,14 @@ pub fn write_stage(bytes: &mut [u8], stage: Stage)
 }
 
 // 17: three bytes that code no stage, a counter that no header has, or more packets stored than there are slots.
-fn stage_refusal(tag: u8, counter: u8, stored: u8) -> u8
-    ensures { λ r. ⌜ r ≡ firstOf (stageChecks (stageOf tag counter stored)) ⌝ }
+fn stage_refusal(slots: u8, tag: u8, counter: u8, stored: u8) -> u8
+    ensures { λ r. ⌜ r ≡ firstOf (stageChecks slots (stageOf tag counter stored)) ⌝ }
 {
     if tag == 1 {
         if limits::COUNTERS <= counter {
             return 17;
         }
-        if (SLOTS as u8) < stored {
+        if slots < stored {
             return 17;
         }
         return 0;
@@ -110,8 +123,67 @@ fn stage_refusal(tag: u8, counter: u8, stored: u8) -> u8
     0
 }
 
-// 1, 2 and 17, which every call checks of a state: its length, its PID, its kind and its stage. The slots' numbers are not checked, since
-// every number of four bits is in range.
+// The bytes of a store: a packet for each slot of the kind.
+pub fn store_bytes(kind: Kind) -> usize
+    ensures { λ r. ⌜ r ≡ storeLength (slotsOf kind) ⌝ }
+{
+    let size = setting::size_of(kind);
+    PACKET_BYTES * (size.slots as usize)
+}
+
+// Whether some half of a byte is `limit` or more. Looks for the largest and does not stop early, so that many bytes are compared at a time.
+fn some_half_at_least(bytes: &[u8], limit: u8) -> bool
+    requires { ⌜ 0 < limit ⌝ }
+    ensures { λ r. ⌜ r ≡ someAtLeast limit (cut 4 (2 * length (now (bytes .entry))) (run 8 (now (bytes .entry)))) ⌝ }
+{
+    let mut most = 0;
+    let mut i = 0;
+    while i < bytes.len() {
+        if most < bytes[i] / 16 {
+            most = bytes[i] / 16;
+        }
+        if most < bytes[i] % 16 {
+            most = bytes[i] % 16;
+        }
+        i += 1;
+    }
+    limit <= most
+}
+
+// 17: a number that a short frame does not have, or one behind its last slot.
+fn short_refusal(numbers: &[u8]) -> u8
+    requires { ⌜ length (now numbers) ≡ packedLength ⌝ }
+    ensures { λ r. ⌜ r ≡ firstOf (numberChecks (sizeOf Kind.Short) (unpacked (now (numbers .entry)))) ⌝ }
+{
+    if some_half_at_least(numbers, RelativeNumber::LAST_SHORT + 1) {
+        return 17;
+    }
+    if some_half_at_least(&numbers[SHORT_SLOTS / 2..PACKED_BYTES], 1) {
+        return 17;
+    }
+    0
+}
+
+// 17: the slots' numbers, by the open frame's header and by the header before it. Those of a plain or an extended frame are not looked at,
+// since every number of four bits is in range.
+fn numbers_refusal(kind: Kind, state: &[u8]) -> u8
+    requires { ⌜ length (now state) ≡ receiverLength ⌝ }
+    ensures { λ r. ⌜ r ≡ firstOf (numberChecks (sizeOf kind) (receiverOf (now (state .entry)) .numbers) ++ numberChecks (sizeOf kind) (receiverOf (now (state .entry)) .before)) ⌝ }
+{
+    match kind {
+        Kind::Plain => 0,
+        Kind::Extended => 0,
+        Kind::Short => {
+            let refusal = short_refusal(&state[NUMBERS..BEFORE]);
+            if refusal != 0 {
+                return refusal;
+            }
+            short_refusal(&state[BEFORE..RECEIVER_BYTES])
+        }
+    }
+}
+
+// 1, 2 and 17, which every call checks of a state: its length, its PID, its kind, its stage and its slots' numbers.
 pub fn state_refusal(state: &[u8]) -> u8
     ensures { λ r. ⌜ r ≡ stateRefused (now (state .entry)) ⌝ }
 {
@@ -124,5 +196,11 @@ pub fn state_refusal(state: &[u8]) -> u8
     if LAST_KIND < state[KIND] {
         return 17;
     }
-    stage_refusal(state[STAGE], state[COUNTER], state[STORED])
+    let kind = setting_bytes::kind_of(state[KIND]);
+    let size = setting::size_of(kind);
+    let refusal = stage_refusal(size.slots, state[STAGE], state[COUNTER], state[STORED]);
+    if refusal != 0 {
+        return refusal;
+    }
+    numbers_refusal(kind, state)
 }

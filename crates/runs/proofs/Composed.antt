@@ -1,6 +1,6 @@
 -- The promises on the frames that a run closes. Assumes nothing.
 use Prim.Native.Nat.{ℕ, zero, suc, _+_, _*_, _%_, _^_, _≤_, _<_}
-use mathlib.Core.Path.{_≡_, refl, ap, ap₂, subst, _∙_}
+use mathlib.Core.Path.{_≡_, refl, sym, ap, ap₂, subst, _∙_}
 use mathlib.Core.Bool.{true, false, not, or-true, false≢true}
 use mathlib.Core.List.{List, [], _∷_, map}
 use native.Mathlib.Omega.{arith}
@@ -10,11 +10,13 @@ use lib.ListN.{length, take, length-append}
 use Rattle.slices.proofs.Any.{both}
 use Rattle.setting.specs.declared.Kind.{Kind}
 use Rattle.setting.specs.declared.Setting.{Setting}
-use Rattle.counters.specs.Counters.{firstStream, firstSlot, lastSlot}
+use Rattle.counters.specs.Counters.{firstStream, firstSlot}
 use Rattle.setting.specs.Setting.{blank, OfItsTypes}
-use Rattle.setting.specs.Rules.{pidAllowed, ruleChecks}
+use Rattle.setting.specs.Size.{slotsOf, resized}
+use Rattle.setting.specs.Rules.{pidAllowed, someBehind, ruleChecks}
+use Rattle.setting.proofs.Sizes.{sized, length-resized}
 use Rattle.setting.proofs.Refusals.{none-at}
-use Rattle.setting.proofs.Fields.{at-most}
+use Rattle.setting.proofs.Fields.{at-most, narrow}
 use Rattle.header_layout.specs.Header.{header}
 use Rattle.header_read.specs.Reader.{readOf}
 use Rattle.header_layout.specs.Meets.{MeetsRules}
@@ -31,6 +33,7 @@ use Rattle.runs.specs.Work.{Work, noWork, worksOf, slotsFilled, numbersF
 use Rattle.runs.specs.Composed.{headedBy, FramesHold, HeadersRead, FrontsPlaced, PacketsFit}
 use Rattle.runs.proofs.Filled.{marksFilled, length-null}
 use Rattle.runs.proofs.Carried.{numbers-filled, length-slots, length-marks, front-lent, slot-first, slot-next, each-fit}
+use Rattle.runs.proofs.Front.{front-fit, front-for, front-numbered}
 use Rattle.runs.proofs.Said.{version-narrow, said-meets, said-types}
 use Rattle.runs.proofs.Held.{Sound, Done, holds, all-done}
 
@@ -49,6 +52,7 @@ typed-first Kind.Plain pid k d z = absurd (omega (arith, eqb-true (k .setting .�
 typed-first Kind.Extended pid k d z =
     let e = both (leb 1 (k .setting .«frame_type»)) (leb (k .setting .«frame_type») 2) (not-false _ (none-at (d .rules) 0)) in
     absurd (omega (arith, leb-true 1 (k .setting .«frame_type») (e .0)))
+typed-first Kind.Short pid k d z = absurd (omega (arith, eqb-true (k .setting .«frame_type») 3 (not-false _ (none-at (d .rules) 0))))
 
 first-differs : (s : Setting) → (s .«frame_type» ≡ 0 → ⊥) → differ (announced s) (announced blank) ≡ true
 unfolding differ announced blank
@@ -127,7 +131,7 @@ module _ {A : Type 0} {P Q : A → Type 0} (f : (x : A) → P x → Q x) where
   each none = none
   each (more p ps) = more (f _ p) (each ps)
 
-each-map : {A B : Type 0} {P : B → Type 0} (g : A → B) {xs : List A} → Each (λ x. P (g x)) xs → Each P (map g xs)
+pub each-map : {A B : Type 0} {P : B → Type 0} (g : A → B) {xs : List A} → Each (λ x. P (g x)) xs → Each P (map g xs)
 each-map g none = none
 each-map g (more p ps) = more p (each-map g ps)
 
@@ -139,10 +143,20 @@ module _ (kind : Kind) (pid : ℕ) (h : Setting × Work) (g : Good kind pid h) w
   abbrev plan : List ℕ
   plan = h .1 .setting .«relative_ts_number»
 
+  -- the slots that the frame has
+  abbrev front : List ℕ
+  front = resized (slotsOf kind) plan
+
+  room : slotsOf kind ≤ length plan
+  room = omega (arith, sized kind .slots, g .done .typed .numbers .0)
+
+  behind : someBehind (slotsOf kind) plan ≡ false
+  behind = narrow kind (g .done .widths) .numbers-behind
+
   -- its first packet is its header, which the reader accepts
   frame-header : slot 0 (frameOf kind pid h) ≡ header kind pid (h .0)
   unfolding frameOf
-  frame-header = slot-first (header kind pid (h .0)) (slotsFilled plan (h .1 .lent)) (length-header kind pid (h .0))
+  frame-header = slot-first (header kind pid (h .0)) (slotsFilled front (h .1 .lent)) (length-header kind pid (h .0))
 
   pub header-read : readOf kind pid (slot 0 (frameOf kind pid h)) ≡ record { refusal = 0; setting = h .0 }
   header-read =
@@ -150,23 +164,27 @@ module _ (kind : Kind) (pid : ℕ) (h : Setting × Work) (g : Good kind pid h) w
       ap (readOf kind pid) (frame-header ∙ made kind pid (h .0) nullPacket (w .0)) ∙ w .1
 
   pub front-placed : (r : ℕ) → firstStream ≤ r
-      → numbered r (h .0 .«relative_ts_number») (slotsFilled plan (h .1 .lent)) ≡ take (packetLength * slotsFor r plan) (h .1 .lent r)
+      → numbered r (h .0 .«relative_ts_number») (slotsFilled front (h .1 .lent)) ≡ take (packetLength * slotsFor r plan) (h .1 .lent r)
   front-placed r l =
-      ap (λ (ns : List ℕ). numbered r ns (slotsFilled plan (h .1 .lent))) (g .numbers-are)
-      ∙ front-lent r (λ z. omega arith) plan (h .1 .lent) (g .done .whole)
+      let z : r ≡ 0 → ⊥ = λ e. omega arith in
+      ap (λ (ns : List ℕ). numbered r ns (slotsFilled front (h .1 .lent))) (g .numbers-are)
+      ∙ front-numbered (slotsOf kind) plan room behind r z (h .1 .lent) (slotsFilled front (h .1 .lent))
+      ∙ front-lent r z front (h .1 .lent) (g .done .whole)
+      ∙ ap (λ (n : ℕ). take (packetLength * n) (h .1 .lent r)) (sym (front-for (slotsOf kind) plan room behind r z))
 
-  pub frame-length : length (frameOf kind pid h) ≡ frameLength
+  pub frame-length : length (frameOf kind pid h) ≡ frameLength (slotsOf kind)
   unfolding frameOf
   frame-length =
-      length-append (header kind pid (h .0)) (slotsFilled plan (h .1 .lent))
-      ∙ omega (arith, length-header kind pid (h .0), length-slots plan (h .1 .lent), g .done .typed .numbers .0)
+      length-append (header kind pid (h .0)) (slotsFilled front (h .1 .lent))
+      ∙ omega (arith, length-header kind pid (h .0), length-slots front (h .1 .lent), length-resized (slotsOf kind) plan)
 
-  pub packet-fit : pidAllowed pid ≡ true → (i : ℕ) → firstSlot ≤ i → i ≤ lastSlot → unfit pid (slot i (frameOf kind pid h)) ≡ false
+  pub packet-fit : pidAllowed pid ≡ true → (i : ℕ) → firstSlot ≤ i → i ≤ slotsOf kind → unfit pid (slot i (frameOf kind pid h)) ≡ false
   unfolding frameOf
   packet-fit e zero a b = absurd (omega arith)
   packet-fit e (suc i) a b =
-      ap (unfit pid) (slot-next (header kind pid (h .0)) (slotsFilled plan (h .1 .lent)) i (length-header kind pid (h .0)))
-      ∙ each-fit pid (at-most 16 8190 pid e) plan (h .1 .lent) (g .done .fit) i (omega (arith, g .done .typed .numbers .0))
+      ap (unfit pid) (slot-next (header kind pid (h .0)) (slotsFilled front (h .1 .lent)) i (length-header kind pid (h .0)))
+      ∙ each-fit pid (at-most 16 8190 pid e) front (h .1 .lent) (sym (front-fit (slotsOf kind) plan room behind pid (h .1 .lent)) ∙ g .done .fit) i
+      (omega (arith, length-resized (slotsOf kind) plan))
 
 -- ---- the promises
 

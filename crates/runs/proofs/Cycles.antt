@@ -11,6 +11,8 @@ use Rattle.slices.specs.Slices.{anyBelow, someAtLeast}
 use Rattle.setting.specs.declared.Kind.{Kind}
 use Rattle.setting.specs.declared.Setting.{Setting}
 use Rattle.counters.specs.Counters.{lastStream, available}
+use Rattle.setting.specs.Size.{slotsOf, resized}
+use Rattle.setting.proofs.Sizes.{sized, length-resized}
 use Rattle.setting.specs.Setting.{privateBytes, auxiliaryBytes, OfItsTypes}
 use Rattle.setting.specs.Refusal.{firstOf, none, more}
 use Rattle.setting.specs.Rules.{widthChecks, ruleChecks}
@@ -49,8 +51,8 @@ thePid = 0x1FF0
 unfoldable pub thePacket : List ℕ
 thePacket = 0x47 ∷ replicate 187 0
 
-abbrev pub theBuffer : List ℕ
-theBuffer = replicate frameLength 0
+abbrev pub theBuffer : Kind → List ℕ
+theBuffer kind = replicate (frameLength (slotsOf kind)) 0
 
 pub packet-long : length thePacket ≡ packetLength
 unfolding thePacket
@@ -73,17 +75,18 @@ pub record Takes (kind : Kind) (s : Setting) : Type 0 where
   pub first : available (s .availability) 1 ≡ true
   pub bytes : Fit 8 (settingBytes s)
 
--- stream 1 has slot 1, of which these are the bonding fields
+-- stream 1 has slot 1
 abbrev pub plan : List ℕ
 plan = 1 ∷ replicate 51 0
 
-unfoldable pub oneSlot : ℕ → ℕ → ℕ → ℕ → Setting
-oneSlot carriers sequence frames position =
+-- of which this is the frame type, and these are the bonding fields
+unfoldable pub oneSlot : ℕ → ℕ → ℕ → ℕ → ℕ → Setting
+oneSlot type carriers sequence frames position =
     record {
       «continuity_counter» = 0;
       «version_number» = 0;
       «slot_allocation_type» = 0;
-      «frame_type» = 1;
+      «frame_type» = type;
       availability = 2 ^ 14;
       «ts_id» = replicate lastStream 0;
       «original_network_id» = replicate lastStream 0;
@@ -99,9 +102,9 @@ oneSlot carriers sequence frames position =
       «frame_position» = record { 0 = position };
     }
 
-module _ (carriers sequence frames position : ℕ) where
+module _ (type carriers sequence frames position : ℕ) where
   abbrev one : Setting
-  one = oneSlot carriers sequence frames position
+  one = oneSlot type carriers sequence frames position
 
   one-types : OfItsTypes one
   unfolding oneSlot someAtLeast anyBelow
@@ -120,7 +123,7 @@ module _ (carriers sequence frames position : ℕ) where
   unfolding available oneSlot
   one-first = refl
 
-  -- what is left to be asked of the bonding fields
+  -- what is left to be asked of the frame type and the bonding fields
   pub one-takes : (kind : Kind) → firstOf (widthChecks kind one) ≡ 0 → firstOf (ruleChecks kind one) ≡ 0 → someAtLeast (2 ^ 8) (settingBytes one) ≡ false → Takes kind one
   one-takes kind w r b =
       record {
@@ -132,29 +135,29 @@ module _ (carriers sequence frames position : ℕ) where
 
 -- ---- the calls
 
-unfoldable pub cycles : List Setting → List Call
-cycles [] = []
-cycles (s ∷ ss) = begin theBuffer s ∷ put thePacket 1 ∷ close ∷ cycles ss
+unfoldable pub cycles : Kind → List Setting → List Call
+cycles kind [] = []
+cycles kind (s ∷ ss) = begin (theBuffer kind) s ∷ put thePacket 1 ∷ close ∷ cycles kind ss
 
 -- as firmware makes them
-unfoldable pub firmwareCycles : List Setting → List FirmwareCall
-firmwareCycles [] = []
-firmwareCycles (s ∷ ss) = begins (settingBytes s) theBuffer ∷ puts thePacket 1 ∷ closes ∷ firmwareCycles ss
+unfoldable pub firmwareCycles : Kind → List Setting → List FirmwareCall
+firmwareCycles kind [] = []
+firmwareCycles kind (s ∷ ss) = begins (settingBytes s) (theBuffer kind) ∷ puts thePacket 1 ∷ closes ∷ firmwareCycles kind ss
 
-pub cycles-typed : {kind : Kind} {ss : List Setting} → Each (Takes kind) ss → Each OfTypes (cycles ss)
+pub cycles-typed : {kind : Kind} {ss : List Setting} → Each (Takes kind) ss → Each OfTypes (cycles kind ss)
 unfolding cycles
 cycles-typed none = none
 cycles-typed (more t ts) = more (t .typed) (more tt (more tt (cycles-typed ts)))
 
-pub cycles-lent : {kind : Kind} {ss : List Setting} → Each (Takes kind) ss → Each OfBytes (firmwareCycles ss)
+pub cycles-lent : {kind : Kind} {ss : List Setting} → Each (Takes kind) ss → Each OfBytes (firmwareCycles kind ss)
 unfolding firmwareCycles
 cycles-lent none = none
 cycles-lent (more t ts) = more (t .bytes) (more tt (more tt (cycles-lent ts)))
 
-begin-valued : (kind : Kind) (s : Setting) → Takes kind s → valued (begins (settingBytes s) theBuffer) ≡ begin theBuffer s
+begin-valued : (kind : Kind) (s : Setting) → Takes kind s → valued (begins (settingBytes s) (theBuffer kind)) ≡ begin (theBuffer kind) s
 begin-valued kind s t = rw (eq-eqb _ settingLength (length-setting s (long s (t .typed))), setting-back s (t .typed))
 
-cycles-valued : {kind : Kind} {ss : List Setting} → Each (Takes kind) ss → map valued (firmwareCycles ss) ≡ cycles ss
+cycles-valued : {kind : Kind} {ss : List Setting} → Each (Takes kind) ss → map valued (firmwareCycles kind ss) ≡ cycles kind ss
 unfolding firmwareCycles cycles
 cycles-valued none = refl
 cycles-valued {kind} (more t ts) = ap₂ (λ (c : Call) (cs : List Call). c ∷ put thePacket 1 ∷ close ∷ cs) (begin-valued kind _ t) (cycles-valued ts)
@@ -173,47 +176,48 @@ marked-open : (c : Composer) (ms : List Bool) → marked c ms .is-open ≡ c .is
 unfolding marked
 marked-open c ms = refl
 
-buffer-long : length theBuffer ≡ frameLength
-buffer-long = length-replicate {A = ℕ} frameLength 0
+buffer-long : (kind : Kind) → length (theBuffer kind) ≡ frameLength (slotsOf kind)
+buffer-long kind = length-replicate {A = ℕ} (frameLength (slotsOf kind)) 0
 
 -- an open frame's buffer has a frame's length
-open-long : (pid : ℕ) (w : Run) (k : Work) → Opened pid w k → length (w .frame) ≡ frameLength
-open-long pid w k o =
-    let slots : length (drop packetLength (w .frame)) ≡ packetLength * length (k .setting .«relative_ts_number») = ap length (o .slots-are) ∙ length-slots (k .setting .«relative_ts_number») (k .lent) in
-    omega (arith, slots, length-drop packetLength (w .frame), o .typed .numbers .0)
+open-long : (kind : Kind) (pid : ℕ) (w : Run) (k : Work) → Opened kind pid w k → length (w .frame) ≡ frameLength (slotsOf kind)
+open-long kind pid w k o =
+    let front = resized (slotsOf kind) (k .setting .«relative_ts_number») in
+    let slots : length (drop packetLength (w .frame)) ≡ packetLength * length front = ap length (o .slots-are) ∙ length-slots front (k .lent) in
+    omega (arith, slots, length-drop packetLength (w .frame), o .header-room, length-resized (slotsOf kind) (k .setting .«relative_ts_number»))
 
 module _ (kind : Kind) (t : Setting) (takes : Takes kind t) (w : Run) (k : Work) (s : Sound kind thePid w k) (i : InOrder kind (w .state)) where
   abbrev w₁ : Run
-  w₁ = after w (begin theBuffer t)
+  w₁ = after w (begin (theBuffer kind) t)
 
   abbrev w₂ : Run
   w₂ = after w₁ (put thePacket 1)
 
   abbrev k₁ : Work
-  k₁ = workAfter w k (begin theBuffer t)
+  k₁ = workAfter w k (begin (theBuffer kind) t)
 
   abbrev k₂ : Work
   k₂ = workAfter w₁ k₁ (put thePacket 1)
 
-  begin-goes : refusalOf w (begin theBuffer t) ≡ 0
+  begin-goes : refusalOf w (begin (theBuffer kind) t) ≡ 0
   unfolding refusalOf
-  begin-goes = ap (beginRefusal (w .state) t) buffer-long ∙ begin-passes kind thePid refl w k s i t (takes .meets)
+  begin-goes = ap (beginRefusal (w .state) t) (buffer-long kind) ∙ begin-passes kind thePid refl w k s i t (takes .meets)
 
   sound₁ : Sound kind thePid w₁ k₁
-  sound₁ = sound-after kind thePid w k (begin theBuffer t) (takes .typed) s
+  sound₁ = sound-after kind thePid w k (begin (theBuffer kind) t) (takes .typed) s
 
   order₁ : InOrder kind (w₁ .state)
-  order₁ = order-after kind thePid w k (begin theBuffer t) s i
+  order₁ = order-after kind thePid w k (begin (theBuffer kind) t) s i
 
   open₁ : (w₁ .state .is-open ≡ true) × (w₁ .state .setting ≡ t)
   open₁ =
-      subst (λ (v : Run). (v .state .is-open ≡ true) × (v .state .setting ≡ t)) (sym (begun-run w theBuffer t begin-goes)) (opened-is (w .state) t)
+      subst (λ (v : Run). (v .state .is-open ≡ true) × (v .state .setting ≡ t)) (sym (begun-run w (theBuffer kind) t begin-goes)) (opened-is (w .state) t)
 
   put-goes : refusalOf w₁ (put thePacket 1) ≡ 0
   unfolding refusalOf
   put-goes =
-      ap (putRefusal (w₁ .state) 1 thePacket) (open-long thePid w₁ k₁ (sound₁ .opened-as (open₁ .0)))
-      ∙ put-passes kind thePid refl w₁ k₁ sound₁ order₁ 1 thePacket (open₁ .0) (omega arith) (omega arith)
+      ap (putRefusal (w₁ .state) 1 thePacket) (open-long kind thePid w₁ k₁ (sound₁ .opened-as (open₁ .0)))
+      ∙ put-passes kind thePid refl w₁ k₁ sound₁ order₁ 1 thePacket (open₁ .0) (omega arith) (omega (arith, sized kind .stream-bytes))
       (ap (λ (x : Setting). available (x .availability) 1) (open₁ .1) ∙ takes .first) (ap (λ (n : ℕ). n % packetLength) packet-long) all-fit
 
   sound₂ : Sound kind thePid w₂ k₂
@@ -228,7 +232,7 @@ module _ (kind : Kind) (t : Setting) (takes : Takes kind t) (w : Run) (k : Work)
   close-goes : refusalOf w₂ close ≡ 0
   unfolding refusalOf
   close-goes =
-      ap (closeRefusal (w₂ .state)) (open-long thePid w₂ k₂ (sound₂ .opened-as open₂)) ∙ close-passes kind thePid refl w₂ k₂ sound₂ order₂ open₂
+      ap (closeRefusal (w₂ .state)) (open-long kind thePid w₂ k₂ (sound₂ .opened-as open₂)) ∙ close-passes kind thePid refl w₂ k₂ sound₂ order₂ open₂
 
   pub sound₃ : Sound kind thePid (after w₂ close) (workAfter w₂ k₂ close)
   sound₃ = sound-after kind thePid w₂ k₂ close tt sound₂
@@ -240,17 +244,17 @@ module _ (kind : Kind) (t : Setting) (takes : Takes kind t) (w : Run) (k : Work)
   unfolding workOf
   work-is =
       put-work w₁ k₁ thePacket 1 put-goes
-      ∙ ap (λ (x : Work). record { setting = x .setting; lent = added 1 thePacket (x .lent) }) (begun-work w k theBuffer t begin-goes)
+      ∙ ap (λ (x : Work). record { setting = x .setting; lent = added 1 thePacket (x .lent) }) (begun-work w k (theBuffer kind) t begin-goes)
 
-  pub one-more : (ss : List Setting) → worksOf w k (cycles (t ∷ ss)) ≡ workOf t ∷ worksOf (after w₂ close) (workAfter w₂ k₂ close) (cycles ss)
+  pub one-more : (ss : List Setting) → worksOf w k (cycles kind (t ∷ ss)) ≡ workOf t ∷ worksOf (after w₂ close) (workAfter w₂ k₂ close) (cycles kind ss)
   unfolding worksOf cycles
   one-more ss =
-      ap₂ (λ (a b : List Work). a ++ (b ++ (doneBy w₂ k₂ close ++ worksOf (after w₂ close) (workAfter w₂ k₂ close) (cycles ss))))
-      (begin-none w k theBuffer t .1) (put-none w₁ k₁ thePacket 1 .1)
-      ∙ ap (λ (l : List Work). l ++ worksOf (after w₂ close) (workAfter w₂ k₂ close) (cycles ss)) (close-one w₂ k₂ close-goes .1)
-      ∙ ap (λ (x : Work). x ∷ worksOf (after w₂ close) (workAfter w₂ k₂ close) (cycles ss)) work-is
+      ap₂ (λ (a b : List Work). a ++ (b ++ (doneBy w₂ k₂ close ++ worksOf (after w₂ close) (workAfter w₂ k₂ close) (cycles kind ss))))
+      (begin-none w k (theBuffer kind) t .1) (put-none w₁ k₁ thePacket 1 .1)
+      ∙ ap (λ (l : List Work). l ++ worksOf (after w₂ close) (workAfter w₂ k₂ close) (cycles kind ss)) (close-one w₂ k₂ close-goes .1)
+      ∙ ap (λ (x : Work). x ∷ worksOf (after w₂ close) (workAfter w₂ k₂ close) (cycles kind ss)) work-is
 
-works-of : (kind : Kind) (ss : List Setting) → Each (Takes kind) ss → (w : Run) (k : Work) → Sound kind thePid w k → InOrder kind (w .state) → worksOf w k (cycles ss) ≡ map workOf ss
+works-of : (kind : Kind) (ss : List Setting) → Each (Takes kind) ss → (w : Run) (k : Work) → Sound kind thePid w k → InOrder kind (w .state) → worksOf w k (cycles kind ss) ≡ map workOf ss
 unfolding worksOf cycles
 works-of kind [] none w k s i = refl
 works-of kind (t ∷ ss) (more p ps) w k s i =
@@ -258,7 +262,7 @@ works-of kind (t ∷ ss) (more p ps) w k s i =
     ∙ ap (λ (l : List Work). workOf t ∷ l)
     (works-of kind ss ps (after (w₂ kind t p w k s i) close) (workAfter (w₂ kind t p w k s i) (k₂ kind t p w k s i) close) (sound₃ kind t p w k s i) (order₃ kind t p w k s i))
 
-pub works-are : (kind : Kind) (ss : List Setting) → Each (Takes kind) ss → worksOf (started kind thePid) noWork (cycles ss) ≡ map workOf ss
+pub works-are : (kind : Kind) (ss : List Setting) → Each (Takes kind) ss → worksOf (started kind thePid) noWork (cycles kind ss) ≡ map workOf ss
 unfolding started
 works-are kind ss ts = works-of kind ss ts (started kind thePid) noWork (sound-start kind thePid) (fresh-order kind thePid)
 
@@ -268,17 +272,18 @@ pub start-accepted : (kind : Kind) → startRefused (replicate composerLength 0)
 unfolding startRefused firstOf kindNumber
 start-accepted Kind.Plain = refl
 start-accepted Kind.Extended = refl
+start-accepted Kind.Short = refl
 
 abbrev pub runOf : (kind : Kind) (ss : List Setting) → Each (Takes kind) ss → RunOfCalls thePid (kindNumber kind)
-runOf kind ss ts = record { state = replicate composerLength 0; accepted = start-accepted kind; calls = firmwareCycles ss; lent = cycles-lent ts }
+runOf kind ss ts = record { state = replicate composerLength 0; accepted = start-accepted kind; calls = firmwareCycles kind ss; lent = cycles-lent ts }
 
 pub run-frames : (kind : Kind) (ss : List Setting) (ts : Each (Takes kind) ss)
     → map (λ f. f .frame) (framesClosed (runOf kind ss ts)) ≡ map (frameOf kind thePid) (headed (map workOf ss))
 run-frames kind ss ts =
     run-alike thePid (kindNumber kind) (runOf kind ss ts) .0
     ∙ ap₂ (λ (x : Kind) (cs : List Call). framesOf (started x thePid) cs) (kind-back kind) (cycles-valued ts)
-    ∙ hold kind thePid (cycles ss) refl (cycles-typed ts) ∙ ap (λ (ks : List Work). map (frameOf kind thePid) (headed ks)) (works-are kind ss ts)
+    ∙ hold kind thePid (cycles kind ss) refl (cycles-typed ts) ∙ ap (λ (ks : List Work). map (frameOf kind thePid) (headed ks)) (works-are kind ss ts)
 
 -- each of its frames is good
 pub run-good : (kind : Kind) (ss : List Setting) (ts : Each (Takes kind) ss) → Each (Good kind thePid) (headed (map workOf ss))
-run-good kind ss ts = subst (λ (ks : List Work). Each (Good kind thePid) (headed ks)) (works-are kind ss ts) (each-good kind thePid (cycles ss) refl (cycles-typed ts))
+run-good kind ss ts = subst (λ (ks : List Work). Each (Good kind thePid) (headed ks)) (works-are kind ss ts) (each-good kind thePid (cycles kind ss) refl (cycles-typed ts))

@@ -1,14 +1,15 @@
 -- Demands 2 and 3 over the calls. Assumes nothing.
-use Prim.Native.Nat.{ℕ, _*_, _≤_}
+use Prim.Native.Nat.{ℕ, zero, suc, _*_, _≤_}
 use mathlib.Core.Path.{_≡_, refl, sym, ap, ap₂, subst, _∙_}
 use mathlib.Core.Bool.{Bool, true, false, not, false≢true}
 use mathlib.Core.List.{List, [], _∷_, _++_, map, append-nil}
 use native.Mathlib.Omega.{arith}
 use borrow.Author.Tests.{not-false}
 use lib.Dec.{eqb}
-use lib.ListN.{length, drop}
+use lib.ListN.{length, drop, replicate, length-replicate}
 use Rattle.setting.specs.declared.Kind.{Kind}
-use Rattle.setting.specs.Refusal.{firstOf, leaves}
+use Rattle.setting.specs.Refusal.{leaves}
+use Rattle.setting.specs.Size.{slotsOf}
 use Rattle.setting.specs.Rules.{pidAllowed}
 use Rattle.setting.specs.Announcing.{announced}
 use Rattle.setting.specs.Setting.{blank}
@@ -23,7 +24,7 @@ use Rattle.receiver.specs.Bytes.{receiverLength}
 use Rattle.receiver.specs.Calls.{startRefused as receiverRefused, startState as receiverStart}
 use Rattle.runs.specs.Runs.{Each, none, more, OfTypes, started, framesOf}
 use Rattle.runs.specs.Work.{noWork}
-use Rattle.runs.specs.Losses.{Sent, MayHappen, arriving, numbersIn, wanted}
+use Rattle.runs.specs.Losses.{Sent, MayHappen, arriving, numbersIn, entire, wanted}
 use Rattle.runs.proofs.Reception.{freshWith, handedOut}
 use Rattle.runs.specs.Firmware.{FirmwareCall, OfBytes, startedAs, Closed, tunedTo}
 use Rattle.runs.specs.Demands.{RunOfCalls, framesClosed, FreshAndAsked, handsOut, AlwaysRoom, DemandThree, whole, headerAlone, PacketForPacket, placedIn, RunForRun}
@@ -65,14 +66,14 @@ started-alike state pid kind e =
       counts = λ r. refl;
     }
 
-pub tuned-fresh : (state : List ℕ) (pid kind : ℕ) (store : List ℕ) → receiverRefused state pid kind ≡ 0 → length store ≡ storeLength
+pub tuned-fresh : (state : List ℕ) (pid kind : ℕ) (store : List ℕ) → receiverRefused state pid kind ≡ 0 → length store ≡ storeLength (slotsOf (kindOf kind))
     → Tuned (kindOf kind) pid (tunedTo state pid kind store) (freshWith (kindOf kind) pid store)
 unfolding tunedTo receiverStart leaves
 tuned-fresh state pid kind store e l = record { state-is = rw e; store-is = refl; set = waiting-set (kindOf kind) pid store (tuned-allowed state pid kind e) l }
 
 pub always-room : AlwaysRoom
-always-room pid kind r state store buffers packets e l large =
-    room-always (kindOf kind) pid r (tunedTo state pid kind store) (freshWith (kindOf kind) pid store) (tuned-fresh state pid kind store e l) buffers large packets
+always-room pid kind r state store buffers packets e l from large =
+    room-always (kindOf kind) pid r from (tunedTo state pid kind store) (freshWith (kindOf kind) pid store) (tuned-fresh state pid kind store e l) buffers large packets
 
 each-valued : (cs : List FirmwareCall) → Each OfBytes cs → Each OfTypes (map valued cs)
 each-valued [] none = none
@@ -103,7 +104,7 @@ module _ (pid kind : ℕ) (run : RunOfCalls pid kind) where
       → Each (MayHappen (kindOf kind) pid) sent → InRow 0 sent
       → (a : FreshAndAsked pid kind r (arriving sent)) → handsOut a ≡ wanted (kindOf kind) pid r sent
   stretch-given r before after sent q h row a =
-      let asked : Asked r (a .store) (a .store) = record { from = a .from; to = a .to; store-long = a .store-long; room = omega (arith, a .store-long) } in
+      let asked : Asked (kindOf kind) r (a .store) (a .store) = record { from = a .from; to = a .to; store-long = a .store-long; room = omega (arith, a .store-long) } in
       given-out (kindOf kind) pid r (a .store) (a .store) asked (tunedTo (a .state) pid kind (a .store)) (freshWith (kindOf kind) pid (a .store))
       (tuned-fresh (a .state) pid kind (a .store) (a .accepted) (a .store-long)) (a .buffers) (arriving sent) (a .room)
       ∙ stretch-comes-out (kindOf kind) pid (map valued (run .calls)) run-allowed (each-valued (run .calls) (run .lent)) before after sent (sym (run-alike .0) ∙ q) h row
@@ -120,42 +121,48 @@ nothing-mixed pid kind r sent one lost a =
 
 -- ---- demand 2
 
+-- of a whole frame all packets arrive
+pub all-arrive : (n : ℕ) → entire (replicate n true) ≡ true
+all-arrive zero = refl
+all-arrive (suc n) = all-arrive n
+
 pub packet-for-packet : PacketForPacket
 unfolding wanted
 packet-for-packet pid kind r run earlier later f next q a =
     let frame : Closed → List ℕ = λ x. x .frame in
-    let sent = whole (f .frame) ∷ headerAlone (next .frame) ∷ [] in
+    let sent = whole kind (f .frame) ∷ headerAlone kind (next .frame) ∷ [] in
     let frames = ap (map frame) q ∙ map-append frame earlier (f ∷ next ∷ later) in
     let true-to = first-of (each-rest earlier (f ∷ next ∷ later) (subst (Each (TrueTo (kindOf kind) pid)) q (frames-true pid kind run))) in
     let given : handsOut a ≡ f .placed r =
-    stretch-given pid kind run r (map frame earlier) (map frame later) sent frames (more (refl, tt) (more (refl, tt) none)) (here refl (here refl end)) a
-    ∙ append-nil (numbered r (numbersIn (kindOf kind) pid (f .frame)) (drop packetLength (f .frame))) ∙ true-to .own r (a .from) in
+    stretch-given pid kind run r (map frame earlier) (map frame later) sent frames (more (length-replicate (slotsOf (kindOf kind)) true, tt) (more (length-replicate (slotsOf (kindOf kind)) false, tt) none)) (here refl (here refl end)) a
+    ∙ rw (all-arrive (slotsOf (kindOf kind))) (append-nil (numbered r (numbersIn (kindOf kind) pid (f .frame)) (drop packetLength (f .frame)))) ∙ true-to .own r (a .from) in
     (given, ap length given ∙ true-to .counts r)
 
-abbrev sentWhole : List Closed → List Sent
-sentWhole fs = map (λ f. whole (f .frame)) fs
+abbrev sentWhole : ℕ → List Closed → List Sent
+sentWhole kind fs = map (λ f. whole kind (f .frame)) fs
 
-each-kept : (fs : List Closed) → InRow 0 (sentWhole fs)
-each-kept [] = end
-each-kept (f ∷ fs) = here refl (each-kept fs)
+each-kept : (kind : ℕ) (fs : List Closed) → InRow 0 (sentWhole kind fs)
+each-kept kind [] = end
+each-kept kind (f ∷ fs) = here refl (each-kept kind fs)
 
-each-happens : (kind : Kind) (pid : ℕ) (fs : List Closed) → Each (MayHappen kind pid) (sentWhole fs)
+each-happens : (kind pid : ℕ) (fs : List Closed) → Each (MayHappen (kindOf kind) pid) (sentWhole kind fs)
 each-happens kind pid [] = none
-each-happens kind pid (f ∷ fs) = more (refl, tt) (each-happens kind pid fs)
+each-happens kind pid (f ∷ fs) = more (length-replicate (slotsOf (kindOf kind)) true, tt) (each-happens kind pid fs)
 
-frames-whole : (fs : List Closed) → map (λ f. f .frame) fs ≡ map (λ s. s .frame) (sentWhole fs)
-frames-whole [] = refl
-frames-whole (f ∷ fs) = ap (λ (l : List (List ℕ)). f .frame ∷ l) (frames-whole fs)
+frames-whole : (kind : ℕ) (fs : List Closed) → map (λ f. f .frame) fs ≡ map (λ s. s .frame) (sentWhole kind fs)
+frames-whole kind [] = refl
+frames-whole kind (f ∷ fs) = ap (λ (l : List (List ℕ)). f .frame ∷ l) (frames-whole kind fs)
 
 -- without loss all frames but the last are wanted
-wanted-whole : (kind : Kind) (pid r : ℕ) (fs : List Closed) → Each (TrueTo kind pid) fs → 1 ≤ r → wanted kind pid r (sentWhole fs) ≡ placedIn r fs
+wanted-whole : (kind pid r : ℕ) (fs : List Closed) → Each (TrueTo (kindOf kind) pid) fs → 1 ≤ r → wanted (kindOf kind) pid r (sentWhole kind fs) ≡ placedIn r fs
 unfolding wanted placedIn
 wanted-whole kind pid r [] none l = refl
 wanted-whole kind pid r (f ∷ []) t l = refl
-wanted-whole kind pid r (f ∷ next ∷ fs) (more t ts) l = ap₂ (λ (x y : List ℕ). x ++ y) (t .own r l) (wanted-whole kind pid r (next ∷ fs) ts l)
+wanted-whole kind pid r (f ∷ next ∷ fs) (more t ts) l =
+    rw (all-arrive (slotsOf (kindOf kind))) (ap₂ (λ (x y : List ℕ). x ++ y) (t .own r l) (wanted-whole kind pid r (next ∷ fs) ts l))
 
 pub run-for-run : RunForRun
 run-for-run pid kind r run a =
     let fs = framesClosed run in
-    stretch-given pid kind run r [] [] (sentWhole fs) (frames-whole fs ∙ sym (append-nil (map (λ s. s .frame) (sentWhole fs)))) (each-happens (kindOf kind) pid fs) (each-kept fs) a
-    ∙ wanted-whole (kindOf kind) pid r fs (frames-true pid kind run) (a .from)
+    stretch-given pid kind run r [] [] (sentWhole kind fs) (frames-whole kind fs ∙ sym (append-nil (map (λ s. s .frame) (sentWhole kind fs)))) (each-happens kind pid fs) (each-kept kind fs) a
+    ∙ wanted-whole kind pid r fs (frames-true pid kind run) (a .from)

@@ -6,12 +6,15 @@ use mathlib.Core.List.{List, [], _∷_, _++_, map}
 use native.Mathlib.Omega.{arith}
 use native.Mathlib.Decide.{ℕ-discrete}
 use borrow.Author.Tests.{ne-eqb}
-use lib.ListN.{length, take, drop, replicate}
+use lib.ListN.{length, take, drop, replicate, length-append}
 use lib.Seq.{drop-at, length-take-le}
 use Rattle.setting.specs.declared.Kind.{Kind}
 use Rattle.setting.specs.declared.Setting.{Setting}
 use Rattle.counters.specs.Counters.{lastSlot}
 use Rattle.setting.specs.Setting.{OfItsTypes}
+use Rattle.setting.specs.Size.{slotsOf, resized}
+use Rattle.setting.proofs.Sizes.{sized, length-resized}
+use Rattle.setting.proofs.Fields.{narrow}
 use Rattle.setting.specs.Refusal.{NoneHolds, leaves}
 use Rattle.setting.specs.Rules.{widthChecks, ruleChecks}
 use Rattle.header_layout.specs.Header.{header}
@@ -27,6 +30,7 @@ use Rattle.runs.specs.Runs.{Call, begin, put, close, Each, none, more, O
 use Rattle.runs.specs.Work.{Work, added, workAfter, doneBy, worksOf, slotsFilled, said, headedBehind, frameOf}
 use Rattle.runs.proofs.Filled.{marksFilled, unfitFilled, EachWhole, whole-added, put-adds}
 use Rattle.runs.proofs.Carried.{numbers-filled, slots-none, marks-none, unfit-none}
+use Rattle.runs.proofs.Front.{front-put}
 
 -- ---- a refused call changes nothing
 
@@ -45,7 +49,7 @@ refused-work w k close d = refl
 -- ---- what an accepted call makes
 
 pub begun-run : (w : Run) (buffer : List ℕ) (s : Setting) → refusalOf w (begin buffer s) ≡ 0
-    → after w (begin buffer s) ≡ record { state = opened (w .state) s; frame = cleared buffer }
+    → after w (begin buffer s) ≡ record { state = opened (w .state) s; frame = cleared (slotsOf (w .state .kind)) buffer }
 unfolding after refusalOf beginOf answer begunFrame leaves
 begun-run w buffer s e = rw e
 
@@ -97,10 +101,11 @@ close-facts w e = close-passed (w .state) (length (w .frame)) e
 -- ---- what holds between the calls
 
 -- the open frame is as its work describes it, and its packets are fit
-pub record Opened (pid : ℕ) (w : Run) (k : Work) : Type 0 where
+pub record Opened (kind : Kind) (pid : ℕ) (w : Run) (k : Work) : Type 0 where
   pub setting-is : w .state .setting ≡ k .setting
   pub marks-are : w .state .filled ≡ marksFilled (k .setting .«relative_ts_number») (k .lent)
-  pub slots-are : drop packetLength (w .frame) ≡ slotsFilled (k .setting .«relative_ts_number») (k .lent)
+  pub header-room : packetLength ≤ length (w .frame)
+  pub slots-are : drop packetLength (w .frame) ≡ slotsFilled (resized (slotsOf kind) (k .setting .«relative_ts_number»)) (k .lent)
   pub typed : OfItsTypes (k .setting)
   pub fit : unfitFilled pid (k .setting .«relative_ts_number») (k .lent) ≡ false
 
@@ -109,18 +114,22 @@ pub record Sound (kind : Kind) (pid : ℕ) (w : Run) (k : Work) : Type 0 where
   pub kind-is : w .state .kind ≡ kind
   pub pid-is : w .state .pid ≡ pid
   pub whole : EachWhole (k .lent)
-  pub opened-as : w .state .is-open ≡ true → Opened pid w k
+  pub opened-as : w .state .is-open ≡ true → Opened kind pid w k
 
 drop-front : (front rest : List ℕ) → packetLength ≤ length front → drop packetLength (take packetLength front ++ rest) ≡ rest
 drop-front front rest h = drop-at (take packetLength front) rest packetLength (length-take-le packetLength front h)
 
+front-room : (front rest : List ℕ) → packetLength ≤ length front → packetLength ≤ length (take packetLength front ++ rest)
+front-room front rest h = omega (arith, length-append (take packetLength front) rest, length-take-le packetLength front h)
+
 module _ (kind : Kind) (pid : ℕ) (w : Run) (k : Work) (o : Sound kind pid w k) where
   after-begin : (buffer : List ℕ) (s : Setting) → OfItsTypes s → refusalOf w (begin buffer s) ≡ 0
-      → Sound kind pid (record { state = opened (w .state) s; frame = cleared buffer }) (record { setting = s; lent = λ n. [] })
+      → Sound kind pid (record { state = opened (w .state) s; frame = cleared (slotsOf (w .state .kind)) buffer }) (record { setting = s; lent = λ n. [] })
   unfolding opened cleared refusalOf
   after-begin buffer s t e =
-      let l : length buffer ≡ frameLength = begin-passed (w .state) s (length buffer) e in
+      let l : length buffer ≡ frameLength (slotsOf (w .state .kind)) = begin-passed (w .state) s (length buffer) e in
       let plan : length (s .«relative_ts_number») ≡ lastSlot = t .numbers .0 in
+      let front = resized (slotsOf kind) (s .«relative_ts_number») in
       record {
         kind-is = o .kind-is;
         pid-is = o .pid-is;
@@ -128,13 +137,16 @@ module _ (kind : Kind) (pid : ℕ) (w : Run) (k : Work) (o : Sound kind pid w k)
         opened-as = λ _. record {
           setting-is = refl;
           marks-are = sym (marks-none (s .«relative_ts_number») ∙ ap (λ (n : ℕ). replicate n false) plan);
-          slots-are = drop-front buffer (nulls lastSlot) (omega arith) ∙ sym (slots-none (s .«relative_ts_number») ∙ ap nulls plan);
+          header-room = front-room buffer (nulls (slotsOf (w .state .kind))) (omega arith);
+          slots-are =
+              drop-front buffer (nulls (slotsOf (w .state .kind))) (omega arith) ∙ ap (λ (x : Kind). nulls (slotsOf x)) (o .kind-is)
+              ∙ sym (slots-none front ∙ ap nulls (length-resized (slotsOf kind) (s .«relative_ts_number»)));
           typed = t;
           fit = unfit-none pid (s .«relative_ts_number»);
         };
       }
 
-  after-put : (stream : List ℕ) (r : ℕ) → PutPassed (w .state) r stream (length (w .frame)) → Opened pid w k
+  after-put : (stream : List ℕ) (r : ℕ) → PutPassed (w .state) r stream (length (w .frame)) → Opened kind pid w k
       → Sound kind pid
       (record {
         state = marked (w .state) (marksAfter r (w .state .setting .«relative_ts_number») (w .state .filled) stream);
@@ -144,7 +156,12 @@ module _ (kind : Kind) (pid : ℕ) (w : Run) (k : Work) (o : Sound kind pid w k)
   unfolding marked frameAfter slotsWith
   after-put stream r p q =
       let plan : w .state .setting .«relative_ts_number» ≡ k .setting .«relative_ts_number» = ap (λ (s : Setting). s .«relative_ts_number») (q .setting-is) in
-      let a = put-adds pid r (p .number) (k .setting .«relative_ts_number») (k .lent) stream (o .whole) (p .whole) in
+      let own = k .setting .«relative_ts_number» in
+      let front = resized (slotsOf kind) own in
+      let widths : NoneHolds (widthChecks kind (k .setting)) = rw (sym (o .kind-is), sym (q .setting-is)) (p .open-state .widths) in
+      let room : slotsOf kind ≤ length own = omega (arith, sized kind .slots, q .typed .numbers .0) in
+      let a = put-adds pid r (p .number) own (k .lent) stream (o .whole) (p .whole) in
+      let b = put-adds pid r (p .number) front (k .lent) stream (o .whole) (p .whole) in
       record {
         kind-is = o .kind-is;
         pid-is = o .pid-is;
@@ -152,11 +169,12 @@ module _ (kind : Kind) (pid : ℕ) (w : Run) (k : Work) (o : Sound kind pid w k)
         opened-as = λ _. record {
           setting-is = q .setting-is;
           marks-are = ap₂ (λ (ns : List ℕ) (ms : List Bool). marksAfter r ns ms stream) plan (q .marks-are) ∙ a .marks;
+          header-room = front-room (w .frame) _ (omega (arith, p .long));
           slots-are =
               drop-front (w .frame) _ (omega (arith, p .long))
               ∙ ap₂ (λ (ns : List ℕ) (ms : List Bool). slotsWith (filledBy stream (emptyFor r ns ms)) stream (drop packetLength (w .frame))) plan (q .marks-are)
-              ∙ ap (slotsWith (filledBy stream (emptyFor r (k .setting .«relative_ts_number») (marksFilled (k .setting .«relative_ts_number») (k .lent)))) stream) (q .slots-are)
-              ∙ a .slots;
+              ∙ ap (slotsWith (filledBy stream (emptyFor r own (marksFilled own (k .lent)))) stream) (q .slots-are)
+              ∙ front-put (slotsOf kind) own room (narrow kind widths .numbers-behind) r (p .number) (k .lent) stream (slotsFilled front (k .lent)) ∙ b .slots;
           typed = q .typed;
           fit = a .fit (q .fit)
               (sym (ap (λ (n : ℕ). someUnfit n r (w .state .setting .«relative_ts_number») (w .state .filled) stream) (o .pid-is)
@@ -191,7 +209,7 @@ pub record Done (kind : Kind) (pid : ℕ) (k : Work) : Type 0 where
   pub fit : unfitFilled pid (k .setting .«relative_ts_number») (k .lent) ≡ false
 
 module _ (kind : Kind) (pid : ℕ) (w : Run) (k : Work) (o : Sound kind pid w k) (e : refusalOf w close ≡ 0) where
-  pub open-as : Opened pid w k
+  pub open-as : Opened kind pid w k
   open-as = o .opened-as (close-facts w e .open-state .is-open)
 
   -- it obeys the rules

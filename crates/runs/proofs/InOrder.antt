@@ -1,22 +1,26 @@
 -- A state that calls reached passes every call's checks. Assumes nothing.
-use Prim.Native.Nat.{ℕ, zero, suc, _+_, _*_, _/_, _%_, _^_, _≤_, _<_}
+use Prim.Native.Nat.{ℕ, zero, suc, _+_, _-_, _*_, _/_, _%_, _^_, _≤_, _<_}
 use mathlib.Core.Path.{_≡_, refl, sym, ap, ap₂, subst, _∙_}
-use mathlib.Core.Bool.{Bool, true, false, not, _&&_, false≢true, and-false}
+use mathlib.Core.Bool.{Bool, true, false, not, _&&_, false≢true}
 use mathlib.Core.List.{List, [], _∷_, _++_}
-use native.Mathlib.Nat.{zero-add}
+use native.Mathlib.Nat.{zero-add, zero-mod}
 use native.Mathlib.Omega.{arith}
 use native.Mathlib.Decide.{ℕ-discrete}
 use borrow.Author.Tests.{eq-eqb, ne-eqb, lt-leb, le-leb}
 use lib.Dec.{leb, eqb, lit<}
-use lib.ListN.{length, getD, take, drop, length-drop}
+use lib.ListN.{length, getD, take, drop, replicate}
 use lib.Seq.{length-take-le}
+use Rattle.bits.specs.Fields.{Fit}
+use Rattle.bits.proofs.Laws.{fit-drop}
 use Rattle.slices.specs.Slices.{anyBelow, someAtLeast}
 use Rattle.slices.proofs.Any.{both, any-no, any-each}
 use Rattle.setting.specs.declared.Kind.{Kind}
 use Rattle.setting.specs.declared.Setting.{Setting}
 use Rattle.setting.specs.Setting.{blank}
-use Rattle.setting.specs.Refusal.{Check, firstOf, NoneHolds, none, more}
-use Rattle.setting.specs.Rules.{pidAllowed, absentChecks, widthChecks, ruleChecks}
+use Rattle.setting.specs.Refusal.{Check, NoneHolds, none, more}
+use Rattle.setting.specs.Size.{slotsOf, streamsOf}
+use Rattle.setting.specs.Rules.{pidAllowed, someBehind, widthChecks, ruleChecks}
+use Rattle.setting.proofs.Fields.{some-fit, fit-some}
 use Rattle.setting.specs.Announcing.{announced, differ, announcedChecks}
 use Rattle.setting.proofs.Refusals.{first-none, none-first, numbered, numbered-append, none-append, none-before, none-behind}
 use Rattle.counters.specs.Counters.{firstStream, lastStream, available}
@@ -27,13 +31,13 @@ use Rattle.composer.specs.Slots.{placedBy, someUnfit, someUnplanned}
 use Rattle.composer.proofs.Slots.{placed-within}
 use Rattle.composer.specs.Composing.{Composer, fresh, opened, marked, nextCounter, nextVersion, closedWith, closed, asked, inTurn, stateChecks, openRuleChecks, markChecks, openChecks, streamChecks, lengthCheck, beginRefusal, putRefusal, closeRefusal}
 use Rattle.composer.proofs.Passed.{none-drop}
-use Rattle.composer.proofs.Refusals.{ask-all, ask-none, rules-numbered, state-numbered, open-rules-numbered}
-use Rattle.runs.specs.Runs.{Call, begin, put, close, OfTypes, Run, started, refusalOf, after}
-use Rattle.runs.specs.Work.{Work, carries, taken, workAfter}
+use Rattle.composer.proofs.Refusals.{ask-all, ask-none, widths-numbered, rules-numbered, state-numbered, open-rules-numbered}
+use Rattle.runs.specs.Runs.{Call, begin, put, close, Run, refusalOf, after}
+use Rattle.runs.specs.Work.{Work, taken}
 use Rattle.runs.proofs.Said.{version-narrow}
 use Rattle.runs.proofs.Filled.{marksFilled, carried, idle}
 use Rattle.runs.proofs.Carried.{by-slot}
-use Rattle.runs.proofs.Held.{refused-same, begun-run, put-run, closed-run, put-facts, close-facts, Sound}
+use Rattle.runs.proofs.Held.{refused-same, begun-run, put-run, closed-run, close-facts, Sound}
 
 -- ---- lists of checks
 
@@ -63,11 +67,6 @@ in-turn-numbered (c ∷ cs) (d ∷ ds) p q =
     let d' = both (leb 1 (d .0)) (numbered ds) q in
     ap₂ _&&_ (c' .0) (ap₂ _&&_ (d' .0) (in-turn-numbered cs ds (c' .1) (d' .1)))
 
-width-numbered : (kind : Kind) (s : Setting) → numbered (widthChecks kind s) ≡ true
-unfolding widthChecks absentChecks
-width-numbered Kind.Plain s = refl
-width-numbered Kind.Extended s = refl
-
 mark-numbered : (c : Composer) → numbered (markChecks c) ≡ true
 unfolding markChecks
 mark-numbered c = refl
@@ -80,9 +79,9 @@ begun-obeys c s lent e =
     let behind = widthChecks (c .kind) s ++ (rules ++ markChecks c) in
     let all-numbered =
     numbered-append (stateChecks c) behind (state-numbered c)
-    (numbered-append (widthChecks (c .kind) s) (rules ++ markChecks c) (width-numbered (c .kind) s)
+    (numbered-append (widthChecks (c .kind) s) (rules ++ markChecks c) (widths-numbered (c .kind) s)
     (numbered-append rules (markChecks c) (in-turn-numbered (openRuleChecks c) (ruleChecks (c .kind) s) (open-rules-numbered c) (rules-numbered (c .kind) s)) (mark-numbered c))) in
-    let h = none-behind (stateChecks c) (none-drop (none-first (lengthCheck lent ∷ (stateChecks c ++ behind)) all-numbered e) 1) in (
+    let h = none-behind (stateChecks c) (none-drop (none-first (lengthCheck c lent ∷ (stateChecks c ++ behind)) all-numbered e) 1) in (
       none-before (widthChecks (c .kind) s) (rules ++ markChecks c) h,
       in-turn-second (openRuleChecks c) (ruleChecks (c .kind) s) (none-before rules (markChecks c) (none-behind (widthChecks (c .kind) s) h)),
     )
@@ -127,13 +126,25 @@ no-unplanned plan lent = any-no (λ i. getD (marksFilled plan lent) i false && e
 pub record InOrder (kind : Kind) (c : Composer) : Type 0 where
   pub counter : c .counter < 2 ^ 4
   pub version : c .version < 2 ^ 3
-  pub last : NoneHolds (announcedChecks (c .last))
+  pub last : NoneHolds (announcedChecks kind (c .last))
   pub obeys : c .is-open ≡ true → NoneHolds (widthChecks kind (c .setting)) × NoneHolds (ruleChecks kind (c .setting))
+
+no-streams : Fit 0 (replicate lastStream 0)
+unfolding someAtLeast anyBelow
+no-streams = fit-some 0 (replicate lastStream 0) refl
 
 pub fresh-order : (kind : Kind) (pid : ℕ) → InOrder kind (fresh kind pid)
 unfolding fresh announced blank announcedChecks someAtLeast anyBelow
 fresh-order kind pid =
-    record { counter = lit< tt; version = lit< tt; last = more refl (more refl (more refl (more refl (more refl none)))); obeys = λ o. absurd (false≢true o) }
+    let zeros : someBehind (streamsOf kind) (replicate lastStream 0) ≡ false = some-fit 0 (drop (streamsOf kind) (replicate lastStream 0)) (fit-drop (streamsOf kind) no-streams) in
+    record {
+      counter = lit< tt;
+      version = lit< tt;
+      last =
+          more refl (more refl (more refl (more refl (more refl
+          (more (ap not (eq-eqb (0 % 2 ^ (lastStream - streamsOf kind)) 0 (zero-mod (2 ^ (lastStream - streamsOf kind))))) (more zeros (more zeros (more zeros none))))))));
+      obeys = λ o. absurd (false≢true o);
+    }
 
 begun-order : (kind : Kind) (c : Composer) (s : Setting) → c .kind ≡ kind → InOrder kind c → NoneHolds (widthChecks (c .kind) s) × NoneHolds (ruleChecks (c .kind) s)
     → InOrder kind (opened c s)
@@ -151,9 +162,9 @@ unfolding marked
 put-order kind c marks o = record { counter = o .counter; version = o .version; last = o .last; obeys = o .obeys }
 
 -- what a setting announces fits where the setting does
-announced-fits : (kind : Kind) (s : Setting) → NoneHolds (widthChecks kind s) → NoneHolds (announcedChecks (announced s))
+announced-fits : (kind : Kind) (s : Setting) → NoneHolds (widthChecks kind s) → NoneHolds (announcedChecks kind (announced s))
 unfolding widthChecks announcedChecks announced
-announced-fits kind s h = none-before (announcedChecks (announced s)) _ (none-drop h 2)
+announced-fits kind s h = none-before (announcedChecks kind (announced s)) _ (none-drop h 2)
 
 closed-order : (kind : Kind) (c : Composer) → InOrder kind c → c .is-open ≡ true → InOrder kind (closed c)
 unfolding closed closedWith nextCounter nextVersion
@@ -192,7 +203,7 @@ module _ (kind : Kind) (pid : ℕ) (allowed : pidAllowed pid ≡ true) (w : Run)
   unfolding stateChecks
   state-passes =
       more (ap (λ (n : ℕ). not (pidAllowed n)) (s .pid-is) ∙ ap not allowed)
-      (more (lt-leb (2 ^ 4) (c .counter) (o .counter)) (more (lt-leb (2 ^ 3) (c .version) (o .version)) (none-append (o .last) (asked-none (c .is-open) own-widths))))
+      (more (lt-leb (2 ^ 4) (c .counter) (o .counter)) (more (lt-leb (2 ^ 3) (c .version) (o .version)) (none-append (subst (λ (x : Kind). NoneHolds (announcedChecks x (c .last))) (sym (s .kind-is)) (o .last)) (asked-none (c .is-open) own-widths))))
 
   marks-pass : NoneHolds (markChecks c)
   unfolding markChecks
@@ -209,13 +220,17 @@ module _ (kind : Kind) (pid : ℕ) (allowed : pidAllowed pid ≡ true) (w : Run)
   unfolding openChecks
   open-passes e = more (ap not e) (none-append own-rules marks-pass)
 
-  pub begin-passes : (t : Setting) → MeetsRules kind pid t → beginRefusal c t frameLength ≡ 0
+  -- a frame of the kind has the length that is asked for
+  lent-passes : not (eqb (frameLength (slotsOf kind)) (frameLength (slotsOf (c .kind)))) ≡ false
+  lent-passes = ap not (eq-eqb (frameLength (slotsOf kind)) (frameLength (slotsOf (c .kind))) (ap (λ (x : Kind). frameLength (slotsOf x)) (sym (s .kind-is))))
+
+  pub begin-passes : (t : Setting) → MeetsRules kind pid t → beginRefusal c t (frameLength (slotsOf kind)) ≡ 0
   unfolding beginRefusal
   begin-passes t m =
       let widths = none-before (widthChecks kind t) (ruleChecks kind t) (m .fields) in
       let rules = none-behind (widthChecks kind t) (m .fields) in
       first-none
-      (more refl
+      (more lent-passes
       (none-append state-passes
       (none-append (subst (λ (x : Kind). NoneHolds (widthChecks x t)) (sym (s .kind-is)) widths)
       (none-append (in-turn-none own-rules (subst (λ (x : Kind). NoneHolds (ruleChecks x t)) (sym (s .kind-is)) rules)) marks-pass))))
@@ -230,19 +245,19 @@ module _ (kind : Kind) (pid : ℕ) (allowed : pidAllowed pid ≡ true) (w : Run)
       ap (unfit pid) (part-inside (packetLength * i) packetLength 0 (packetLength * n) stream (omega (arith, h, long)) ∙ ap (λ (j : ℕ). take packetLength (drop j stream)) (zero-add (packetLength * i)))
       ∙ any-each (λ j. unfit pid (slot j stream)) (length stream / packetLength) e i (omega (arith, h, long, l)))
 
-  pub put-passes : (r : ℕ) (stream : List ℕ) → c .is-open ≡ true → firstStream ≤ r → r ≤ lastStream → available (c .setting .availability) r ≡ true
-      → length stream % packetLength ≡ 0 → someUnfitIn pid stream ≡ false → putRefusal c r stream frameLength ≡ 0
+  pub put-passes : (r : ℕ) (stream : List ℕ) → c .is-open ≡ true → firstStream ≤ r → r ≤ streamsOf kind → available (c .setting .availability) r ≡ true
+      → length stream % packetLength ≡ 0 → someUnfitIn pid stream ≡ false → putRefusal c r stream (frameLength (slotsOf kind)) ≡ 0
   unfolding putRefusal streamChecks someUnfit
   put-passes r stream e from to v l u =
       first-none
-      (more refl (more (ap not (eq-eqb (length stream % packetLength) 0 l))
+      (more lent-passes (more (ap not (eq-eqb (length stream % packetLength) 0 l))
       (none-append state-passes
-      (more (rw (le-leb firstStream r from, le-leb r lastStream to))
+      (more (rw (s .kind-is, le-leb firstStream r from, le-leb r (streamsOf kind) to))
       (none-append (open-passes e)
       (more (ap not v)
       (more (ap (λ (n : ℕ). someUnfitIn n (take (packetLength * placedBy r (c .setting .«relative_ts_number») (c .filled) stream) stream)) (s .pid-is)
       ∙ front-fit (placedBy r (c .setting .«relative_ts_number») (c .filled) stream) stream (placed-within r (c .setting .«relative_ts_number») (c .filled) stream) u) none)))))))
 
-  pub close-passes : c .is-open ≡ true → closeRefusal c frameLength ≡ 0
+  pub close-passes : c .is-open ≡ true → closeRefusal c (frameLength (slotsOf kind)) ≡ 0
   unfolding closeRefusal
-  close-passes e = first-none (more refl (none-append state-passes (open-passes e)))
+  close-passes e = first-none (more lent-passes (none-append state-passes (open-passes e)))

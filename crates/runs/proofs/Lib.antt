@@ -4,6 +4,7 @@ pub mod Carried
 pub mod Composed
 pub mod Values
 mod Filled
+mod Front
 mod Held
 pub mod Said
 pub mod Lost
@@ -14,5 +15,6 @@ pub mod Tuned
 mod Placed
 mod Made
 pub mod Demands
+mod Instances
 mod InOrder
 pub mod Accepted

@@ -9,7 +9,7 @@ use lib.Dec.{eqb}
 use lib.ListN.{length, take, drop, length-drop, drop-of-length-le, take-append-drop}
 use lib.Seq.{length-take-le, drop-drop}
 use Rattle.setting.specs.declared.Kind.{Kind}
-use Rattle.counters.specs.Counters.{lastSlot}
+use Rattle.setting.specs.Size.{slotsOf}
 use Rattle.header_read.specs.declared.Reading.{Reading}
 use Rattle.packet.specs.Packets.{packetLength, slot, unfit}
 use Rattle.receiver.specs.declared.Stage.{Stage}
@@ -90,17 +90,17 @@ is-waiting : {stage : Stage} → stage ≡ Stage.Waiting → isWaiting stage ≡
 unfolding isWaiting
 is-waiting e = ap isWaiting e
 
-waits-on : {a b : Stage} → a ≡ Stage.Waiting → Follows a b → b ≡ Stage.Waiting
+waits-on : {slots : ℕ} {a b : Stage} → a ≡ Stage.Waiting → Follows slots a b → b ≡ Stage.Waiting
 waits-on e dropped = refl
 waits-on e (goes-on from k j o p h l) = absurd (true≢false (sym (is-waiting e) ∙ not-waiting o))
 
-data Goes (next : Stage) (from : ℕ) : Type 0 where
-  stops : next ≡ Stage.Waiting → Goes next from
-  on : (j : ℕ) → Opens next from j → j ≤ lastSlot → Goes next from
+data Goes (slots : ℕ) (next : Stage) (from : ℕ) : Type 0 where
+  stops : next ≡ Stage.Waiting → Goes slots next from
+  on : (j : ℕ) → Opens next from j → j ≤ slots → Goes slots next from
 
-opens-on : {a b : Stage} (from k : ℕ) → Opens a from k → Follows a b → Goes b from
+opens-on : {slots : ℕ} {a b : Stage} (from k : ℕ) → Opens a from k → Follows slots a b → Goes slots b from
 opens-on from k o dropped = stops refl
-opens-on {a} {b} from k o (goes-on from' k' j o' p h l) = on j (subst (λ (n : ℕ). Opens b n j) (sym (same-opens o o' .0)) p) l
+opens-on {slots} {a} {b} from k o (goes-on from' k' j o' p h l) = on j (subst (λ (n : ℕ). Opens b n j) (sym (same-opens o o' .0)) p) l
 
 -- ---- a run of frames
 
@@ -115,10 +115,13 @@ pub data InRow : ℕ → List Sent → Type 0 where
   here : {m : ℕ} {s : Sent} {ss : List Sent} → isKept (s .fate) ≡ true → InRow 0 ss → InRow m (s ∷ ss)
   gone : {m : ℕ} {s : Sent} {ss : List Sent} → isKept (s .fate) ≡ false → m + 1 ≤ 15 → InRow (m + 1) ss → InRow m (s ∷ ss)
 
-module _ (kind : Kind) (pid r : ℕ) (store out : List ℕ) (a : Asked r store out) where
+module _ (kind : Kind) (pid r : ℕ) (store out : List ℕ) (a : Asked kind r store out) where
+  abbrev slots : ℕ
+  slots = slotsOf kind
+
   -- ---- a frame whose header arrives
 
-  module _ (n : ℕ) (f : List ℕ) (marks : List Bool) (w : Reception) (s : Set kind pid w) (g : GoodFrame kind pid n f) (l : length marks ≡ lastSlot) where
+  module _ (n : ℕ) (f : List ℕ) (marks : List Bool) (w : Reception) (s : Set kind pid w) (g : GoodFrame kind pid n f) (l : length marks ≡ slots) where
     abbrev bytes : List ℕ
     bytes = drop packetLength f
 
@@ -138,7 +141,7 @@ module _ (kind : Kind) (pid r : ℕ) (store out : List ℕ) (a : Asked r store o
         (arrive-plain pid marks bytes bytes-long (λ i h. g .fit i (omega (arith, l)))) refl refl
 
     -- the next header brings it out where it arrived entire
-    owed-then : Owes r ((n + 1) % 16) 0 (cond (entire marks) (numbered r (g .header .setting .«relative_ts_number») bytes) []) (afterAll opened packets)
+    owed-then : Owes slots r ((n + 1) % 16) 0 (cond (entire marks) (numbered r (g .header .setting .«relative_ts_number») bytes) []) (afterAll opened packets)
     owed-then =
         something n (0 + length packets) (all-stored .stage-then) (g .header .small) (omega (arith, arrive-length marks bytes, l)) (omega arith) (by-marks (entire marks) refl)
       where
@@ -147,20 +150,20 @@ module _ (kind : Kind) (pid r : ℕ) (store out : List ℕ) (a : Asked r store o
 
         by-marks : (b : Bool) → entire marks ≡ b
             → cond b (numbered r (g .header .setting .«relative_ts_number») bytes) []
-            ≡ cond (eqb (0 + length packets) lastSlot && eqb 0 0) (numbered r (afterAll opened packets .state .numbers) (afterAll opened packets .store)) []
+            ≡ cond (eqb (0 + length packets) slots && eqb 0 0) (numbered r (afterAll opened packets .state .numbers) (afterAll opened packets .store)) []
         by-marks true e =
             let whole = arrive-entire marks bytes e bytes-long in
-            let count : 0 + length packets ≡ lastSlot = omega (arith, whole .0, l) in
-            let long : length (opened .store) ≡ storeLength = good-set kind pid n (slot 0 f) w s (g .header) .store-long in
+            let count : 0 + length packets ≡ slots = omega (arith, whole .0, l) in
+            let long : length (opened .store) ≡ storeLength slots = good-set kind pid n (slot 0 f) w s (g .header) .store-long in
             let stored : afterAll opened packets .store ≡ bytes =
             all-stored .store-then
             ∙ ap₂ (λ (x y : List ℕ). x ++ y) (whole .1) (drop-of-length-le (opened .store) {i = packetLength * (0 + length packets)} (omega arith)) ∙ append-nil bytes in
             ap₂ (numbered r) (sym (all-stored .numbers-then ∙ good-numbers kind pid n (slot 0 f) w s (g .header))) (sym stored)
-            ∙ ap (λ (b : Bool). cond (b && true) (numbered r (afterAll opened packets .state .numbers) (afterAll opened packets .store)) []) (sym (eq-eqb (0 + length packets) lastSlot count))
+            ∙ ap (λ (b : Bool). cond (b && true) (numbered r (afterAll opened packets .state .numbers) (afterAll opened packets .store)) []) (sym (eq-eqb (0 + length packets) slots count))
         by-marks false e =
             let few = arrive-missing marks bytes e in
             ap (λ (b : Bool). cond (b && true) (numbered r (afterAll opened packets .state .numbers) (afterAll opened packets .store)) [])
-            (sym (ne-eqb (0 + length packets) lastSlot (λ q. omega (arith, few, l))))
+            (sym (ne-eqb (0 + length packets) slots (λ q. omega (arith, few, l))))
 
   -- ---- a frame whose header does not
 
@@ -169,16 +172,16 @@ module _ (kind : Kind) (pid r : ℕ) (store out : List ℕ) (a : Asked r store o
   plain-bad (more (l, u) ps) = more (l, not-good kind pid _ u) (plain-bad ps)
 
   -- one more header is missing, and nothing is owed
-  owed-on : (n m : ℕ) (x : List ℕ) (w v : Reception) → Owes r n m x w → Follows (w .state .stage) (v .state .stage) → Owes r ((n + 1) % 16) (m + 1) [] v
+  owed-on : (n m : ℕ) (x : List ℕ) (w v : Reception) → Owes slots r n m x w → Follows slots (w .state .stage) (v .state .stage) → Owes slots r ((n + 1) % 16) (m + 1) [] v
   owed-on n m x w v (nothing e z) f = nothing (waits-on e f) refl
   owed-on n m x w v (something from k o h l e z) f = by-stage (opens-on from k o f)
     where
-      by-stage : Goes (v .state .stage) from → Owes r ((n + 1) % 16) (m + 1) [] v
+      by-stage : Goes slots (v .state .stage) from → Owes slots r ((n + 1) % 16) (m + 1) [] v
       by-stage (stops q) = nothing q refl
       by-stage (on j p q) =
           something from j p h q (omega arith)
           (ap (λ (b : Bool). cond b (numbered r (v .state .numbers) (v .store)) [])
-          (sym (ap (λ (b : Bool). eqb j lastSlot && b) (ne-eqb (m + 1) 0 (λ z. omega arith)) ∙ and-false (eqb j lastSlot))))
+          (sym (ap (λ (b : Bool). eqb j slots && b) (ne-eqb (m + 1) 0 (λ z. omega arith)) ∙ and-false (eqb j slots))))
 
   -- what arrives in a header's place is no good header
   header-bad : (fate : Fate) (p : List ℕ) → isKept fate ≡ false → Refused kind pid fate → Each (Bad kind pid) (headerArrives fate p)
@@ -232,7 +235,7 @@ module _ (kind : Kind) (pid r : ℕ) (store out : List ℕ) (a : Asked r store o
   wanted-missing s (t ∷ ss) k =
       ap (λ (b : Bool). cond (b && (entire (s .arrived) && isKept (t .fate))) (numbered r (numbersIn kind pid (s .frame)) (drop packetLength (s .frame))) [] ++ wanted kind pid r (t ∷ ss)) (sym k)
 
-  pub comes-out : (sent : List Sent) (n m : ℕ) (x : List ℕ) (w : Reception) → Set kind pid w → Owes r n m x w → m ≤ 15
+  pub comes-out : (sent : List Sent) (n m : ℕ) (x : List ℕ) (w : Reception) → Set kind pid w → Owes slots r n m x w → m ≤ 15
       → Counted kind pid n (map (λ s. s .frame) sent) → Each (MayHappen kind pid) sent → InRow m sent
       → handedOut r out w (arriving sent) ≡ first x sent ++ wanted kind pid r sent
   unfolding arriving handedOut wanted

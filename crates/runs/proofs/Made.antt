@@ -17,7 +17,8 @@ use Rattle.counters.specs.Counters.{firstStream}
 use Rattle.bits.specs.Fields.{Fit}
 use Rattle.setting_bytes.specs.Settings.{settingLength, settingOf}
 use Rattle.setting_bytes.proofs.Same.{setting-same}
-use Rattle.packet.specs.Packets.{packetLength}
+use Rattle.setting.specs.Size.{slotsOf}
+use Rattle.packet.specs.Packets.{packetLength, frameLength}
 use Rattle.composer.specs.Slots.{placedBy}
 use Rattle.composer.proofs.Slots.{placed-within}
 use Rattle.composer.specs.Composing.{Composer, closed, closedWith, answer, beginRefusal, beginOf, begunFrame, putOf, closeOf, closedFrame, versionBehind}
@@ -79,11 +80,13 @@ module _ (c : Composer) (t : StateOfItsTypes c) (setting frame : List ℕ) (f : 
         frame-then = λ _. ap (λ (x : List ℕ). beginMemory (composerBytes c) x frame) e ∙ on .1 .1;
       })
   begun (no d) =
+      let short : eqb 0 (frameLength (slotsOf (c .kind))) ≡ false = ne-eqb 0 (frameLength (slotsOf (c .kind))) (λ z. omega arith) in
+      let refused : beginRefusal c (settingOf setting) 0 ≡ 1 = rw short refl in
       subst (λ (b : Bool). Begun c setting frame (cond b frame [])) (sym (ne-eqb (length setting) settingLength d))
       (record {
-        refusal-is = rw (ne-eqb (length setting) settingLength d, and-false (eqb (length (composerBytes c)) composerLength));
-        state-then = rw (ne-eqb (length setting) settingLength d, and-false (eqb (length (composerBytes c)) composerLength));
-        frame-then = λ e. absurd (omega (arith, e));
+        refusal-is = rw (ne-eqb (length setting) settingLength d, and-false (eqb (length (composerBytes c)) composerLength)) (sym refused);
+        state-then = rw (ne-eqb (length setting) settingLength d, and-false (eqb (length (composerBytes c)) composerLength), short);
+        frame-then = λ e. absurd (omega (arith, e, refused));
       })
 
 module _ (kind : Kind) (pid : ℕ) (m : Multiplexer) (w : Run) (k : Work) (a : Alike kind pid m w k) (setting frame : List ℕ) (f : Fit 8 setting) where

@@ -2,25 +2,28 @@
 use Prim.Native.Nat.{ℕ, zero, suc, _+_, _%_, _^_, _<_}
 use mathlib.Core.Path.{_≡_, refl, ap, _∙_}
 use mathlib.Core.Bool.{Bool, true, false, cond}
-use mathlib.Core.List.{List, [], _∷_}
+use mathlib.Core.List.{List, [], _∷_, _++_}
 use native.Mathlib.Omega.{arith}
 use borrow.Author.Tests.{lt-leb}
 use native.Mathlib.Decide.{decLt}
 use lib.Dec.{lit<}
-use lib.ListN.{length, getD, List·getD-eq-default}
-use Rattle.bits.specs.Fields.{Fit}
+use lib.ListN.{length, getD, drop, List·getD-eq-default}
+use lib.Pow.{pow-pos}
+use Rattle.bits.specs.Fields.{Fit, none, more}
 use Rattle.bits.proofs.Laws.{fit-of, fit-getD}
 use Rattle.slices.proofs.Any.{any-no, any-each}
 use Rattle.setting.specs.declared.Kind.{Kind}
 use Rattle.setting.specs.declared.Setting.{Setting}
 use Rattle.setting.specs.Setting.{OfItsTypes}
-use Rattle.setting.specs.Refusal.{NoneHolds, more}
-use Rattle.setting.specs.Rules.{pidAllowed, unavailable, someUnavailable, widthChecks, ruleChecks}
-use Rattle.setting.proofs.Refusals.{none-at, none-append}
-use Rattle.setting.proofs.Fields.{some-fit, fit-some}
+use Rattle.setting.specs.Size.{sizeOf, slotsOf, streamsOf}
+use Rattle.setting.specs.Refusal.{Check, NoneHolds, more}
+use Rattle.setting.specs.Rules.{pidAllowed, behindChecks, numberChecks, informationChecks, absentOf, unavailable, someUnavailable, widthChecks, ruleChecks}
+use Rattle.setting.proofs.Refusals.{none-at, none-append, none-before, none-behind}
+use Rattle.setting.proofs.Fields.{some-fit, fit-some, narrow}
 use Rattle.header_layout.specs.Meets.{MeetsRules}
 use Rattle.composer.specs.Slots.{numbersOf}
 use Rattle.composer.specs.Composing.{saying}
+use Rattle.composer.proofs.Passed.{none-drop}
 
 -- ---- the filled slots' numbers: the plan's, or 0
 
@@ -29,6 +32,19 @@ unfolding numbersOf
 length-numbers [] ms e = refl
 length-numbers (n ∷ ns) [] e = absurd (omega arith)
 length-numbers (n ∷ ns) (m ∷ ms) e = ap suc (length-numbers ns ms (omega arith))
+
+-- zeros behind the plan's first n are zeros of the header's
+numbers-behind : (n : ℕ) (plan : List ℕ) (marks : List Bool) → Fit 0 (drop n plan) → Fit 0 (drop n (numbersOf plan marks))
+unfolding numbersOf
+numbers-behind n [] ms f = f
+numbers-behind zero (p ∷ ps) [] f = none
+numbers-behind (suc n) (p ∷ ps) [] f = none
+numbers-behind zero (p ∷ ps) (m ∷ ms) (more h f) = more (zero-or m) (numbers-behind zero ps ms f)
+  where
+    zero-or : (b : Bool) → cond b p 0 < 2 ^ 0
+    zero-or true = h
+    zero-or false = lit< tt
+numbers-behind (suc n) (p ∷ ps) (m ∷ ms) f = numbers-behind n ps ms f
 
 -- a property that 0 has and each planned number has, each filled slot's number has
 module _ (P : ℕ → Type 0) (z : P 0) where
@@ -44,8 +60,8 @@ module _ (P : ℕ → Type 0) (z : P 0) where
   each-number (n ∷ ns) (m ∷ ms) h (suc i) = each-number ns ms (λ j. h (suc j)) i
 
 module _ (plan : List ℕ) (marks : List Bool) (l : length marks ≡ length plan) where
-  numbers-narrow : Fit 4 plan → Fit 4 (numbersOf plan marks)
-  numbers-narrow f = fit-of 4 (numbersOf plan marks) (each-number (λ n. n < 2 ^ 4) (lit< tt) plan marks (λ i. fit-getD f i))
+  numbers-narrow : (w : ℕ) → Fit w plan → Fit w (numbersOf plan marks)
+  numbers-narrow w f = fit-of w (numbersOf plan marks) (each-number (λ n. n < 2 ^ w) (pow-pos w) plan marks (λ i. fit-getD f i))
 
   numbers-available : (availability : ℕ) → someUnavailable availability plan ≡ false → someUnavailable availability (numbersOf plan marks) ≡ false
   unfolding someUnavailable
@@ -64,11 +80,25 @@ version-narrow false version h = h
 
 -- ---- the setting with other numbers
 
+-- what the checks of 17 ask of it that the header says too, whatever its numbers
+abbrev informationOf : Setting → List Check
+informationOf s =
+    informationChecks (s .«slot_allocation_type») (s .«frame_type») (s .availability) (s .«receive_status») (s .«emergency_indicator»)
+
+abbrev behindOf : Kind → Setting → List Check
+behindOf kind s = behindChecks (streamsOf kind) (s .availability) (s .«ts_id») (s .«original_network_id») (s .«receive_status»)
+
 module _ (s : Setting) (counter version : ℕ) (numbers : List ℕ) where
-  said-widths : (kind : Kind) → counter < 2 ^ 4 → version < 2 ^ 3 → Fit 4 numbers → NoneHolds (widthChecks kind s) → NoneHolds (widthChecks kind (saying counter version numbers s))
+  said-widths : (kind : Kind) → counter < 2 ^ 4 → version < 2 ^ 3 → Fit (sizeOf kind .«number_bits») numbers → Fit 0 (drop (slotsOf kind) numbers)
+      → NoneHolds (widthChecks kind s) → NoneHolds (widthChecks kind (saying counter version numbers s))
   unfolding widthChecks saying
-  said-widths kind h v f (more _ (more _ (more a (more b (more c (more d (more e (more _ rest)))))))) =
-      more (lt-leb (2 ^ 4) counter h) (more (lt-leb (2 ^ 3) version v) (more a (more b (more c (more d (more e (more (some-fit 4 numbers f) rest)))))))
+  said-widths kind h v f z w =
+      let said = informationOf s ++ behindOf kind s in
+      let behind = none-drop w 2 in
+      more (lt-leb (2 ^ 4) counter h) (more (lt-leb (2 ^ 3) version v)
+      (none-append (none-before said (numberChecks (sizeOf kind) (s .«relative_ts_number») ++ absentOf kind s) behind)
+      (more (some-fit (sizeOf kind .«number_bits») numbers f) (more (some-fit 0 (drop (slotsOf kind) numbers) z)
+      (none-drop (none-behind said behind) 2)))))
 
   said-rules : (kind : Kind) → someUnavailable (s .availability) numbers ≡ false → NoneHolds (ruleChecks kind s) → NoneHolds (ruleChecks kind (saying counter version numbers s))
   unfolding ruleChecks saying
@@ -78,13 +108,14 @@ module _ (s : Setting) (counter version : ℕ) (numbers : List ℕ) where
 pub said-meets : (kind : Kind) (pid : ℕ) (s : Setting) (counter version : ℕ) (marks : List Bool) → pidAllowed pid ≡ true → counter < 2 ^ 4 → version < 2 ^ 3
     → length marks ≡ length (s .«relative_ts_number») → NoneHolds (widthChecks kind s) → NoneHolds (ruleChecks kind s)
     → MeetsRules kind pid (saying counter version (numbersOf (s .«relative_ts_number») marks) s)
-unfolding widthChecks ruleChecks
+unfolding ruleChecks
 said-meets kind pid s counter version marks p h v l w r =
     let plan = s .«relative_ts_number» in
     record {
       pid-allowed = p;
       fields = none-append
-          (said-widths s counter version (numbersOf plan marks) kind h v (numbers-narrow plan marks l (fit-some 4 plan (none-at w 7))) w)
+          (said-widths s counter version (numbersOf plan marks) kind h v (numbers-narrow plan marks l (sizeOf kind .«number_bits») (narrow kind w .numbers))
+          (numbers-behind (slotsOf kind) plan marks (fit-some 0 (drop (slotsOf kind) plan) (narrow kind w .numbers-behind))) w)
           (said-rules s counter version (numbersOf plan marks) kind (numbers-available plan marks l (s .availability) (none-at r 1)) r);
     }
 

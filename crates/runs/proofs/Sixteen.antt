@@ -25,12 +25,14 @@ use Rattle.setting.specs.Rules.{someUnavailable, pairTwice, absentChecks, width
 use Rattle.setting_bytes.specs.Settings.{announcedBytes, settingBytes}
 use Rattle.setting_bytes.proofs.Back.{long}
 use Rattle.setting.specs.Refusal.{firstOf}
+use Rattle.setting.specs.Size.{sizeOf, slotsOf}
+use Rattle.setting.proofs.Refusals.{none-at}
 use Rattle.slices.specs.Slices.{anyBelow, someAtLeast}
 use Rattle.receiver.specs.Store.{storeLength, numbered, slotsFor}
 use Rattle.receiver.specs.Receiving.{waiting}
 use Rattle.receiver.specs.Bytes.{receiverLength}
 use Rattle.receiver.specs.Calls.{startRefused as receiverRefused}
-use Rattle.receiver.proofs.Store.{length-numbered}
+use Rattle.receiver.proofs.Store.{length-numbered, has-packets}
 use Rattle.runs.specs.Runs.{Call, Each, none, more, started, framesOf}
 use Rattle.runs.specs.Work.{Work, numbersFilled, said, headedBehind, headed, frameOf, added, taken as Wtaken}
 use Rattle.runs.specs.Composed.{headedBy}
@@ -70,11 +72,11 @@ last-two (suc n) (x ∷ xs) e =
 -- ---- eighteen frames
 
 abbrev theSetting : Setting
-theSetting = oneSlot 0 0 0 0
+theSetting = oneSlot 1 0 0 0 0
 
 taken : Takes Kind.Plain theSetting
-unfolding oneSlot firstOf widthChecks absentChecks ruleChecks bondingChecks someUnavailable pairTwice available someAtLeast anyBelow settingBytes announcedBytes announced wordBytes
-taken = one-takes 0 0 0 0 Kind.Plain refl refl refl
+unfolding oneSlot firstOf widthChecks absentChecks sizeOf ruleChecks bondingChecks someUnavailable pairTwice available someAtLeast anyBelow settingBytes announcedBytes announced wordBytes
+taken = one-takes 1 0 0 0 0 Kind.Plain refl refl refl
 
 each-taken : (n : ℕ) → Each (Takes Kind.Plain) (replicate n theSetting)
 each-taken zero = none
@@ -88,7 +90,7 @@ works-alike zero = refl
 works-alike (suc n) = ap (λ (l : List Work). theWork ∷ l) (works-alike n)
 
 abbrev eighteen : List Call
-eighteen = cycles (replicate 18 theSetting)
+eighteen = cycles Kind.Plain (replicate 18 theSetting)
 
 length-behind : (counter version : ℕ) (last : Announced) (ks : List Work) → length (headedBehind counter version last ks) ≡ length ks
 unfolding headedBehind
@@ -165,6 +167,17 @@ g₁₇ = first-of-counted (rest-of-counted counted-last)
 
 -- ---- on the way
 
+-- plain headers
+abbrev plainKind : ℕ
+plainKind = kindNumber Kind.Plain
+
+plain : kindOf plainKind ≡ Kind.Plain
+plain = kind-back Kind.Plain
+
+slots : slotsOf Kind.Plain ≡ lastSlot
+unfolding sizeOf
+slots = refl
+
 -- of the first frame slot 1 is lost; of the next fifteen everything; of the seventeenth all but slot 1; the eighteenth's header arrives
 abbrev allGone : List ℕ → Sent
 allGone f = record { frame = f; fate = lost; arrived = replicate lastSlot false }
@@ -172,7 +185,7 @@ allGone f = record { frame = f; fate = lost; arrived = replicate lastSlot false 
 abbrev sent : List Sent
 sent =
     record { frame = f₀; fate = kept; arrived = false ∷ replicate 51 true }
-    ∷ (map allGone middle ++ (record { frame = f₁₆; fate = lost; arrived = true ∷ replicate 51 false } ∷ headerAlone f₁₇ ∷ []))
+    ∷ (map allGone middle ++ (record { frame = f₁₆; fate = lost; arrived = true ∷ replicate 51 false } ∷ headerAlone plainKind f₁₇ ∷ []))
 
 frames-gone : (fs : List (List ℕ)) → map (λ s. s .frame) (map allGone fs) ≡ fs
 frames-gone [] = refl
@@ -181,15 +194,17 @@ frames-gone (f ∷ fs) = ap (λ (l : List (List ℕ)). f ∷ l) (frames-gone fs)
 sent-frames : map (λ s. s .frame) sent ≡ f₀ ∷ (middle ++ (f₁₆ ∷ f₁₇ ∷ []))
 sent-frames =
     ap (λ (l : List (List ℕ)). f₀ ∷ l)
-    (map-append (λ s. s .frame) (map allGone middle) (record { frame = f₁₆; fate = lost; arrived = true ∷ replicate 51 false } ∷ headerAlone f₁₇ ∷ [])
+    (map-append (λ s. s .frame) (map allGone middle) (record { frame = f₁₆; fate = lost; arrived = true ∷ replicate 51 false } ∷ headerAlone plainKind f₁₇ ∷ [])
     ∙ ap (λ (l : List (List ℕ)). l ++ (f₁₆ ∷ f₁₇ ∷ [])) (frames-gone middle))
 
 gone-happens : (fs : List (List ℕ)) → Each (MayHappen Kind.Plain thePid) (map allGone fs)
 gone-happens [] = none
-gone-happens (f ∷ fs) = more (refl, tt) (gone-happens fs)
+gone-happens (f ∷ fs) = more (sym slots, tt) (gone-happens fs)
 
 may-happen : Each (MayHappen Kind.Plain thePid) sent
-may-happen = more (refl, tt) (each-append (gone-happens middle) (more (refl, tt) (more (refl, tt) none)))
+may-happen =
+    more (sym slots, tt)
+    (each-append (gone-happens middle) (more (sym slots, tt) (more (length-replicate (slotsOf (kindOf plainKind)) false ∙ ap slotsOf plain, tt) none)))
 
 -- sixteen headers are missing, so no more than sixteen are in a row
 missing : List Sent → ℕ
@@ -216,7 +231,7 @@ unfolding missing
 missing-sent =
     omega (
       arith,
-      missing-append (map allGone middle) (record { frame = f₁₆; fate = lost; arrived = true ∷ replicate 51 false } ∷ headerAlone f₁₇ ∷ []),
+      missing-append (map allGone middle) (record { frame = f₁₆; fate = lost; arrived = true ∷ replicate 51 false } ∷ headerAlone plainKind f₁₇ ∷ []),
       missing-gone middle,
       length-map (split .front) framed,
       split .long,
@@ -266,29 +281,30 @@ some = packetsArrive (replicate 51 true) (drop packetLength (drop packetLength f
 abbrev stray : List ℕ
 stray = take packetLength (drop packetLength f₁₆)
 
-last-arrive : arriving (record { frame = f₁₆; fate = lost; arrived = true ∷ replicate 51 false } ∷ headerAlone f₁₇ ∷ []) ≡ stray ∷ slot 0 f₁₇ ∷ []
+last-arrive : arriving (record { frame = f₁₆; fate = lost; arrived = true ∷ replicate 51 false } ∷ headerAlone plainKind f₁₇ ∷ []) ≡ stray ∷ slot 0 f₁₇ ∷ []
 last-arrive =
-    lost-arrives f₁₆ (true ∷ replicate 51 false) (headerAlone f₁₇ ∷ [])
+    lost-arrives f₁₆ (true ∷ replicate 51 false) (headerAlone plainKind f₁₇ ∷ [])
     ∙ ap₂ (λ (a b : List (List ℕ)). a ++ b)
     (one-arrives true (replicate 51 false) (drop packetLength f₁₆) ∙ ap (λ (l : List (List ℕ)). stray ∷ l) (none-arrive 51 (drop packetLength (drop packetLength f₁₆))))
-    (kept-arrives f₁₇ (replicate lastSlot false) []
-    ∙ ap₂ (λ (a b : List (List ℕ)). slot 0 f₁₇ ∷ (a ++ b)) (none-arrive lastSlot (drop packetLength f₁₇)) nothing-arrives)
+    (kept-arrives f₁₇ (replicate (slotsOf (kindOf plainKind)) false) []
+    ∙ ap₂ (λ (a b : List (List ℕ)). slot 0 f₁₇ ∷ (a ++ b)) (none-arrive (slotsOf (kindOf plainKind)) (drop packetLength f₁₇)) nothing-arrives)
 
 arrives : arriving sent ≡ slot 0 f₀ ∷ ((some ++ (stray ∷ [])) ++ (slot 0 f₁₇ ∷ []))
 arrives =
-    kept-arrives f₀ (false ∷ replicate 51 true) (map allGone middle ++ (record { frame = f₁₆; fate = lost; arrived = true ∷ replicate 51 false } ∷ headerAlone f₁₇ ∷ []))
+    kept-arrives f₀ (false ∷ replicate 51 true) (map allGone middle ++ (record { frame = f₁₆; fate = lost; arrived = true ∷ replicate 51 false } ∷ headerAlone plainKind f₁₇ ∷ []))
     ∙ ap₂ (λ (a b : List (List ℕ)). slot 0 f₀ ∷ (a ++ b)) (one-arrives false (replicate 51 true) (drop packetLength f₀))
-    (arriving-gone middle (record { frame = f₁₆; fate = lost; arrived = true ∷ replicate 51 false } ∷ headerAlone f₁₇ ∷ []) ∙ last-arrive)
+    (arriving-gone middle (record { frame = f₁₆; fate = lost; arrived = true ∷ replicate 51 false } ∷ headerAlone plainKind f₁₇ ∷ []) ∙ last-arrive)
     ∙ ap (λ (l : List (List ℕ)). slot 0 f₀ ∷ l) (sym (append-assoc some (stray ∷ []) (slot 0 f₁₇ ∷ [])))
 
 -- ---- what comes out
 
 abbrev zeros : List ℕ
-zeros = replicate storeLength 0
+zeros = replicate (storeLength lastSlot) 0
 
-asked : Asked 1 zeros zeros
+asked : Asked Kind.Plain 1 zeros zeros
+unfolding sizeOf
 asked =
-    let l = length-replicate {A = ℕ} storeLength 0 in
+    let l = length-replicate {A = ℕ} (storeLength lastSlot) 0 in
     record { from = omega arith; to = omega arith; store-long = l; room = omega (arith, l) }
 
 abbrev start : Reception
@@ -305,7 +321,7 @@ packets = some ++ (stray ∷ [])
 
 -- 51 packets and a stray one, none of them broken or a header
 some-long : length (drop packetLength (drop packetLength f₀)) ≡ packetLength * length (replicate 51 true)
-some-long = length-drop packetLength (drop packetLength f₀) ∙ omega (arith, length-drop packetLength f₀, g₀ .long, length-replicate 51 true)
+some-long = length-drop packetLength (drop packetLength f₀) ∙ omega (arith, length-drop packetLength f₀, g₀ .long, slots, length-replicate 51 true)
 
 some-count : length some ≡ 51
 some-count = arrive-entire (replicate 51 true) (drop packetLength (drop packetLength f₀)) refl some-long .0 ∙ length-replicate 51 true
@@ -316,17 +332,17 @@ packets-count = length-append some (stray ∷ []) ∙ omega (arith, some-count)
 some-plain : Each (Plain thePid) some
 some-plain =
     arrive-plain thePid (replicate 51 true) (drop packetLength (drop packetLength f₀)) some-long
-    (λ i h. ap (unfit thePid) (slot-behind i (drop packetLength f₀)) ∙ g₀ .fit (suc i) (omega (arith, length-replicate 51 true)))
+    (λ i h. ap (unfit thePid) (slot-behind i (drop packetLength f₀)) ∙ g₀ .fit (suc i) (omega (arith, slots, length-replicate 51 true)))
 
 stray-plain : Plain thePid stray
 unfolding slot
 stray-plain =
-    (length-take-le packetLength (drop packetLength f₁₆) (omega (arith, length-drop packetLength f₁₆, g₁₆ .long)), g₁₆ .fit 0 (omega arith))
+    (length-take-le packetLength (drop packetLength f₁₆) (omega (arith, length-drop packetLength f₁₆, g₁₆ .long, slots)), g₁₆ .fit 0 (omega (arith, slots)))
 
 stored : StoredAll Kind.Plain thePid 1 zeros 0 0 opened packets [] (opened .store)
 stored =
     stored-all Kind.Plain thePid 1 zeros 0 0 opened packets [] (opened .store) (good-set Kind.Plain thePid 0 (slot 0 f₀) start start-set (g₀ .header))
-    (good-opens Kind.Plain thePid 0 (slot 0 f₀) start start-set (g₀ .header)) (omega (arith, packets-count)) (each-append some-plain (more stray-plain none)) refl refl
+    (good-opens Kind.Plain thePid 0 (slot 0 f₀) start start-set (g₀ .header)) (omega (arith, packets-count, slots)) (each-append some-plain (more stray-plain none)) refl refl
 
 abbrev full : Reception
 full = afterAll opened packets
@@ -335,10 +351,10 @@ abbrev mixed : List ℕ
 mixed = numbered 1 (full .state .numbers) (full .store)
 
 -- they are owed to a header whose counter is 1
-owes : Owes 1 1 0 mixed full
+owes : Owes (slotsOf Kind.Plain) 1 1 0 mixed full
 owes =
-    something 0 (0 + length packets) (stored .stage-then) (lit< tt) (omega (arith, packets-count)) refl
-    (ap (λ (b : Bool). cond (b && true) mixed []) (sym (eq-eqb (0 + length packets) lastSlot (omega (arith, packets-count)))))
+    something 0 (0 + length packets) (stored .stage-then) (lit< tt) (omega (arith, packets-count, slots)) refl
+    (ap (λ (b : Bool). cond (b && true) mixed []) (sym (eq-eqb (0 + length packets) (slotsOf Kind.Plain) (omega (arith, packets-count, slots)))))
 
 comes : handedOut 1 zeros (freshWith Kind.Plain thePid zeros) (arriving sent) ≡ mixed ++ []
 unfolding handedOut
@@ -375,7 +391,8 @@ one-slot = omega (arith, none-for 51)
 
 mixed-long : length mixed ≡ packetLength
 mixed-long =
-    length-numbered 1 (full .state .numbers) (full .store) (omega (arith, stored .set-then .store-long, stored .set-then .numbers-long))
+    length-numbered 1 (full .state .numbers) (full .store)
+    (has-packets 1 (slotsOf Kind.Plain) (full .state .numbers) (full .store) (omega arith) (none-at (stored .set-then .numbers-pass) 1) (omega (arith, stored .set-then .store-long)))
     ∙ ap (λ (ns : List ℕ). packetLength * slotsFor 1 ns) (stored .numbers-then ∙ good-numbers Kind.Plain thePid 0 (slot 0 f₀) start start-set (g₀ .header) ∙ first-numbers ∙ one-filled)
     ∙ omega (arith, one-slot)
 
@@ -399,15 +416,12 @@ wanted-torn s (t ∷ ss) k = rw (k, and-false (isKept (s .fate)))
 
 nothing-wanted : wanted Kind.Plain thePid 1 sent ≡ []
 nothing-wanted =
-    wanted-torn (record { frame = f₀; fate = kept; arrived = false ∷ replicate 51 true }) (map allGone middle ++ (record { frame = f₁₆; fate = lost; arrived = true ∷ replicate 51 false } ∷ headerAlone f₁₇ ∷ [])) refl
-    ∙ all-gone middle (record { frame = f₁₆; fate = lost; arrived = true ∷ replicate 51 false } ∷ headerAlone f₁₇ ∷ [])
-    ∙ wanted-gone (record { frame = f₁₆; fate = lost; arrived = true ∷ replicate 51 false }) (headerAlone f₁₇ ∷ []) refl
-    ∙ wanted-alone (headerAlone f₁₇)
+    wanted-torn (record { frame = f₀; fate = kept; arrived = false ∷ replicate 51 true }) (map allGone middle ++ (record { frame = f₁₆; fate = lost; arrived = true ∷ replicate 51 false } ∷ headerAlone plainKind f₁₇ ∷ [])) refl
+    ∙ all-gone middle (record { frame = f₁₆; fate = lost; arrived = true ∷ replicate 51 false } ∷ headerAlone plainKind f₁₇ ∷ [])
+    ∙ wanted-gone (record { frame = f₁₆; fate = lost; arrived = true ∷ replicate 51 false }) (headerAlone plainKind f₁₇ ∷ []) refl
+    ∙ wanted-alone (headerAlone plainKind f₁₇)
 
 -- ---- the same eighteen frames by firmware's calls
-
-abbrev plainKind : ℕ
-plainKind = kindNumber Kind.Plain
 
 tuned-accepted : receiverRefused (replicate receiverLength 0) thePid plainKind ≡ 0
 unfolding receiverRefused firstOf kindNumber
@@ -415,9 +429,6 @@ tuned-accepted = refl
 
 abbrev theRun : RunOfCalls thePid plainKind
 theRun = runOf Kind.Plain (replicate 18 theSetting) (each-taken 18)
-
-plain : kindOf plainKind ≡ Kind.Plain
-plain = kind-back Kind.Plain
 
 the-frames : map (λ f. f .frame) (framesClosed theRun) ≡ [] ++ (map (λ s. s .frame) sent ++ [])
 the-frames =
@@ -427,24 +438,27 @@ the-frames =
 abbrev receiverZeros : List ℕ
 receiverZeros = replicate receiverLength 0
 
+asked-too : Asked (kindOf plainKind) 1 zeros zeros
+asked-too = subst (λ (k : Kind). Asked k 1 zeros zeros) (sym plain) asked
+
 abbrev theAsk : FreshAndAsked thePid plainKind 1 (arriving sent)
 theAsk =
     record {
       state = receiverZeros;
       accepted = tuned-accepted;
       store = zeros;
-      store-long = asked .store-long;
-      from = asked .from;
-      to = asked .to;
+      store-long = asked-too .store-long;
+      from = asked-too .from;
+      to = asked-too .to;
       buffers = λ n. zeros;
-      room = always-room thePid plainKind 1 receiverZeros zeros (λ n. zeros) (arriving sent) tuned-accepted (asked .store-long) (λ n. asked .room);
+      room = always-room thePid plainKind 1 receiverZeros zeros (λ n. zeros) (arriving sent) tuned-accepted (asked-too .store-long) (asked-too .from) (λ n. asked-too .room);
     }
 
 -- what comes out of it is mixed
 given-mixed : handsOut theAsk ≡ mixed ++ []
 given-mixed =
-    given-out (kindOf plainKind) thePid 1 zeros zeros asked (tunedTo receiverZeros thePid plainKind zeros) (freshWith (kindOf plainKind) thePid zeros)
-    (tuned-fresh receiverZeros thePid plainKind zeros tuned-accepted (asked .store-long)) (λ n. zeros) (arriving sent) (theAsk .room)
+    given-out (kindOf plainKind) thePid 1 zeros zeros asked-too (tunedTo receiverZeros thePid plainKind zeros) (freshWith (kindOf plainKind) thePid zeros)
+    (tuned-fresh receiverZeros thePid plainKind zeros tuned-accepted (asked-too .store-long)) (λ n. zeros) (arriving sent) (theAsk .room)
     ∙ ap (λ (k : Kind). handedOut 1 zeros (freshWith k thePid zeros) (arriving sent)) plain ∙ comes
 
 pub sixteen-fail : SixteenFail

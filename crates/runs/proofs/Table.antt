@@ -11,11 +11,11 @@ use lib.ListN.{length, take, drop, length-append, length-drop}
 use lib.Seq.{length-take-le, take-at, drop-append-add, drop-drop}
 use Rattle.bits.specs.Fields.{Fit}
 use Rattle.setting.specs.declared.Kind.{Kind}
-use Rattle.counters.specs.Counters.{firstStream, lastStream, lastSlot}
+use Rattle.counters.specs.Counters.{firstStream, lastSlot}
 use Rattle.setting.specs.Refusal.{NoneHolds, none, more, leaves}
-use Rattle.setting.specs.Rules.{pidAllowed}
+use Rattle.setting.specs.Rules.{pidAllowed, numberChecks}
+use Rattle.setting.specs.Size.{sizeOf, slotsOf, streamsOf}
 use Rattle.setting.proofs.Refusals.{first-none, none-append}
-use Rattle.setting.proofs.Fields.{some-fit}
 use Rattle.header_layout.specs.Header.{reading}
 use Rattle.header_check.specs.Checking.{readRefusal}
 use Rattle.packet.specs.Packets.{packetLength, unfit}
@@ -34,37 +34,39 @@ use Rattle.runs.proofs.Reception.{Reception, afterPacket, handed, hande
 -- ---- a state that is in range
 
 -- a stream number, a store, and a buffer with room for every packet of a frame
-pub record Asked (r : ℕ) (store out : List ℕ) : Type 0 where
+pub record Asked (kind : Kind) (r : ℕ) (store out : List ℕ) : Type 0 where
   pub from : firstStream ≤ r
-  pub to : r ≤ lastStream
-  pub store-long : length store ≡ storeLength
-  pub room : storeLength ≤ length out
+  pub to : r ≤ streamsOf kind
+  pub store-long : length store ≡ storeLength (slotsOf kind)
+  pub room : storeLength (slotsOf kind) ≤ length out
 
 -- a frame is open behind a header with this counter, k packets stored
 pub data Opens : Stage → ℕ → ℕ → Type 0 where
   open-at : (from k : ℕ) → Opens (Stage.Open from k) from k
   ready-at : (from : ℕ) → Opens (Stage.Ready from) from 0
 
-pub data InRange : Stage → Type 0 where
-  waits : InRange Stage.Waiting
-  opens : {stage : Stage} (from k : ℕ) → Opens stage from k → from < 2 ^ 4 → k ≤ lastSlot → InRange stage
+pub data InRange (slots : ℕ) : Stage → Type 0 where
+  waits : InRange slots Stage.Waiting
+  opens : {stage : Stage} (from k : ℕ) → Opens stage from k → from < 2 ^ 4 → k ≤ slots → InRange slots stage
 
 -- a receiver with its store, set to a PID and a kind, whose numbers are in range
 pub record Set (kind : Kind) (pid : ℕ) (w : Reception) : Type 0 where
   pub kind-is : w .state .kind ≡ kind
   pub pid-is : w .state .pid ≡ pid
   pub allowed : pidAllowed pid ≡ true
-  pub stage-is : InRange (w .state .stage)
+  pub stage-is : InRange (slotsOf kind) (w .state .stage)
   pub numbers-fit : Fit 4 (w .state .numbers)
   pub numbers-long : length (w .state .numbers) ≡ lastSlot
+  pub numbers-pass : NoneHolds (numberChecks (sizeOf kind) (w .state .numbers))
   pub before-fit : Fit 4 (w .state .before)
   pub before-long : length (w .state .before) ≡ lastSlot
-  pub store-long : length (w .store) ≡ storeLength
+  pub before-pass : NoneHolds (numberChecks (sizeOf kind) (w .state .before))
+  pub store-long : length (w .store) ≡ storeLength (slotsOf kind)
 
-stage-none : {stage : Stage} → InRange stage → NoneHolds (stageChecks stage)
+stage-none : {slots : ℕ} {stage : Stage} → InRange slots stage → NoneHolds (stageChecks slots stage)
 unfolding stageChecks
 stage-none waits = none
-stage-none (opens from k (open-at _ _) h l) = more (lt-leb (2 ^ 4) from h) (more (le-ltb lastSlot k l) none)
+stage-none {slots} (opens from k (open-at _ _) h l) = more (lt-leb (2 ^ 4) from h) (more (le-ltb slots k l) none)
 stage-none (opens from k (ready-at _) h l) = more (lt-leb (2 ^ 4) from h) none
 
 module _ (kind : Kind) (pid : ℕ) (w : Reception) (s : Set kind pid w) where
@@ -72,12 +74,15 @@ module _ (kind : Kind) (pid : ℕ) (w : Reception) (s : Set kind pid w) where
   unfolding receiverChecks
   state-none =
       more (ap (λ (n : ℕ). not (pidAllowed n)) (s .pid-is) ∙ ap not (s .allowed))
-      (none-append (stage-none (s .stage-is)) (more (some-fit 4 (w .state .numbers) (s .numbers-fit)) (more (some-fit 4 (w .state .before) (s .before-fit)) none)))
+      (subst (λ (k : Kind). NoneHolds (stageChecks (slotsOf k) (w .state .stage) ++ (numberChecks (sizeOf k) (w .state .numbers) ++ numberChecks (sizeOf k) (w .state .before))))
+      (sym (s .kind-is)) (none-append (stage-none (s .stage-is)) (none-append (s .numbers-pass) (s .before-pass))))
 
   -- no packet of 188 bytes is refused
   pub accepted : (p : List ℕ) → length p ≡ packetLength → receiveRefusal (w .state) (length p) (length (w .store)) ≡ 0
   unfolding receiveRefusal
-  accepted p l = first-none (more (ap not (eq-eqb (length p) packetLength l)) (more (ap not (eq-eqb (length (w .store)) storeLength (s .store-long))) state-none))
+  accepted p l =
+      let long = s .store-long ∙ ap (λ (k : Kind). storeLength (slotsOf k)) (sym (s .kind-is)) in
+      first-none (more (ap not (eq-eqb (length p) packetLength l)) (more (ap not (eq-eqb (length (w .store)) (storeLength (slotsOf (w .state .kind))) long)) state-none))
 
   pub event-is : (p : List ℕ) → length p ≡ packetLength → receiveOf (w .state) p (length (w .store)) .event ≡ rowFor (w .state) p .event
   unfolding receiveOf
@@ -87,59 +92,59 @@ module _ (kind : Kind) (pid : ℕ) (w : Reception) (s : Set kind pid w) where
       → afterPacket w p
       ≡ record {
         state = receiverAfter (w .state) (sortOf (w .state .kind) (w .state .pid) p) (rowFor (w .state) p .stage) (reading (w .state .kind) p .«relative_ts_number»);
-        store = storeAfter (w .state .stage) (sortOf (w .state .kind) (w .state .pid) p) p (w .store);
+        store = storeAfter (slotsOf kind) (w .state .stage) (sortOf (w .state .kind) (w .state .pid) p) p (w .store);
       }
   unfolding afterPacket receiveOf receiveStore leaves
-  after-is p l = rw (accepted p l)
+  after-is p l = rw (accepted p l, s .kind-is) refl
 
 -- ---- the row that a packet takes
 
-pub row-opens : {stage : Stage} {from k : ℕ} (sort : Sort) (to : ℕ) → Opens stage from k → rowOf stage sort to ≡ openRow from k sort to
+pub row-opens : (slots : ℕ) {stage : Stage} {from k : ℕ} (sort : Sort) (to : ℕ) → Opens stage from k → rowOf slots stage sort to ≡ openRow slots from k sort to
 unfolding rowOf
-row-opens sort to (open-at _ _) = refl
-row-opens sort to (ready-at _) = refl
+row-opens slots sort to (open-at _ _) = refl
+row-opens slots sort to (ready-at _) = refl
 
-stored-opens : {stage : Stage} {from k : ℕ} → Opens stage from k → storedOf stage ≡ k
+stored-opens : (slots : ℕ) {stage : Stage} {from k : ℕ} → Opens stage from k → storedOf slots stage ≡ k
 unfolding storedOf
-stored-opens (open-at _ _) = refl
-stored-opens (ready-at _) = refl
+stored-opens slots (open-at _ _) = refl
+stored-opens slots (ready-at _) = refl
 
 -- ---- a packet that is no good header
 
 -- the frame that was open is open still, or dropped
-pub data Follows (stage : Stage) : Stage → Type 0 where
-  dropped : Follows stage Stage.Waiting
-  goes-on : {next : Stage} (from k j : ℕ) → Opens stage from k → Opens next from j → from < 2 ^ 4 → j ≤ lastSlot → Follows stage next
+pub data Follows (slots : ℕ) (stage : Stage) : Stage → Type 0 where
+  dropped : Follows slots stage Stage.Waiting
+  goes-on : {next : Stage} (from k j : ℕ) → Opens stage from k → Opens next from j → from < 2 ^ 4 → j ≤ slots → Follows slots stage next
 
 -- such a packet makes no frame ready, and leaves the receiver in range
-record Calm (stage : Stage) (r : Row) : Type 0 where
+record Calm (slots : ℕ) (stage : Stage) (r : Row) : Type 0 where
   not-ready : makesReady (r .event) ≡ false
-  in-range : InRange (r .stage)
-  follows : Follows stage (r .stage)
+  in-range : InRange slots (r .stage)
+  follows : Follows slots stage (r .stage)
 
 abbrev badSort : Bool → Sort
 badSort b = cond b broken other
 
-calm-open : {stage : Stage} (from k : ℕ) → Opens stage from k → from < 2 ^ 4 → k ≤ lastSlot → (b : Bool) (to : ℕ) → Calm stage (openRow from k (badSort b) to)
+calm-open : {slots : ℕ} {stage : Stage} (from k : ℕ) → Opens stage from k → from < 2 ^ 4 → k ≤ slots → (b : Bool) (to : ℕ) → Calm slots stage (openRow slots from k (badSort b) to)
 unfolding openRow
 calm-open from k o h l true to = record { not-ready = refl; in-range = waits; follows = dropped }
-calm-open {stage} from k o h l false to = by-room (decLt k lastSlot)
+calm-open {slots} {stage} from k o h l false to = by-room (decLt k slots)
   where
-    by-room : Dec (k < lastSlot) → Calm stage (cond (ltb k lastSlot) (row Event.Stored (Stage.Open from (k + 1))) (row Event.Long Stage.Waiting))
+    by-room : Dec (k < slots) → Calm slots stage (cond (ltb k slots) (row Event.Stored (Stage.Open from (k + 1))) (row Event.Long Stage.Waiting))
     by-room (yes q) =
-        rw (lt-ltb k lastSlot q)
+        rw (lt-ltb k slots q)
         (record {
           not-ready = refl;
           in-range = opens from (k + 1) (open-at from (k + 1)) h (omega arith);
           follows = goes-on from k (k + 1) o (open-at from (k + 1)) h (omega arith);
         })
-    by-room (no q) = rw (le-ltb k lastSlot (omega arith)) (record { not-ready = refl; in-range = waits; follows = dropped })
+    by-room (no q) = rw (le-ltb k slots (omega arith)) (record { not-ready = refl; in-range = waits; follows = dropped })
 
-calm : {stage : Stage} → InRange stage → (b : Bool) (to : ℕ) → Calm stage (rowOf stage (badSort b) to)
+calm : {slots : ℕ} {stage : Stage} → InRange slots stage → (b : Bool) (to : ℕ) → Calm slots stage (rowOf slots stage (badSort b) to)
 unfolding rowOf
 calm waits true to = record { not-ready = refl; in-range = waits; follows = dropped }
 calm waits false to = record { not-ready = refl; in-range = waits; follows = dropped }
-calm {stage} (opens from k o h l) b to = subst (Calm stage) (sym (row-opens (badSort b) to o)) (calm-open from k o h l b to)
+calm {slots} {stage} (opens from k o h l) b to = subst (Calm slots stage) (sym (row-opens slots (badSort b) to o)) (calm-open from k o h l b to)
 
 length-over : (at : ℕ) (p bytes : List ℕ) → at + length p ≤ length bytes → length (over at p bytes) ≡ length bytes
 unfolding over
@@ -147,14 +152,16 @@ length-over at p bytes h =
     length-append (take at bytes) (p ++ drop (at + length p) bytes)
     ∙ omega (arith, length-take-le at bytes (omega arith), length-append p (drop (at + length p) bytes), length-drop (at + length p) bytes)
 
-bad-store : (stage : Stage) (b : Bool) (p store : List ℕ) → length p ≡ packetLength → length store ≡ storeLength → length (storeAfter stage (badSort b) p store) ≡ storeLength
+bad-store : (slots : ℕ) (stage : Stage) (b : Bool) (p store : List ℕ) → length p ≡ packetLength → length store ≡ storeLength slots
+    → length (storeAfter slots stage (badSort b) p store) ≡ storeLength slots
 unfolding storeAfter
-bad-store stage true p store l h = h
-bad-store stage false p store l h = by-room (decLt (storedOf stage) lastSlot)
+bad-store slots stage true p store l h = h
+bad-store slots stage false p store l h = by-room (decLt (storedOf slots stage) slots)
   where
-    by-room : Dec (storedOf stage < lastSlot) → length (cond (ltb (storedOf stage) lastSlot) (over (packetLength * storedOf stage) p store) store) ≡ storeLength
-    by-room (yes q) = rw (lt-ltb (storedOf stage) lastSlot q) (length-over (packetLength * storedOf stage) p store (omega arith) ∙ h)
-    by-room (no q) = rw (le-ltb (storedOf stage) lastSlot (omega arith)) h
+    by-room : Dec (storedOf slots stage < slots)
+        → length (cond (ltb (storedOf slots stage) slots) (over (packetLength * storedOf slots stage) p store) store) ≡ storeLength slots
+    by-room (yes q) = rw (lt-ltb (storedOf slots stage) slots q) (length-over (packetLength * storedOf slots stage) p store (omega arith) ∙ h)
+    by-room (no q) = rw (le-ltb (storedOf slots stage) slots (omega arith)) h
 
 bad-moved : (c : Receiver) (b : Bool) (stage : Stage) (said : List ℕ) → receiverAfter c (badSort b) stage said ≡ moved c stage
 unfolding receiverAfter
@@ -166,27 +173,27 @@ module _ (kind : Kind) (pid : ℕ) (w : Reception) (s : Set kind pid w) (p : Lis
   unfolding sortOf
   bad-sort = ap₂ (λ (a : Kind) (b : ℕ). cond (eqb (readRefusal a b p) 0) good (cond (unfit b p) broken other)) (s .kind-is) (s .pid-is) ∙ rw (ne-eqb (readRefusal kind pid p) 0 d)
 
-  pub bad-row : rowFor (w .state) p ≡ rowOf (w .state .stage) (badSort (unfit pid p)) (reading (w .state .kind) p .«continuity_counter»)
+  pub bad-row : rowFor (w .state) p ≡ rowOf (slotsOf kind) (w .state .stage) (badSort (unfit pid p)) (reading (w .state .kind) p .«continuity_counter»)
   unfolding rowFor
-  bad-row = rw bad-sort
+  bad-row = rw (bad-sort, s .kind-is) refl
 
   -- the receiver and its store then
   bad-after : afterPacket w p
       ≡ record {
-        state = moved (w .state) (rowOf (w .state .stage) (badSort (unfit pid p)) (reading (w .state .kind) p .«continuity_counter») .stage);
-        store = storeAfter (w .state .stage) (badSort (unfit pid p)) p (w .store);
+        state = moved (w .state) (rowOf (slotsOf kind) (w .state .stage) (badSort (unfit pid p)) (reading (w .state .kind) p .«continuity_counter») .stage);
+        store = storeAfter (slotsOf kind) (w .state .stage) (badSort (unfit pid p)) p (w .store);
       }
   bad-after =
       after-is kind pid w s p l
       ∙ ap₂ (λ (a : Sort) (r : Row). record {
         state = receiverAfter (w .state) a (r .stage) (reading (w .state .kind) p .«relative_ts_number»);
-        store = storeAfter (w .state .stage) a p (w .store);
+        store = storeAfter (slotsOf kind) (w .state .stage) a p (w .store);
       }) bad-sort bad-row
-      ∙ ap (λ (c : Receiver). record { state = c; store = storeAfter (w .state .stage) (badSort (unfit pid p)) p (w .store) })
-      (bad-moved (w .state) (unfit pid p) (rowOf (w .state .stage) (badSort (unfit pid p)) (reading (w .state .kind) p .«continuity_counter») .stage)
+      ∙ ap (λ (c : Receiver). record { state = c; store = storeAfter (slotsOf kind) (w .state .stage) (badSort (unfit pid p)) p (w .store) })
+      (bad-moved (w .state) (unfit pid p) (rowOf (slotsOf kind) (w .state .stage) (badSort (unfit pid p)) (reading (w .state .kind) p .«continuity_counter») .stage)
       (reading (w .state .kind) p .«relative_ts_number»))
 
-  is-calm : Calm (w .state .stage) (rowOf (w .state .stage) (badSort (unfit pid p)) (reading (w .state .kind) p .«continuity_counter»))
+  is-calm : Calm (slotsOf kind) (w .state .stage) (rowOf (slotsOf kind) (w .state .stage) (badSort (unfit pid p)) (reading (w .state .kind) p .«continuity_counter»))
   is-calm = calm (s .stage-is) (unfit pid p) (reading (w .state .kind) p .«continuity_counter»)
 
   -- nothing is handed out
@@ -207,34 +214,36 @@ module _ (kind : Kind) (pid : ℕ) (w : Reception) (s : Set kind pid w) (p : Lis
         stage-is = is-calm .in-range;
         numbers-fit = s .numbers-fit;
         numbers-long = s .numbers-long;
+        numbers-pass = s .numbers-pass;
         before-fit = s .before-fit;
         before-long = s .before-long;
-        store-long = bad-store (w .state .stage) (unfit pid p) p (w .store) l (s .store-long);
+        before-pass = s .before-pass;
+        store-long = bad-store (slotsOf kind) (w .state .stage) (unfit pid p) p (w .store) l (s .store-long);
       })
 
   pub bad-numbers : afterPacket w p .state .numbers ≡ w .state .numbers
   unfolding moved
   bad-numbers = ap (λ (v : Reception). v .state .numbers) bad-after
 
-  pub bad-follows : Follows (w .state .stage) (afterPacket w p .state .stage)
+  pub bad-follows : Follows (slotsOf kind) (w .state .stage) (afterPacket w p .state .stage)
   unfolding moved
-  bad-follows = subst (λ (v : Reception). Follows (w .state .stage) (v .state .stage)) (sym bad-after) (is-calm .follows)
+  bad-follows = subst (λ (v : Reception). Follows (slotsOf kind) (w .state .stage) (v .state .stage)) (sym bad-after) (is-calm .follows)
 
   -- where there is room behind k packets, it is stored
-  pub stored-stage : (from k : ℕ) → Opens (w .state .stage) from k → k < lastSlot → unfit pid p ≡ false → Opens (afterPacket w p .state .stage) from (k + 1)
+  pub stored-stage : (from k : ℕ) → Opens (w .state .stage) from k → k < slotsOf kind → unfit pid p ≡ false → Opens (afterPacket w p .state .stage) from (k + 1)
   unfolding moved openRow
   stored-stage from k o h u =
       let to = reading (w .state .kind) p .«continuity_counter» in
-      let r : rowOf (w .state .stage) (badSort (unfit pid p)) to ≡ row Event.Stored (Stage.Open from (k + 1)) =
-      ap (λ (b : Bool). rowOf (w .state .stage) (badSort b) to) u ∙ row-opens other to o ∙ rw (lt-ltb k lastSlot h) in
+      let r : rowOf (slotsOf kind) (w .state .stage) (badSort (unfit pid p)) to ≡ row Event.Stored (Stage.Open from (k + 1)) =
+      ap (λ (b : Bool). rowOf (slotsOf kind) (w .state .stage) (badSort b) to) u ∙ row-opens (slotsOf kind) other to o ∙ rw (lt-ltb k (slotsOf kind) h) in
       subst (λ (v : Reception). Opens (v .state .stage) from (k + 1)) (sym bad-after) (subst (λ (x : Row). Opens (x .stage) from (k + 1)) (sym r) (open-at from (k + 1)))
 
-  pub stored-store : (from k : ℕ) → Opens (w .state .stage) from k → k < lastSlot → unfit pid p ≡ false → afterPacket w p .store ≡ over (packetLength * k) p (w .store)
+  pub stored-store : (from k : ℕ) → Opens (w .state .stage) from k → k < slotsOf kind → unfit pid p ≡ false → afterPacket w p .store ≡ over (packetLength * k) p (w .store)
   unfolding storeAfter
   stored-store from k o h u =
       ap (λ (v : Reception). v .store) bad-after
-      ∙ ap (λ (b : Bool). storeAfter (w .state .stage) (badSort b) p (w .store)) u
-      ∙ ap (λ (n : ℕ). cond (ltb n lastSlot) (over (packetLength * n) p (w .store)) (w .store)) (stored-opens o) ∙ rw (lt-ltb k lastSlot h)
+      ∙ ap (λ (b : Bool). storeAfter (slotsOf kind) (w .state .stage) (badSort b) p (w .store)) u
+      ∙ ap (λ (n : ℕ). cond (ltb n (slotsOf kind)) (over (packetLength * n) p (w .store)) (w .store)) (stored-opens (slotsOf kind) o) ∙ rw (lt-ltb k (slotsOf kind) h)
 
 -- ---- packets that are stored one behind the other
 
@@ -272,7 +281,7 @@ pub record StoredAll (kind : Kind) (pid r : ℕ) (out : List ℕ) (from k : ℕ)
   pub quiet-then : (later : List (List ℕ)) → handedOut r out w (ps ++ later) ≡ handedOut r out (afterAll w ps) later
 
 pub stored-all : (kind : Kind) (pid r : ℕ) (out : List ℕ) (from k : ℕ) (w : Reception) (ps : List (List ℕ)) (front rest : List ℕ)
-    → Set kind pid w → Opens (w .state .stage) from k → k + length ps ≤ lastSlot → Each (Plain pid) ps
+    → Set kind pid w → Opens (w .state .stage) from k → k + length ps ≤ slotsOf kind → Each (Plain pid) ps
     → length front ≡ packetLength * k → w .store ≡ front ++ drop (packetLength * k) rest
     → StoredAll kind pid r out from k w ps front rest
 unfolding afterAll joined
@@ -287,7 +296,7 @@ stored-all kind pid r out from k w [] front rest s o h none f e =
     }
 stored-all kind pid r out from k w (p ∷ ps) front rest s o h (more (l, u) fit) f e =
     let d = not-good kind pid p u in
-    let q : k < lastSlot = omega arith in
+    let q : k < slotsOf kind = omega arith in
     let more-front : length (front ++ p) ≡ packetLength * (k + 1) = length-append front p ∙ omega arith in
     let store-next : afterPacket w p .store ≡ (front ++ p) ++ drop (packetLength * (k + 1)) rest =
     stored-store kind pid w s p l d from k o q u ∙ over-more front p (w .store) rest k f l e in
@@ -305,7 +314,7 @@ stored-all kind pid r out from k w (p ∷ ps) front rest s o h (more (l, u) fit)
 -- packets of any kind but good headers: the frame that was open goes on or is dropped
 pub record BadAll (kind : Kind) (pid r : ℕ) (out : List ℕ) (w : Reception) (ps : List (List ℕ)) : Type 0 where
   pub set-then : Set kind pid (afterAll w ps)
-  pub follows-then : Follows (w .state .stage) (afterAll w ps .state .stage)
+  pub follows-then : Follows (slotsOf kind) (w .state .stage) (afterAll w ps .state .stage)
   pub quiet-then : (later : List (List ℕ)) → handedOut r out w (ps ++ later) ≡ handedOut r out (afterAll w ps) later
 
 abbrev pub Bad : Kind → ℕ → List ℕ → Type 0
@@ -315,12 +324,12 @@ pub same-opens : {stage : Stage} {from k from' k' : ℕ} → Opens stage from k 
 same-opens (open-at _ _) (open-at _ _) = (refl, refl)
 same-opens (ready-at _) (ready-at _) = (refl, refl)
 
-follows-on : {a b : Stage} (c : Stage) → Follows a b → Follows b c → Follows a c
+follows-on : {slots : ℕ} {a b : Stage} (c : Stage) → Follows slots a b → Follows slots b c → Follows slots a c
 follows-on c f dropped = dropped
 follows-on c (goes-on from k j o p h l) (goes-on from' k' j' o' p' h' l') =
     goes-on from k j' o (subst (λ (n : ℕ). Opens c n j') (sym (same-opens p o' .0)) p') h l'
 
-pub follows-self : {stage : Stage} → InRange stage → Follows stage stage
+pub follows-self : {slots : ℕ} {stage : Stage} → InRange slots stage → Follows slots stage stage
 follows-self waits = dropped
 follows-self (opens from k o h l) = goes-on from k k o o h l
 

@@ -11,9 +11,11 @@ use lib.ListN.{length, take}
 use Rattle.setting.specs.declared.Kind.{Kind}
 use Rattle.setting.specs.Refusal.{firstOf, leaves}
 use Rattle.setting.specs.Rules.{pidAllowed, widthChecks, ruleChecks}
-use Rattle.setting.proofs.Refusals.{none-before}
+use Rattle.setting.proofs.Refusals.{none-before, none-at}
 use Rattle.setting.proofs.Fields.{at-most, narrow}
-use Rattle.counters.specs.Counters.{firstStream, lastStream, lastSlot}
+use Rattle.setting.proofs.Sizes.{fit-four}
+use Rattle.counters.specs.Counters.{firstStream}
+use Rattle.setting.specs.Size.{slotsOf}
 use Rattle.header_layout.specs.Header.{reading}
 use Rattle.header_check.specs.Checking.{readRefusal}
 use Rattle.header_check.proofs.Accepted.{shown, meets}
@@ -25,6 +27,7 @@ use Rattle.receiver.specs.declared.Row.{Row}
 use Rattle.receiver.specs.Store.{storeLength, slotsFor}
 use Rattle.receiver.specs.Table.{Sort, good, broken, other, row, openRow, rowOf, counterStep, isReady, makesReady}
 use Rattle.receiver.specs.Arriving.{sortOf}
+use Rattle.receiver.proofs.Store.{for-at-most}
 use Rattle.receiver.specs.Receiving.{Receiver, moved, renumbered, receiverAfter, receiveRefusal, rowFor, receiveOf, receiveStore}
 use Rattle.receiver.specs.Bytes.{eventNumber, receiverBytes, receiverOf, Codable}
 use Rattle.receiver.specs.Calls.{receiveEvent, receiveState, receiveMemory, handOutPackets, handOutMemory}
@@ -33,7 +36,7 @@ use Rattle.receiver.proofs.OnBytes.{numbers-said, calls-on-bytes}
 use Rattle.runs.proofs.Reception.{Reception, afterPacket, handed, handedOut}
 use Rattle.runs.specs.Firmware.{Demultiplexer, heard, saysReady, given, givenOut, readyBytes, WithRoom}
 use Rattle.runs.proofs.Table.{Asked, Set, event-is, after-is, bad-set}
-use Rattle.runs.proofs.Vouched.{for-at-most, GoodHeader, good-set, Fits, fits-all, handed-is}
+use Rattle.runs.proofs.Vouched.{GoodHeader, good-set, Fits, fits-all, handed-is}
 
 -- ---- a receiver stays in range, whatever it is given
 
@@ -53,7 +56,7 @@ good-header kind pid p e =
       read = rw e;
       counter = refl;
       small = n .counter;
-      numbers-fit = n .numbers;
+      numbers-fit = fit-four kind (n .numbers);
       numbers-long = numbers-said kind pid p e .0;
       long = s .whole;
     }
@@ -119,30 +122,30 @@ module _ (kind : Kind) (pid : ℕ) (b : Demultiplexer) (w : Reception) (t : Tune
 
 -- ---- a frame that a packet makes ready is ready then
 
-ready-open : (from k : ℕ) (sort : Sort) (to : ℕ) → makesReady (openRow from k sort to .event) ≡ true → isReady (openRow from k sort to .stage) ≡ true
+ready-open : (slots from k : ℕ) (sort : Sort) (to : ℕ) → makesReady (openRow slots from k sort to .event) ≡ true → isReady (openRow slots from k sort to .stage) ≡ true
 unfolding openRow
-ready-open from k broken to e = absurd (false≢true e)
-ready-open from k good to e = by-test (eqb k lastSlot && eqb (counterStep from to) 1) (ltb k lastSlot) e
+ready-open slots from k broken to e = absurd (false≢true e)
+ready-open slots from k good to e = by-test (eqb k slots && eqb (counterStep from to) 1) (ltb k slots) e
   where
     by-test : (a b : Bool) → makesReady (cond {A = Row} a (row Event.Ready (Stage.Ready to)) (row (cond b Event.Short Event.Jump) (Stage.Open to 0)) .event) ≡ true
         → isReady (cond {A = Row} a (row Event.Ready (Stage.Ready to)) (row (cond b Event.Short Event.Jump) (Stage.Open to 0)) .stage) ≡ true
     by-test true b q = refl
     by-test false true q = absurd (false≢true q)
     by-test false false q = absurd (false≢true q)
-ready-open from k other to e = by-room (ltb k lastSlot) e
+ready-open slots from k other to e = by-room (ltb k slots) e
   where
     by-room : (b : Bool) → makesReady (cond {A = Row} b (row Event.Stored (Stage.Open from (k + 1))) (row Event.Long Stage.Waiting) .event) ≡ true
         → isReady (cond {A = Row} b (row Event.Stored (Stage.Open from (k + 1))) (row Event.Long Stage.Waiting) .stage) ≡ true
     by-room true q = absurd (false≢true q)
     by-room false q = absurd (false≢true q)
 
-ready-row : (stage : Stage) (sort : Sort) (to : ℕ) → makesReady (rowOf stage sort to .event) ≡ true → isReady (rowOf stage sort to .stage) ≡ true
+ready-row : (slots : ℕ) (stage : Stage) (sort : Sort) (to : ℕ) → makesReady (rowOf slots stage sort to .event) ≡ true → isReady (rowOf slots stage sort to .stage) ≡ true
 unfolding rowOf
-ready-row Stage.Waiting good to e = absurd (false≢true e)
-ready-row Stage.Waiting broken to e = absurd (false≢true e)
-ready-row Stage.Waiting other to e = absurd (false≢true e)
-ready-row (Stage.Open from k) sort to e = ready-open from k sort to e
-ready-row (Stage.Ready from) sort to e = ready-open from 0 sort to e
+ready-row slots Stage.Waiting good to e = absurd (false≢true e)
+ready-row slots Stage.Waiting broken to e = absurd (false≢true e)
+ready-row slots Stage.Waiting other to e = absurd (false≢true e)
+ready-row slots (Stage.Open from k) sort to e = ready-open slots from k sort to e
+ready-row slots (Stage.Ready from) sort to e = ready-open slots from 0 sort to e
 
 -- the stage of a state that a packet led to is its row's
 row-stage : (c : Receiver) (sort : Sort) (stage : Stage) (said : List ℕ) → receiverAfter c sort stage said .stage ≡ stage
@@ -167,11 +170,11 @@ ready-then kind pid w s p e = by-length (ℕ-discrete (length p) packetLength)
     by-length (yes l) =
         ap (λ (v : Reception). isReady (v .state .stage)) (after-is kind pid w s p l)
         ∙ ap isReady (row-stage (w .state) sort (rowFor (w .state) p .stage) (reading (w .state .kind) p .«relative_ts_number»))
-        ∙ ready-row (w .state .stage) sort to (sym (ap makesReady (event-is kind pid w s p l)) ∙ e)
+        ∙ ready-row (slotsOf (w .state .kind)) (w .state .stage) sort to (sym (ap makesReady (event-is kind pid w s p l)) ∙ e)
 
 -- ---- what is given with room is what any large buffer would get
 
-module _ (kind : Kind) (pid r : ℕ) (store big : List ℕ) (a : Asked r store big) where
+module _ (kind : Kind) (pid r : ℕ) (store big : List ℕ) (a : Asked kind r store big) where
   given-same : (b : Demultiplexer) (w : Reception) → Tuned kind pid b w → isReady (w .state .stage) ≡ true
       → (out : List ℕ) → readyBytes r b ≤ length out → given r out b ≡ handed r big w
   given-same b w t e out h =
@@ -199,15 +202,16 @@ module _ (kind : Kind) (pid r : ℕ) (store big : List ℕ) (a : Asked r store b
           rw (says, e) (same (ready-then kind pid w (t .set) p e) (buffers 0) (h says))
       by-event false e same h = rw (says-ready kind pid b w t p ∙ e, e)
 
--- buffers for all packets of a frame have room for every ask
-pub room-always : (kind : Kind) (pid r : ℕ) (b : Demultiplexer) (w : Reception) → Tuned kind pid b w → (buffers : ℕ → List ℕ)
-    → ((n : ℕ) → storeLength ≤ length (buffers n)) → (ps : List (List ℕ)) → WithRoom r buffers b ps
+-- buffers for all packets of a frame have room for every ask for a stream: none has more slots than the kind
+pub room-always : (kind : Kind) (pid r : ℕ) → firstStream ≤ r
+    → (b : Demultiplexer) (w : Reception) → Tuned kind pid b w → (buffers : ℕ → List ℕ)
+    → ((n : ℕ) → storeLength (slotsOf kind) ≤ length (buffers n)) → (ps : List (List ℕ)) → WithRoom r buffers b ps
 unfolding WithRoom
-room-always kind pid r b w t buffers large [] = tt
-room-always kind pid r b w t buffers large (p ∷ ps) =
+room-always kind pid r from b w t buffers large [] = tt
+room-always kind pid r from b w t buffers large (p ∷ ps) =
     let next = tuned-heard kind pid b w t p in
-    let most = for-at-most r (afterPacket w p .state .before) in (
+    let most = for-at-most r (slotsOf kind) (afterPacket w p .state .before) from (none-at (next .set .before-pass) 1) in (
       (λ _. subst (λ (l : List ℕ). packetLength * slotsFor r l ≤ length (buffers 0)) (sym (before-is kind pid (heard b p) (afterPacket w p) next))
-          (omega (arith, most, next .set .before-long, large 0))),
-      room-always kind pid r (heard b p) (afterPacket w p) next (λ n. buffers (suc n)) (λ n. large (suc n)) ps,
+          (omega (arith, most, large 0))),
+      room-always kind pid r from (heard b p) (afterPacket w p) next (λ n. buffers (suc n)) (λ n. large (suc n)) ps,
     )

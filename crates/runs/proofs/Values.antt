@@ -1,5 +1,5 @@
 -- What comes out of a receiver of what a run closed, over states as values. Assumes nothing.
-use Prim.Native.Nat.{ℕ, suc, _+_, _*_, _%_, _^_, _≤_, _<_}
+use Prim.Native.Nat.{ℕ, zero, suc, _+_, _*_, _%_, _^_, _≤_, _<_}
 use mathlib.Core.Path.{_≡_, refl, sym, ap, ap₂, subst, _∙_}
 use mathlib.Core.Bool.{Bool, true, false}
 use mathlib.Core.List.{List, [], _∷_, _++_, map, append-assoc}
@@ -7,14 +7,18 @@ use native.Mathlib.Omega.{arith}
 use lib.Dec.{lit<}
 use lib.ListN.{length, take, drop, replicate, length-append}
 use lib.Seq.{drop-at, length-take-le}
-use Rattle.bits.specs.Fields.{Fit}
-use Rattle.slices.specs.Slices.{anyBelow, someAtLeast}
+use lib.Pow.{pow-pos}
+use Rattle.bits.specs.Fields.{Fit, none as fit-none, more as fit-more}
+use Rattle.bits.proofs.Laws.{fit-drop}
 use Rattle.setting.specs.declared.Kind.{Kind}
 use Rattle.setting.specs.declared.Setting.{Setting}
 use Rattle.counters.specs.Counters.{lastSlot}
-use Rattle.setting.specs.Rules.{pidAllowed, widthChecks}
-use Rattle.setting.proofs.Refusals.{none-at}
-use Rattle.setting.proofs.Fields.{fit-some}
+use Rattle.setting.specs.Rules.{pidAllowed, numberChecks, widthChecks, ruleChecks}
+use Rattle.setting.proofs.Refusals.{none-before}
+use Rattle.setting.specs.Refusal.{NoneHolds, none as no-check, more as one-check}
+use Rattle.setting.specs.Size.{sizeOf, slotsOf, resized}
+use Rattle.setting.proofs.Fields.{some-fit, narrow}
+use Rattle.setting.proofs.Sizes.{fit-four}
 use Rattle.header_read.specs.declared.Reading.{Reading}
 use Rattle.header_layout.specs.Header.{header}
 use Rattle.header_layout.proofs.Whole.{length-header}
@@ -37,14 +41,13 @@ use Rattle.runs.proofs.Lost.{slot-behind, Counted, no-more, and-then, I
 
 -- ---- the frames of a run
 
-length-first : (f : List ℕ) → length f ≡ frameLength → length (slot 0 f) ≡ packetLength
+length-first : (f : List ℕ) (slots : ℕ) → length f ≡ frameLength slots → length (slot 0 f) ≡ packetLength
 unfolding slot
-length-first f h = length-take-le packetLength f (omega arith)
+length-first f slots h = length-take-le packetLength f (omega arith)
 
 -- a closed frame, with its header's counter
 good-frame : (kind : Kind) (pid n : ℕ) (h : Setting × Work) → pidAllowed pid ≡ true → h .0 .«continuity_counter» ≡ n → n < 2 ^ 4 → Good kind pid h
     → GoodFrame kind pid n (frameOf kind pid h)
-unfolding widthChecks
 good-frame kind pid n h e c l g =
     record {
       header = record {
@@ -52,9 +55,9 @@ good-frame kind pid n h e c l g =
         read = header-read kind pid h g;
         counter = c;
         small = l;
-        numbers-fit = fit-some 4 (h .0 .«relative_ts_number») (none-at (g .meets .fields) 7);
+        numbers-fit = fit-four kind (narrow kind (none-before (widthChecks kind (h .0)) (ruleChecks kind (h .0)) (g .meets .fields)) .numbers);
         numbers-long = g .typed .numbers .0;
-        long = length-first (frameOf kind pid h) (frame-length kind pid h g);
+        long = length-first (frameOf kind pid h) (slotsOf kind) (frame-length kind pid h g);
       };
       long = frame-length kind pid h g;
       fit = λ i q. ap (unfit pid) (slot-behind i (frameOf kind pid h)) ∙ packet-fit kind pid h g e (suc i) (omega arith) (omega arith);
@@ -140,11 +143,17 @@ in-row sent most before row (s ∷ ss) e m =
 
 -- ---- a fresh receiver
 
-zeros-fit : Fit 4 (replicate lastSlot 0)
-unfolding someAtLeast anyBelow
-zeros-fit = fit-some 4 (replicate lastSlot 0) refl
+zeros-fit : (w n : ℕ) → Fit w (replicate n 0)
+zeros-fit w zero = fit-none
+zeros-fit w (suc n) = fit-more (pow-pos w) (zeros-fit w n)
 
-pub waiting-set : (kind : Kind) (pid : ℕ) (store : List ℕ) → pidAllowed pid ≡ true → length store ≡ storeLength → Set kind pid (record { state = waiting kind pid; store = store })
+zeros-pass : (kind : Kind) → NoneHolds (numberChecks (sizeOf kind) (replicate lastSlot 0))
+zeros-pass kind =
+    let bits = sizeOf kind .«number_bits» in
+    one-check (some-fit bits (replicate lastSlot 0) (zeros-fit bits lastSlot))
+    (one-check (some-fit 0 (drop (slotsOf kind) (replicate lastSlot 0)) (fit-drop (slotsOf kind) (zeros-fit 0 lastSlot))) no-check)
+
+pub waiting-set : (kind : Kind) (pid : ℕ) (store : List ℕ) → pidAllowed pid ≡ true → length store ≡ storeLength (slotsOf kind) → Set kind pid (record { state = waiting kind pid; store = store })
 unfolding waiting
 waiting-set kind pid store e l =
     record {
@@ -152,10 +161,12 @@ waiting-set kind pid store e l =
       pid-is = refl;
       allowed = e;
       stage-is = waits;
-      numbers-fit = zeros-fit;
+      numbers-fit = zeros-fit 4 lastSlot;
       numbers-long = refl;
-      before-fit = zeros-fit;
+      numbers-pass = zeros-pass kind;
+      before-fit = zeros-fit 4 lastSlot;
       before-long = refl;
+      before-pass = zeros-pass kind;
       store-long = l;
     }
 
@@ -163,7 +174,7 @@ pub waiting-stage : (kind : Kind) (pid : ℕ) → waiting kind pid .stage ≡ St
 unfolding waiting
 waiting-stage kind pid = refl
 
-module _ (kind : Kind) (pid r : ℕ) (store out : List ℕ) (e : pidAllowed pid ≡ true) (a : Asked r store out) where
+module _ (kind : Kind) (pid r : ℕ) (store out : List ℕ) (e : pidAllowed pid ≡ true) (a : Asked kind r store out) where
   abbrev fresh : Reception
   fresh = record { state = waiting kind pid; store = store }
 
@@ -177,16 +188,18 @@ module _ (kind : Kind) (pid r : ℕ) (store out : List ℕ) (e : pidAllowed pid 
 -- a stretch of a run's frames, whatever happens to it on the way
 pub stretch-comes-out : (kind : Kind) (pid : ℕ) (calls : List Call) → pidAllowed pid ≡ true → Each OfTypes calls → (before after : List (List ℕ)) (sent : List Sent)
     → framesOf (started kind pid) calls ≡ before ++ (map (λ s. s .frame) sent ++ after) → Each (MayHappen kind pid) sent → InRow 0 sent
-    → (r : ℕ) (store out : List ℕ) → Asked r store out → handedOut r out (freshWith kind pid store) (arriving sent) ≡ wanted kind pid r sent
+    → (r : ℕ) (store out : List ℕ) → Asked kind r store out → handedOut r out (freshWith kind pid store) (arriving sent) ≡ wanted kind pid r sent
 stretch-comes-out kind pid calls e t before after sent q h row r store out a =
     let c = stretch kind pid calls e t before (map (λ s. s .frame) sent) after q in
     out-of-fresh kind pid r store out e a (c .n) sent (c .counts) h row
 
 -- ---- what was placed in a frame
 
-behind-header : (kind : Kind) (pid : ℕ) (h : Setting × Work) → drop packetLength (frameOf kind pid h) ≡ slotsFilled (h .1 .setting .«relative_ts_number») (h .1 .lent)
+behind-header : (kind : Kind) (pid : ℕ) (h : Setting × Work)
+    → drop packetLength (frameOf kind pid h) ≡ slotsFilled (resized (slotsOf kind) (h .1 .setting .«relative_ts_number»)) (h .1 .lent)
 unfolding frameOf
-behind-header kind pid h = drop-at (header kind pid (h .0)) (slotsFilled (h .1 .setting .«relative_ts_number») (h .1 .lent)) packetLength (length-header kind pid (h .0))
+behind-header kind pid h =
+    drop-at (header kind pid (h .0)) (slotsFilled (resized (slotsOf kind) (h .1 .setting .«relative_ts_number»)) (h .1 .lent)) packetLength (length-header kind pid (h .0))
 
 -- the packets numbered r of a frame that was composed
 pub placed-in-frame : (kind : Kind) (pid r : ℕ) (h : Setting × Work) → Good kind pid h → 1 ≤ r

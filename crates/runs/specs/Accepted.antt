@@ -6,6 +6,7 @@ use mathlib.Core.List.{List}
 use lib.ListN.{length}
 use Rattle.bits.specs.Fields.{Fit}
 use Rattle.counters.specs.Counters.{firstStream, lastStream, available}
+use Rattle.setting.specs.Size.{slotsOf, streamsOf}
 use Rattle.header_layout.specs.Meets.{MeetsRules}
 use Rattle.packet.specs.Packets.{packetLength, frameLength, someUnfitIn}
 use Rattle.setting_bytes.specs.Kinds.{kindOf}
@@ -29,7 +30,7 @@ reached {pid} {kind} run = afterCalls (startedAs (run .state) pid kind) (run .ca
 abbrev pub BeginsAccepted : Type 0
 BeginsAccepted =
     (pid kind : ℕ) (run : RunOfCalls pid kind) (setting frame : List ℕ)
-    → Fit 8 setting → length setting ≡ settingLength → MeetsRules (kindOf kind) pid (settingOf setting) → length frame ≡ frameLength
+    → Fit 8 setting → length setting ≡ settingLength → MeetsRules (kindOf kind) pid (settingOf setting) → length frame ≡ frameLength (slotsOf (kindOf kind))
     → beginRefused (reached run) setting frame ≡ 0
 
 -- put of fit packets for an available stream, while a frame is open
@@ -37,15 +38,15 @@ abbrev pub PutsAccepted : Type 0
 PutsAccepted =
     (pid kind : ℕ) (run : RunOfCalls pid kind) (r : ℕ) (stream frame : List ℕ)
     → composerOf (reached run) .is-open ≡ true
-    → firstStream ≤ r → r ≤ lastStream → available (composerOf (reached run) .setting .availability) r ≡ true
-    → length stream % packetLength ≡ 0 → someUnfitIn pid stream ≡ false → length frame ≡ frameLength
+    → firstStream ≤ r → r ≤ streamsOf (kindOf kind) → available (composerOf (reached run) .setting .availability) r ≡ true
+    → length stream % packetLength ≡ 0 → someUnfitIn pid stream ≡ false → length frame ≡ frameLength (slotsOf (kindOf kind))
     → putRefused (reached run) r stream frame ≡ 0
 
 -- close of an open frame
 abbrev pub ClosesAccepted : Type 0
 ClosesAccepted =
     (pid kind : ℕ) (run : RunOfCalls pid kind) (frame : List ℕ)
-    → composerOf (reached run) .is-open ≡ true → length frame ≡ frameLength
+    → composerOf (reached run) .is-open ≡ true → length frame ≡ frameLength (slotsOf (kindOf kind))
     → closeRefused (reached run) frame ≡ 0
 
 -- ---- at the receiver
@@ -55,7 +56,7 @@ pub record Reached (pid kind : ℕ) : Type 0 where
   pub state : List ℕ
   pub accepted : receiverRefused state pid kind ≡ 0
   pub store : List ℕ
-  pub store-long : length store ≡ storeLength
+  pub store-long : length store ≡ storeLength (slotsOf (kindOf kind))
   pub packets : List (List ℕ)
 
 abbrev pub reachedBy : {pid kind : ℕ} → Reached pid kind → Demultiplexer
@@ -71,6 +72,6 @@ ReceivesAccepted =
 abbrev pub HandOutsAccepted : Type 0
 HandOutsAccepted =
     (pid kind : ℕ) (c : Reached pid kind) (r : ℕ) (out : List ℕ)
-    → firstStream ≤ r → r ≤ lastStream → isReady (receiverOf (reachedBy c .state) .stage) ≡ true
+    → firstStream ≤ r → r ≤ streamsOf (kindOf kind) → isReady (receiverOf (reachedBy c .state) .stage) ≡ true
     → readyBytes r (reachedBy c) ≤ length out
     → handOutRefused (reachedBy c .state) r (reachedBy c .store) out ≡ 0

@@ -7,7 +7,8 @@ use lib.Dec.{eqb}
 use lib.ListN.{length, take}
 use Rattle.setting.specs.declared.Kind.{Kind}
 use Rattle.setting.specs.declared.Setting.{Setting}
-use Rattle.counters.specs.Counters.{firstStream, firstSlot, lastSlot}
+use Rattle.counters.specs.Counters.{firstStream, firstSlot}
+use Rattle.setting.specs.Size.{slotsOf, resized}
 use Rattle.setting.specs.Rules.{pidAllowed}
 use Rattle.header_read.specs.Reader.{readOf}
 use Rattle.packet.specs.Packets.{packetLength, frameLength, slot, unfit}
@@ -58,14 +59,14 @@ FrontsPlaced =
     (kind : Kind) (pid : ℕ) (calls : List Call) → pidAllowed pid ≡ true → Each OfTypes calls
     → Each
     (λ h. (r : ℕ) → firstStream ≤ r
-    → numbered r (h .0 .«relative_ts_number») (slotsFilled (h .1 .setting .«relative_ts_number») (h .1 .lent))
+    → numbered r (h .0 .«relative_ts_number») (slotsFilled (resized (slotsOf kind) (h .1 .setting .«relative_ts_number»)) (h .1 .lent))
     ≡ take (packetLength * slotsFor r (h .1 .setting .«relative_ts_number»)) (h .1 .lent r))
     (headedBy kind pid calls)
 
--- a closed frame is 53 packets, and none but the first lacks 0x47 or bears the header PID
+-- a closed frame is a packet for its header and one for each slot, and none but the first lacks 0x47 or bears the header PID
 abbrev pub PacketsFit : Type 0
 PacketsFit =
     (kind : Kind) (pid : ℕ) (calls : List Call) → pidAllowed pid ≡ true → Each OfTypes calls
     → Each
-    (λ f. (length f ≡ frameLength) × ((i : ℕ) → firstSlot ≤ i → i ≤ lastSlot → unfit pid (slot i f) ≡ false))
+    (λ f. (length f ≡ frameLength (slotsOf kind)) × ((i : ℕ) → firstSlot ≤ i → i ≤ slotsOf kind → unfit pid (slot i f) ≡ false))
     (framesOf (started kind pid) calls)

@@ -6,7 +6,8 @@ use mathlib.Core.Bool.{true, false}
 use mathlib.Core.List.{List, [], _∷_, _++_, map}
 use lib.ListN.{length, replicate}
 use Rattle.setting_bytes.specs.Kinds.{kindOf}
-use Rattle.counters.specs.Counters.{firstStream, lastStream, lastSlot}
+use Rattle.counters.specs.Counters.{firstStream}
+use Rattle.setting.specs.Size.{slotsOf, streamsOf}
 use Rattle.packet.specs.Packets.{packetLength}
 use Rattle.composer.specs.Calls.{startRefused}
 use Rattle.receiver.specs.Store.{storeLength}
@@ -46,9 +47,9 @@ pub record FreshAndAsked (pid kind r : ℕ) (packets : List (List ℕ)) : Type 0
   pub state : List ℕ
   pub accepted : receiverRefused state pid kind ≡ 0
   pub store : List ℕ
-  pub store-long : length store ≡ storeLength
+  pub store-long : length store ≡ storeLength (slotsOf (kindOf kind))
   pub from : firstStream ≤ r
-  pub to : r ≤ lastStream
+  pub to : r ≤ streamsOf (kindOf kind)
   pub buffers : ℕ → List ℕ
   pub room : WithRoom r buffers (tunedTo state pid kind store) packets
 
@@ -56,11 +57,13 @@ pub record FreshAndAsked (pid kind r : ℕ) (packets : List (List ℕ)) : Type 0
 abbrev pub handsOut : {pid kind r : ℕ} {packets : List (List ℕ)} → FreshAndAsked pid kind r packets → List ℕ
 handsOut {pid} {kind} {r} {packets} a = givenOut r (a .buffers) (tunedTo (a .state) pid kind (a .store)) packets
 
--- buffers for all packets of a frame always have room
+-- buffers for all packets of a frame always have room, whichever stream is asked for. (No stream has the number 0: that of slots which carry
+-- nothing, and of what stands behind the last slot)
 abbrev pub AlwaysRoom : Type 0
 AlwaysRoom =
     (pid kind r : ℕ) (state store : List ℕ) (buffers : ℕ → List ℕ) (packets : List (List ℕ))
-    → receiverRefused state pid kind ≡ 0 → length store ≡ storeLength → ((n : ℕ) → storeLength ≤ length (buffers n))
+    → receiverRefused state pid kind ≡ 0 → length store ≡ storeLength (slotsOf (kindOf kind)) → firstStream ≤ r
+    → ((n : ℕ) → storeLength (slotsOf (kindOf kind)) ≤ length (buffers n))
     → WithRoom r buffers (tunedTo state pid kind store) packets
 
 -- 'then hands out, under each number, exactly the packets of those frames that arrived entire and unspoiled with the next frame's good
@@ -83,18 +86,18 @@ SixteenFail = NothingMixed 16 → ⊥
 -- ---- demand 2: 'Placed packets, received without loss and with their run's next header behind the frame, come out packet for packet'
 
 -- a frame of which everything arrives, and one of which the header alone is awaited
-abbrev pub whole : List ℕ → Sent
-whole frame = record { frame = frame; fate = kept; arrived = replicate lastSlot true }
+abbrev pub whole : ℕ → List ℕ → Sent
+whole kind frame = record { frame = frame; fate = kept; arrived = replicate (slotsOf (kindOf kind)) true }
 
-abbrev pub headerAlone : List ℕ → Sent
-headerAlone frame = record { frame = frame; fate = kept; arrived = replicate lastSlot false }
+abbrev pub headerAlone : ℕ → List ℕ → Sent
+headerAlone kind frame = record { frame = frame; fate = kept; arrived = replicate (slotsOf (kindOf kind)) false }
 
 -- of any frame of any run, under each number, what its puts placed; and it is as many packets as they answered, summed
 abbrev pub PacketForPacket : Type 0
 PacketForPacket =
     (pid kind r : ℕ) (run : RunOfCalls pid kind) (earlier later : List Closed) (f next : Closed)
     → framesClosed run ≡ earlier ++ (f ∷ next ∷ later)
-    → (a : FreshAndAsked pid kind r (arriving (whole (f .frame) ∷ headerAlone (next .frame) ∷ [])))
+    → (a : FreshAndAsked pid kind r (arriving (whole kind (f .frame) ∷ headerAlone kind (next .frame) ∷ [])))
     → (handsOut a ≡ f .placed r) × (length (handsOut a) ≡ packetLength * f .count r)
 
 -- what was placed under number r in all frames but the last, one behind the other
@@ -108,5 +111,5 @@ placedIn r (f ∷ next ∷ fs) = f .placed r ++ placedIn r (next ∷ fs)
 abbrev pub RunForRun : Type 0
 RunForRun =
     (pid kind r : ℕ) (run : RunOfCalls pid kind)
-    → (a : FreshAndAsked pid kind r (arriving (map (λ f. whole (f .frame)) (framesClosed run))))
+    → (a : FreshAndAsked pid kind r (arriving (map (λ f. whole kind (f .frame)) (framesClosed run))))
     → handsOut a ≡ placedIn r (framesClosed run)

@@ -5,7 +5,7 @@ use mathlib.Core.Bool.{Bool, true, false, cond, _&&_}
 use mathlib.Core.List.{List, [], _∷_, _++_}
 use lib.ListN.{length, take, drop}
 use Rattle.setting.specs.declared.Kind.{Kind}
-use Rattle.counters.specs.Counters.{lastSlot}
+use Rattle.setting.specs.Size.{slotsOf}
 use Rattle.header_check.specs.Checking.{readRefusal}
 use Rattle.header_read.specs.Reader.{readOf}
 use Rattle.packet.specs.Packets.{packetLength, slot}
@@ -38,7 +38,7 @@ Refused kind pid lost = Unit {0}
 Refused kind pid (spoiled q) = (length q ≡ packetLength) × (readRefusal kind pid q ≡ 0 → ⊥)
 
 abbrev pub MayHappen : Kind → ℕ → Sent → Type 0
-MayHappen kind pid s = (length (s .arrived) ≡ lastSlot) × Refused kind pid (s .fate)
+MayHappen kind pid s = (length (s .arrived) ≡ slotsOf kind) × Refused kind pid (s .fate)
 
 -- 'never more than fifteen headers in a row lost or spoiled', with the fifteen as a parameter
 abbrev pub InARowAtMost : ℕ → List Sent → Type 0

@@ -7,6 +7,7 @@ use lib.ListN.{length, take, drop}
 use Rattle.setting.specs.declared.Kind.{Kind}
 use Rattle.setting.specs.declared.Setting.{Setting}
 use Rattle.setting.specs.Setting.{blank}
+use Rattle.setting.specs.Size.{slotsOf, resized}
 use Rattle.header_layout.specs.Header.{header}
 use Rattle.setting.specs.declared.Announced.{Announced}
 use Rattle.packet.specs.Packets.{packetLength, nullPacket}
@@ -84,4 +85,4 @@ headed (k ∷ ks) = (said 0 0 k, k) ∷ headedBehind 0 0 (announced (k .setting)
 
 -- the frame that carries it
 unfoldable pub frameOf : Kind → ℕ → Setting × Work → List ℕ
-frameOf kind pid h = header kind pid (h .0) ++ slotsFilled (h .1 .setting .«relative_ts_number») (h .1 .lent)
+frameOf kind pid h = header kind pid (h .0) ++ slotsFilled (resized (slotsOf kind) (h .1 .setting .«relative_ts_number»)) (h .1 .lent)

@@ -10,8 +10,10 @@ pub width-none : (kind : Kind) (s : Setting) → firstOf (widthChecks kind s) �
 unfolding widthChecks absentChecks
 width-none Kind.Plain s e = none-first (widthChecks Kind.Plain s) refl e
 width-none Kind.Extended s e = none-first (widthChecks Kind.Extended s) refl e
+width-none Kind.Short s e = none-first (widthChecks Kind.Short s) refl e
 
 pub rule-none : (kind : Kind) (s : Setting) → firstOf (ruleChecks kind s) ≡ 0 → NoneHolds (ruleChecks kind s)
 unfolding ruleChecks bondingChecks
 rule-none Kind.Plain s e = none-first (ruleChecks Kind.Plain s) refl e
 rule-none Kind.Extended s e = none-first (ruleChecks Kind.Extended s) refl e
+rule-none Kind.Short s e = none-first (ruleChecks Kind.Short s) refl e

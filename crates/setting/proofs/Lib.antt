@@ -1,3 +1,4 @@
 pub mod Refusals
 pub mod Checked
 pub mod Fields
+pub mod Sizes

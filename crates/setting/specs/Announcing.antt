@@ -1,12 +1,14 @@
 -- What of a header decides on the next header's version.
 use Prim.Native.Nat.{ℕ}
 use mathlib.Core.Bool.{Bool, not, _||_}
-use mathlib.Core.List.{List}
+use mathlib.Core.List.{List, _++_}
 use lib.Dec.{eqb}
 use Rattle.slices.specs.Slices.{someDiffer}
 use Rattle.setting.specs.declared.Setting.{Setting}
 use Rattle.setting.specs.Refusal.{Check}
-use Rattle.setting.specs.Rules.{informationChecks}
+use Rattle.setting.specs.declared.Kind.{Kind}
+use Rattle.setting.specs.Size.{streamsOf}
+use Rattle.setting.specs.Rules.{informationChecks, behindChecks}
 use Rattle.setting.specs.declared.Announced.{Announced}
 
 -- slot information, identifiers and control information: what raises the version where it differs
@@ -34,6 +36,7 @@ differ a b =
     || not (eqb (a .«emergency_indicator») (b .«emergency_indicator»)))))))
 
 -- 17: the numbers of the last closed header
-unfoldable pub announcedChecks : Announced → List Check
-announcedChecks a =
+unfoldable pub announcedChecks : Kind → Announced → List Check
+announcedChecks kind a =
     informationChecks (a .«slot_allocation_type») (a .«frame_type») (a .availability) (a .«receive_status») (a .«emergency_indicator»)
+    ++ behindChecks (streamsOf kind) (a .availability) (a .«ts_id») (a .«original_network_id») (a .«receive_status»)

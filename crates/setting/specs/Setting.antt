@@ -7,10 +7,11 @@ use Rattle.bits.specs.Fields.{Fit}
 use Rattle.setting.specs.declared.Setting.{Setting}
 use Rattle.counters.specs.Counters.{lastSlot, lastStream}
 
--- how many bytes of private data there are; in an extended header the first are auxiliary
+-- for how many bytes of private data there is room: as many as a short header has
 abbrev pub privateBytes : ℕ
-privateBytes = 85
+privateBytes = 131
 
+-- how many bytes of auxiliary information an extended header has
 abbrev pub auxiliaryBytes : ℕ
 auxiliaryBytes = 28
 

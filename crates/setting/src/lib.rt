@@ -1,24 +1,64 @@
 // A setting: what a header of J.183 says, the range of each field, the rules with their refusal numbers, and what decides on the next
 // header's version. The rules are definitions in specs/; the code of 17 is in setting_widths, of 8 to 11 in setting_rules.
 use counters::FramePosition;
+use counters::RelativeNumber;
 use counters::SLOTS;
 use counters::STREAMS;
+use counters::Slot;
 ghost use mathlib.Core.Path.{_≡_};
 ghost use Rattle.setting.specs.Setting.{blank};
+ghost use Rattle.setting.specs.Size.{sizeOf};
 ghost use Rattle.setting.specs.Rules.{pidAllowed};
 ghost use Rattle.setting.specs.Announcing.{announced};
 
 pub mod limits;
 
-// The bytes of the private data; in an extended header the first are auxiliary information.
-pub const PRIVATE_BYTES: usize = 85;
+// The bytes of private data that a setting has room for: as many as a short header has.
+pub const PRIVATE_BYTES: usize = 131;
 
+// The bytes of auxiliary information in an extended header.
 pub const AUXILIARY_BYTES: usize = 28;
 
-// Whether a header is plain or extended. The caller says which.
+// Whether a header is plain, extended or short. The caller says which.
 pub enum Kind {
     Plain,
     Extended,
+    Short,
+}
+
+// The size of a header and of its frame: how many slots carry packets, how many streams the header knows, the bits of a slot's number, and
+// the bytes of private data.
+pub struct Size {
+    pub slots: u8,
+    pub streams: u8,
+    pub number_bits: u8,
+    pub private_bytes: u8,
+}
+
+// The size of a kind.
+pub fn size_of(kind: Kind) -> Size
+    ensures { λ r. ⌜ r ≡ sizeOf kind ⌝ }
+{
+    match kind {
+        Kind::Plain => Size {
+            slots: Slot::LAST,
+            streams: RelativeNumber::LAST,
+            number_bits: 4,
+            private_bytes: 85,
+        },
+        Kind::Extended => Size {
+            slots: Slot::LAST,
+            streams: RelativeNumber::LAST,
+            number_bits: 4,
+            private_bytes: 0,
+        },
+        Kind::Short => Size {
+            slots: Slot::LAST_SHORT,
+            streams: RelativeNumber::LAST_SHORT,
+            number_bits: 3,
+            private_bytes: 131,
+        },
+    }
 }
 
 // Every field that a caller sets, by J.183's names. A part that the kind does not have is zeros.
@@ -27,7 +67,7 @@ pub struct Setting {
     pub version_number: u8,
     pub slot_allocation_type: u8,
     pub frame_type: u8,
-    // Fifteen bits, the highest is stream 1's; 1 means available.
+    // Fifteen bits, the highest is stream 1's, in every kind; 1 means available.
     pub availability: u16,
     pub ts_id: [u16; STREAMS],
     pub original_network_id: [u16; STREAMS],
@@ -35,7 +75,7 @@ pub struct Setting {
     pub emergency_indicator: u8,
     // The number of the stream in each slot, from slot 1 on; 0: none.
     pub relative_ts_number: [u8; SLOTS],
-    // Of a plain header.
+    // Of a plain or a short header.
     pub private_data: [u8; PRIVATE_BYTES],
     // Of an extended header.
     pub auxiliary: [u8; AUXILIARY_BYTES],

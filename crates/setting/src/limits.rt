@@ -15,10 +15,12 @@ pub const SLOT_ALLOCATION_TYPES: u8 = 2;
 
 pub const FRAME_TYPES: u8 = 16;
 
-// The frame types that a header may have: the first alone in a plain one.
+// The frame types that a header may have: the first alone in a plain one, and one of its own in a short one.
 pub const FIRST_FRAME_TYPE: u8 = 1;
 
 pub const LAST_FRAME_TYPE: u8 = 2;
+
+pub const SHORT_FRAME_TYPE: u8 = 3;
 
 pub const AVAILABILITIES: u16 = counters::AVAILABILITIES;
 

@@ -101,7 +101,7 @@ framesAt = sequenceAt + 1
 abbrev pub positionAt : ℕ
 positionAt = framesAt + 1
 
--- how many bytes it has: 252
+-- how many bytes it has: 298
 abbrev pub settingLength : ℕ
 settingLength = positionAt + 1
 

@@ -24,14 +24,17 @@ pub fn read_words(words: &mut [u16], part: &[u8])
 }
 
 // The largest number of a kind. Calls refuse any above it.
-pub const LAST_KIND: u8 = 1;
+pub const LAST_KIND: u8 = 2;
 
-// The kind of a number: 1 is extended; any other number counts as plain.
+// The kind of a number: 1 is extended, 2 is short; any other number counts as plain.
 pub fn kind_of(n: u8) -> Kind
     ensures { λ r. ⌜ r ≡ kindOf n ⌝ }
 {
     if n == 1 {
         return Kind::Extended;
+    }
+    if n == 2 {
+        return Kind::Short;
     }
     Kind::Plain
 }
@@ -42,6 +45,7 @@ pub fn kind_number(kind: Kind) -> u8
     match kind {
         Kind::Plain => 0,
         Kind::Extended => 1,
+        Kind::Short => 2,
     }
 }
 

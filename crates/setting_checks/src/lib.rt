@@ -1,11 +1,11 @@
 // The checks of a setting's widths and rules, made on its bytes as they lie.
 use counters::FramePosition;
+use counters::RelativeNumber;
 use setting::Kind;
+use setting::PRIVATE_BYTES;
 use setting::limits;
 use setting_bytes::ANNOUNCED;
 use setting_bytes::ANNOUNCED_BYTES;
-use setting_bytes::AUXILIARY;
-use setting_bytes::BONDING;
 use setting_bytes::CARRIERS;
 use setting_bytes::COUNTER;
 use setting_bytes::EMERGENCY;
@@ -19,12 +19,15 @@ use setting_bytes::SEQUENCE;
 use setting_bytes::SETTING_BYTES;
 use setting_bytes::TS_ID;
 use setting_bytes::VERSION;
+ghost use Prim.Native.Nat.{_≤_};
 ghost use mathlib.Core.Path.{_≡_};
 ghost use lib.ListN.{length};
 ghost use Rattle.setting.specs.Refusal.{firstOf, ofLength};
-ghost use Rattle.setting.specs.Rules.{widthChecks, ruleChecks};
+ghost use Rattle.setting.specs.Rules.{behindChecks, widthChecks, ruleChecks};
 ghost use Rattle.setting.specs.Announcing.{announcedChecks};
-ghost use Rattle.setting_bytes.specs.Settings.{announcedLength, settingLength, announcedOf, settingOf};
+ghost use Rattle.counters.specs.Counters.{lastStream};
+ghost use Rattle.setting_bytes.specs.Settings.{privateAt, auxiliaryAt, announcedLength, settingLength, settingFrom, announcedOf, settingOf};
+ghost use Rattle.setting_checks.specs.Absent.{bondingAbsentIn, absentIn};
 
 // Where what is announced stands in a setting.
 const FRAME_TYPE: usize = ANNOUNCED + setting_bytes::FRAME_TYPE;
@@ -43,13 +46,13 @@ const STATUSES: usize = ANNOUNCED + RECEIVE_STATUS;
 const ID_BYTES: u8 = 2;
 
 // 17 of what a header announced, and 1 where it is not 80 bytes.
-pub fn announced_refusal(bytes: &[u8]) -> u8
-    ensures { λ r. ⌜ r ≡ ofLength announcedLength (length (now (bytes .entry))) (firstOf (announcedChecks (announcedOf (now (bytes .entry))))) ⌝ }
+pub fn announced_refusal(kind: Kind, bytes: &[u8]) -> u8
+    ensures { λ r. ⌜ r ≡ ofLength announcedLength (length (now (bytes .entry))) (firstOf (announcedChecks kind (announcedOf (now (bytes .entry))))) ⌝ }
 {
     if bytes.len() != ANNOUNCED_BYTES {
         return 1;
     }
-    setting_widths::information_refusal(
+    let information = setting_widths::information_refusal(
         bytes[setting_bytes::SLOT_ALLOCATION_TYPE],
         bytes[setting_bytes::FRAME_TYPE],
         bits::word(
@@ -58,10 +61,67 @@ pub fn announced_refusal(bytes: &[u8]) -> u8
         ),
         &bytes[RECEIVE_STATUS..EMERGENCY],
         bytes[EMERGENCY],
-    )
+    );
+    if information != 0 {
+        return information;
+    }
+    let size = setting::size_of(kind);
+    behind_refusal(size.streams, bytes)
 }
 
-// 17 of a setting, and 1 where it is not 252 bytes.
+// 17 of streams behind the last one that the header knows: their bits, identifiers and statuses are zeros.
+fn behind_refusal(streams: u8, bytes: &[u8]) -> u8
+    requires { ⌜ (length (now bytes) ≡ announcedLength) × (streams ≤ lastStream) ⌝ }
+    ensures { λ r. ⌜ r ≡ firstOf (behindChecks streams (announcedOf (now (bytes .entry)) .availability) (announcedOf (now (bytes .entry)) .«ts_id») (announcedOf (now (bytes .entry)) .«original_network_id») (announcedOf (now (bytes .entry)) .«receive_status»)) ⌝ }
+{
+    let availability = bits::word(
+        bytes[setting_bytes::AVAILABILITY],
+        bytes[setting_bytes::AVAILABILITY_LOW],
+    );
+    if availability % (1u16 << ((RelativeNumber::LAST - streams) as u32)) != 0 {
+        return 17;
+    }
+    let known = streams as usize;
+    if setting_widths::some_behind(&bytes[TS_ID..ORIGINAL_NETWORK_ID], 2 * known) {
+        return 17;
+    }
+    if setting_widths::some_behind(&bytes[ORIGINAL_NETWORK_ID..RECEIVE_STATUS], 2 * known) {
+        return 17;
+    }
+    if setting_widths::some_behind(&bytes[RECEIVE_STATUS..EMERGENCY], known) {
+        return 17;
+    }
+    0
+}
+
+// 17: what only an extended header has, from the auxiliary information to the frame's position, is zeros in any other.
+fn bonding_absent_refusal(bonding: &[u8]) -> u8
+    requires { ⌜ length (now bonding) ≡ settingFrom auxiliaryAt ⌝ }
+    ensures { λ r. ⌜ r ≡ firstOf (bondingAbsentIn (now (bonding .entry))) ⌝ }
+{
+    if slices::some_at_least(bonding, 1) {
+        return 17;
+    }
+    0
+}
+
+// 17: a part that the kind does not have holds zeros alone. Private data behind its last byte, and what only an extended header has.
+fn absent_refusal(kind: Kind, rest: &[u8]) -> u8
+    requires { ⌜ length (now rest) ≡ settingFrom privateAt ⌝ }
+    ensures { λ r. ⌜ r ≡ firstOf (absentIn kind (now (rest .entry))) ⌝ }
+{
+    let size = setting::size_of(kind);
+    if setting_widths::some_behind(&rest[0..PRIVATE_BYTES], size.private_bytes as usize) {
+        return 17;
+    }
+    match kind {
+        Kind::Plain => bonding_absent_refusal(&rest[PRIVATE_BYTES..SETTING_BYTES - PRIVATE]),
+        Kind::Short => bonding_absent_refusal(&rest[PRIVATE_BYTES..SETTING_BYTES - PRIVATE]),
+        Kind::Extended => 0,
+    }
+}
+
+// 17 of a setting, and 1 where it is not 298 bytes.
 pub fn width_refusal(kind: Kind, bytes: &[u8]) -> u8
     ensures { λ r. ⌜ r ≡ ofLength settingLength (length (now (bytes .entry))) (firstOf (widthChecks kind (settingOf (now (bytes .entry))))) ⌝ }
 {
@@ -74,26 +134,21 @@ pub fn width_refusal(kind: Kind, bytes: &[u8]) -> u8
     if limits::VERSIONS <= bytes[VERSION] {
         return 17;
     }
-    let announced = announced_refusal(&bytes[ANNOUNCED..NUMBERS]);
+    let announced = announced_refusal(kind, &bytes[ANNOUNCED..NUMBERS]);
     if announced != 0 {
         return announced;
     }
-    if slices::some_at_least(&bytes[NUMBERS..PRIVATE], limits::NUMBERS) {
+    let size = setting::size_of(kind);
+    if slices::some_at_least(&bytes[NUMBERS..PRIVATE], size.streams + 1) {
         return 17;
     }
-    setting_widths::absent_refusal(
-        kind,
-        &bytes[PRIVATE..AUXILIARY],
-        &bytes[AUXILIARY..BONDING],
-        bytes[BONDING],
-        bytes[CARRIERS],
-        bytes[SEQUENCE],
-        bytes[FRAMES],
-        FramePosition(bytes[POSITION]),
-    )
+    if setting_widths::some_behind(&bytes[NUMBERS..PRIVATE], size.slots as usize) {
+        return 17;
+    }
+    absent_refusal(kind, &bytes[PRIVATE..SETTING_BYTES])
 }
 
-// 8 to 11 of a setting, and 1 where it is not 252 bytes.
+// 8 to 11 of a setting, and 1 where it is not 298 bytes.
 pub fn rule_refusal(kind: Kind, bytes: &[u8]) -> u8
     ensures { λ r. ⌜ r ≡ ofLength settingLength (length (now (bytes .entry))) (firstOf (ruleChecks kind (settingOf (now (bytes .entry))))) ⌝ }
 {

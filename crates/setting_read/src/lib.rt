@@ -65,7 +65,7 @@ pub fn announced_of(bytes: &[u8]) -> Announced
     }
 }
 
-// A setting from its 252 bytes. Bytes of another length count as zeros.
+// A setting from its 298 bytes. Bytes of another length count as zeros.
 pub fn setting_of(bytes: &[u8]) -> Setting
     ensures { λ r. ⌜ r ≡ settingOf (now (bytes .entry)) ⌝ }
 {

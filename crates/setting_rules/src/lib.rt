@@ -3,10 +3,9 @@ use counters::FramePosition;
 use setting::Kind;
 use setting::limits;
 ghost use mathlib.Core.Path.{_≡_};
-ghost use lib.Dec.{eqb};
 ghost use Rattle.counters.specs.Counters.{within};
 ghost use Rattle.setting.specs.Refusal.{firstOf};
-ghost use Rattle.setting.specs.Rules.{byKind, bondingChecks};
+ghost use Rattle.setting.specs.Rules.{typeAllowed, bondingChecks};
 
 // 11: the bonding fields of an extended header.
 pub fn bonding_refusal(
@@ -20,6 +19,7 @@ pub fn bonding_refusal(
 {
     match kind {
         Kind::Plain => 0,
+        Kind::Short => 0,
         Kind::Extended => {
             if !is_within(
                 limits::FIRST_CARRIER,
@@ -53,7 +53,7 @@ fn is_within(first: u8, last: u8, n: u8) -> bool
 
 // 8: whether a header of this kind may have the frame type.
 pub fn frame_type_allowed(kind: Kind, frame_type: u8) -> bool
-    ensures { λ r. ⌜ r ≡ byKind kind (eqb «frame_type» 1) (within 1 2 «frame_type») ⌝ }
+    ensures { λ r. ⌜ r ≡ typeAllowed kind «frame_type» ⌝ }
 {
     match kind {
         Kind::Plain => frame_type == limits::FIRST_FRAME_TYPE,
@@ -62,5 +62,6 @@ pub fn frame_type_allowed(kind: Kind, frame_type: u8) -> bool
             limits::LAST_FRAME_TYPE,
             frame_type,
         ),
+        Kind::Short => frame_type == limits::SHORT_FRAME_TYPE,
     }
 }

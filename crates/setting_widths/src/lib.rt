@@ -1,11 +1,8 @@
-// The rule of 17, part by part: a field too large for its bits, or one that the kind does not have.
-use counters::FramePosition;
-use setting::Kind;
+// The rule of 17, part by part: a field too large for its bits, or one that the size does not reach.
 use setting::limits;
 ghost use mathlib.Core.Path.{_≡_};
-ghost use mathlib.Core.List.{[]};
 ghost use Rattle.setting.specs.Refusal.{firstOf};
-ghost use Rattle.setting.specs.Rules.{absentChecks, informationChecks};
+ghost use Rattle.setting.specs.Rules.{someBehind, informationChecks};
 
 // 17: slot and control information too large for its bits.
 pub fn information_refusal(
@@ -35,65 +32,12 @@ pub fn information_refusal(
     0
 }
 
-// 17: a part that the kind does not have holds zeros alone.
-pub fn absent_refusal(
-    kind: Kind,
-    private_data: &[u8],
-    auxiliary: &[u8],
-    group_id: u8,
-    number_of_carriers: u8,
-    carrier_sequence: u8,
-    number_of_frames: u8,
-    frame_position: FramePosition,
-) -> u8
-    ensures { λ r. ⌜ r ≡ firstOf (absentChecks kind (now («private_data» .entry)) (now (auxiliary .entry)) «group_id» «number_of_carriers» «carrier_sequence» «number_of_frames» («frame_position» .0)) ⌝ }
+// Whether a part has more than zeros behind its first n bytes.
+pub fn some_behind(part: &[u8], n: usize) -> bool
+    ensures { λ r. ⌜ r ≡ someBehind n (now (part .entry)) ⌝ }
 {
-    match kind {
-        Kind::Plain => plain_absent_refusal(
-            auxiliary,
-            group_id,
-            number_of_carriers,
-            carrier_sequence,
-            number_of_frames,
-            frame_position,
-        ),
-        Kind::Extended => {
-            if slices::some_at_least(private_data, 1) {
-                return 17;
-            }
-            0
-        }
+    if part.len() <= n {
+        return false;
     }
-}
-
-// A plain header has private data, so they are not asked about.
-fn plain_absent_refusal(
-    auxiliary: &[u8],
-    group_id: u8,
-    number_of_carriers: u8,
-    carrier_sequence: u8,
-    number_of_frames: u8,
-    frame_position: FramePosition,
-) -> u8
-    ensures { λ r. ⌜ r ≡ firstOf (absentChecks Kind.Plain [] (now (auxiliary .entry)) «group_id» «number_of_carriers» «carrier_sequence» «number_of_frames» («frame_position» .0)) ⌝ }
-{
-    if slices::some_at_least(auxiliary, 1) {
-        return 17;
-    }
-    if 1 <= group_id {
-        return 17;
-    }
-    if 1 <= number_of_carriers {
-        return 17;
-    }
-    if 1 <= carrier_sequence {
-        return 17;
-    }
-    if 1 <= number_of_frames {
-        return 17;
-    }
-    if 1 <= frame_position.0 {
-        return 17;
-    }
-    0
+    slices::some_at_least(&part[n..], 1)
 }

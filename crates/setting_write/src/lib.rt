@@ -111,7 +111,7 @@ fn write_back(part: &mut [u8], s: Setting)
     part[POSITION] = position.0;
 }
 
-// Writes a setting into the lent 252 bytes; bytes of any other length stay.
+// Writes a setting into the lent 298 bytes; bytes of any other length stay.
 pub fn write_setting(bytes: &mut [u8], s: Setting)
     ensures { λ _. ⌜ now (bytes .exit) ≡ cond (eqb (length (now (bytes .entry))) settingLength) (settingBytes s) (now (bytes .entry)) ⌝ }
 {

@@ -9,7 +9,7 @@ abbrev pub mostFrames : ℕ
 mostFrames = lastCarrier * lastPosition
 
 abbrev pub groupLength : ℕ
-groupLength = frameLength * mostFrames
+groupLength = frameLength lastSlot * mostFrames
 
 abbrev pub streamLength : ℕ
 streamLength = packetLength * lastSlot * mostFrames
@@ -20,11 +20,11 @@ blockLength = packetLength * 340
 
 -- what unbond keeps for each carrier: the receiver's state, a block of as many packets as a frame has, and a super frame
 abbrev pub partLength : ℕ
-partLength = receiverLength + frameLength + frameLength * lastPosition
+partLength = receiverLength + frameLength lastSlot + frameLength lastSlot * lastPosition
 
 -- its two buffers: one for the group and a frame for each carrier, the other for the stream and what it keeps for each carrier
 abbrev pub framesLength : ℕ
-framesLength = groupLength + frameLength * lastCarrier
+framesLength = groupLength + frameLength lastSlot * lastCarrier
 
 abbrev pub partsLength : ℕ
 partsLength = streamLength + partLength * lastCarrier

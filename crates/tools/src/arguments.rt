@@ -26,6 +26,13 @@ pub(crate) fn word(i: usize, buffer: &mut [u8]) -> usize
     os::arg(i, buffer)
 }
 
+// Whether argument i is the option that asks for short frames.
+pub(crate) fn is_short(i: usize) -> bool {
+    let mut buffer = io::buffer();
+    let n = word(i, &mut buffer);
+    same(&buffer[0..n], b"--short")
+}
+
 // A number, or none.
 pub(crate) enum Number {
     Is(u32),

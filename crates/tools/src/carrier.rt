@@ -157,7 +157,7 @@ fn with_header(c: Carrier, packet: &[u8], pid: u16) -> Carrier {
 
 // Copies a frame that became ready to its position in the super frame.
 fn put_frame(part: &mut [u8], position: FramePosition, frame: &[u8])
-    requires { ⌜ (length (now part) ≡ partLength) × (length (now frame) ≡ frameLength) ⌝ }
+    requires { ⌜ (length (now part) ≡ partLength) × (length (now frame) ≡ frameLength lastSlot) ⌝ }
     requires { ⌜ (1 ≤ position .0) × (position .0 ≤ lastPosition) ⌝ }
 {
     let at = SUPER_AT + FRAME_BYTES * (position.0 - FramePosition::FIRST) as usize;
@@ -166,7 +166,7 @@ fn put_frame(part: &mut [u8], position: FramePosition, frame: &[u8])
 
 // Keeps a frame that became ready, if it belongs to the wanted super frame.
 fn keep(c: Carrier, want: u64, part: &mut [u8], frame: &[u8]) -> Carrier
-    requires { ⌜ (length (now part) ≡ partLength) × (length (now frame) ≡ frameLength) ⌝ }
+    requires { ⌜ (length (now part) ≡ partLength) × (length (now frame) ≡ frameLength lastSlot) ⌝ }
 {
     if super_of(c.place, c.frames) != want {
         return c;
@@ -179,7 +179,7 @@ fn keep(c: Carrier, want: u64, part: &mut [u8], frame: &[u8]) -> Carrier
 }
 
 fn keep_ready(c: Carrier, event: u8, want: u64, part: &mut [u8], frame: &[u8]) -> Carrier
-    requires { ⌜ (length (now part) ≡ partLength) × (length (now frame) ≡ frameLength) ⌝ }
+    requires { ⌜ (length (now part) ≡ partLength) × (length (now frame) ≡ frameLength lastSlot) ⌝ }
 {
     if event == events::READY {
         return keep(c, want, part, frame);
@@ -188,7 +188,7 @@ fn keep_ready(c: Carrier, event: u8, want: u64, part: &mut [u8], frame: &[u8]) -
 }
 
 fn receive(frame: &mut [u8], part: &mut [u8], packet: &[u8]) -> u8
-    requires { ⌜ (length (now frame) ≡ frameLength) × (length (now part) ≡ partLength) ⌝ }
+    requires { ⌜ (length (now frame) ≡ frameLength lastSlot) × (length (now part) ≡ partLength) ⌝ }
 {
     let mut event = events::NOTHING;
     receiver_receive::niranbok_receiver_receive(
@@ -202,7 +202,7 @@ fn receive(frame: &mut [u8], part: &mut [u8], packet: &[u8]) -> u8
 
 // If the packet opened a frame, keeps it as that frame's header.
 fn hold(c: Carrier, event: u8, packet: &[u8], frame: &mut [u8], pid: u16) -> Carrier
-    requires { ⌜ length (now frame) ≡ frameLength ⌝ }
+    requires { ⌜ length (now frame) ≡ frameLength lastSlot ⌝ }
 {
     if tally::opens(event) {
         slices::copy(&mut frame[0..PACKET_BYTES], packet);
@@ -229,7 +229,7 @@ fn take(
     frame: &mut [u8],
     part: &mut [u8],
 ) -> Carrier
-    requires { ⌜ (length (now frame) ≡ frameLength) × (length (now part) ≡ partLength) ⌝ }
+    requires { ⌜ (length (now frame) ≡ frameLength lastSlot) × (length (now part) ≡ partLength) ⌝ }
 {
     let event = receive(frame, part, packet);
     let one = keep_ready(counted(c, event), event, want, part, frame);
@@ -262,7 +262,7 @@ fn next_at(c: Carrier) -> usize
 
 // Takes the next packet of the block. It is copied first, since the receiver's state stands in the same buffer and is changed.
 fn take_next(c: Carrier, want: u64, pid: u16, frame: &mut [u8], part: &mut [u8]) -> Carrier
-    requires { ⌜ (length (now frame) ≡ frameLength) × (length (now part) ≡ partLength) ⌝ }
+    requires { ⌜ (length (now frame) ≡ frameLength lastSlot) × (length (now part) ≡ partLength) ⌝ }
 {
     let at = next_at(c);
     let mut packet = [0u8; PACKET_BYTES];
@@ -272,7 +272,7 @@ fn take_next(c: Carrier, want: u64, pid: u16, frame: &mut [u8], part: &mut [u8])
 
 // Takes the next packet of the block, or reads another block if none is left.
 fn step(c: Carrier, want: u64, pid: u16, frame: &mut [u8], part: &mut [u8]) -> Carrier
-    requires { ⌜ (length (now frame) ≡ frameLength) × (length (now part) ≡ partLength) ⌝ }
+    requires { ⌜ (length (now frame) ≡ frameLength lastSlot) × (length (now part) ≡ partLength) ⌝ }
 {
     if c.taken < c.packets {
         return take_next(c, want, pid, frame, part);
@@ -282,7 +282,7 @@ fn step(c: Carrier, want: u64, pid: u16, frame: &mut [u8], part: &mut [u8]) -> C
 
 // Reads on until a super frame behind the one with this number has begun, or the input has ended.
 pub(crate) fn read_on(c: Carrier, want: u64, pid: u16, frame: &mut [u8], part: &mut [u8]) -> Carrier
-    requires { ⌜ (length (now frame) ≡ frameLength) × (length (now part) ≡ partLength) ⌝ }
+    requires { ⌜ (length (now frame) ≡ frameLength lastSlot) × (length (now part) ≡ partLength) ⌝ }
 {
     let mut next = c;
     next.have = 0;

@@ -4,6 +4,7 @@ use crate::arguments::Number;
 use crate::input;
 use crate::says;
 use crate::settings;
+use crate::sizes;
 use crate::tally;
 use crate::tally::Tally;
 use counters::RelativeNumber;
@@ -21,7 +22,7 @@ use setting::Setting;
 ghost use mathlib.Core.Path.{_≡_};
 ghost use Prim.Native.Nat.{_≤_, _<_};
 ghost use lib.ListN.{length};
-ghost use Rattle.counters.specs.Counters.{lastStream};
+ghost use Rattle.counters.specs.Counters.{lastSlot, lastStream};
 ghost use Rattle.receiver.specs.Store.{storeLength};
 ghost use Rattle.tools.specs.Sizes.{blockLength};
 
@@ -32,7 +33,7 @@ const BLOCK_BYTES: usize = PACKET_BYTES * BLOCK_PACKETS;
 
 fn usage() {
     says::text(
-        b"usage: demux PID STREAM [FILE] > STREAM; STREAM is a number from 1 to 15, or TS_ID:NETWORK_ID\n",
+        b"usage: demux [--short] PID STREAM [FILE] > STREAM; STREAM is a number from 1 to 15, with --short from 1 to 7, or TS_ID:NETWORK_ID\n",
     );
 }
 
@@ -41,6 +42,13 @@ enum Choice {
     Number(RelativeNumber),
     Pair(u16, u16),
     None,
+}
+
+// What is asked for: the PID and the kind of the headers, and the stream.
+struct Asked {
+    pid: u16,
+    kind: Kind,
+    choice: Choice,
 }
 
 // Where the ':' stands, or the length if there is none.
@@ -69,41 +77,37 @@ fn choose_pair(ts_id: &[u8], network_id: &[u8]) -> Choice {
     Choice::Pair(arguments::low(ts), arguments::low(network))
 }
 
-// A text as a stream's number.
-fn number_of(text: &[u8]) -> RelativeNumberAnswer {
-    let Number::Is(n) = arguments::within(text, 0, 255) else {
+// A text as the number of one of so many streams.
+fn number_of(text: &[u8], last: u32) -> RelativeNumberAnswer {
+    let Number::Is(n) = arguments::within(text, RelativeNumber::FIRST as u32, last) else {
         return RelativeNumberAnswer::Refused(17);
     };
     RelativeNumber::new((n % 256) as u8)
 }
 
-fn choose_number(text: &[u8]) -> Choice {
-    match number_of(text) {
+fn choose_number(text: &[u8], last: u32) -> Choice {
+    match number_of(text, last) {
         RelativeNumberAnswer::Is(r) => Choice::Number(r),
         RelativeNumberAnswer::Refused(refusal) => {
-            says::range(
-                b"STREAM",
-                RelativeNumber::FIRST as u32,
-                RelativeNumber::LAST as u32,
-                refusal,
-            );
+            says::range(b"STREAM", RelativeNumber::FIRST as u32, last, refusal);
             Choice::None
         }
     }
 }
 
-fn choose(text: &[u8]) -> Choice {
+fn choose(text: &[u8], last: u32) -> Choice {
     let at = colon(text);
     if at < text.len() {
         return choose_pair(&text[0..at], &text[at + 1..]);
     }
-    choose_number(text)
+    choose_number(text, last)
 }
 
-fn chosen_at(i: usize) -> Choice {
+// The stream that argument i names, in headers of this kind.
+fn chosen_at(i: usize, kind: Kind) -> Choice {
     let mut word = io::buffer();
     let n = arguments::word(i, &mut word);
-    choose(&word[0..n])
+    choose(&word[0..n], sizes::streams_of(kind) as u32)
 }
 
 // Whether stream r of the setting is the one with these identifiers.
@@ -150,14 +154,16 @@ struct Link {
 }
 
 // The stream's number in the frame that the packet opened. If it opened none, the number stays.
-fn number_after(event: u8, packet: &[u8], pid: u16, choice: Choice, number: Known) -> Known {
+fn number_after(event: u8, packet: &[u8], asked: Asked, number: Known) -> Known {
+    let choice = asked.choice;
+    let kind = asked.kind;
     match choice {
         Choice::Number(r) => Known::As(r),
         Choice::Pair(ts_id, network_id) => {
             if !tally::opens(event) {
                 return number;
             }
-            let said = header_codec::read(packet, pid, Kind::Plain).setting;
+            let said = header_codec::read(packet, asked.pid, kind).setting;
             number_in(said, ts_id, network_id)
         }
         Choice::None => Known::Not,
@@ -166,7 +172,7 @@ fn number_after(event: u8, packet: &[u8], pid: u16, choice: Choice, number: Know
 
 // Writes the packets that were handed out.
 fn write_packets(out: &[u8], packets: usize) -> bool
-    requires { ⌜ length (now out) ≡ storeLength ⌝ }
+    requires { ⌜ length (now out) ≡ storeLength lastSlot ⌝ }
 {
     if SLOTS < packets {
         return false;
@@ -215,14 +221,7 @@ fn after_event(link: Link, event: u8, state: &[u8], store: &[u8]) -> Link {
 }
 
 // Takes one packet.
-fn take(
-    link: Link,
-    packet: &[u8],
-    state: &mut [u8],
-    store: &mut [u8],
-    pid: u16,
-    choice: Choice,
-) -> Link {
+fn take(link: Link, packet: &[u8], state: &mut [u8], store: &mut [u8], asked: Asked) -> Link {
     let mut event = events::NOTHING;
     receiver_receive::niranbok_receiver_receive(state, packet, store, &mut event);
     let before = link.tally;
@@ -235,28 +234,21 @@ fn take(
     let next = after_event(counted, event, state, store);
     let after = next.tally;
     Link {
-        number: number_after(event, packet, pid, choice, number),
+        number: number_after(event, packet, asked, number),
         tally: after,
         taken: next.taken,
     }
 }
 
 // Takes the packets of a block, one after another.
-fn take_block(
-    link: Link,
-    block: &[u8],
-    state: &mut [u8],
-    store: &mut [u8],
-    pid: u16,
-    choice: Choice,
-) -> Link {
+fn take_block(link: Link, block: &[u8], state: &mut [u8], store: &mut [u8], asked: Asked) -> Link {
     let packets = block.len() / PACKET_BYTES;
     let mut next = link;
     let mut i = 0;
     while i < packets {
         let at = PACKET_BYTES * i;
         let packet = &block[at..at + PACKET_BYTES];
-        next = take(next, packet, state, store, pid, choice);
+        next = take(next, packet, state, store, asked);
         if !next.taken {
             return next;
         }
@@ -279,8 +271,7 @@ fn take_all(
     block: &mut [u8],
     state: &mut [u8],
     store: &mut [u8],
-    pid: u16,
-    choice: Choice,
+    asked: Asked,
     link: Link,
 ) -> Link
     requires { ⌜ length (now block) ≡ blockLength ⌝ }
@@ -289,7 +280,7 @@ fn take_all(
     let mut blocks: u64 = 0;
     while blocks < u64::MAX {
         let got = input::read_block(fd, block);
-        next = take_block(next, &block[0..got], state, store, pid, choice);
+        next = take_block(next, &block[0..got], state, store, asked);
         if !next.taken {
             return next;
         }
@@ -302,24 +293,34 @@ fn take_all(
     next
 }
 
-fn demux(fd: i32, pid: u16, choice: Choice) {
+fn demux(fd: i32, asked: Asked) {
     if !input::is_cut(fd) {
         return;
     }
+    let pid = asked.pid;
+    let kind = asked.kind;
     let mut block = [0u8; BLOCK_BYTES];
     let mut state = [0u8; RECEIVER_BYTES];
     let mut store = [0u8; STORE_BYTES];
-    receiver_start::niranbok_receiver_start(&mut state, pid, 0);
-    let end = take_all(fd, &mut block, &mut state, &mut store, pid, choice, start());
-    tally::say(end.tally, pid);
+    let end = PACKET_BYTES * sizes::slots_of(kind);
+    receiver_start::niranbok_receiver_start(&mut state, pid, setting_bytes::kind_number(kind));
+    let last = take_all(
+        fd,
+        &mut block,
+        &mut state,
+        &mut store[0..end],
+        asked,
+        start(),
+    );
+    tally::say(last.tally, pid);
 }
 
-fn run_chosen(fd: i32, pid: u16, i: usize) {
-    let choice = chosen_at(i);
+fn run_chosen(fd: i32, pid: u16, kind: Kind, i: usize) {
+    let choice = chosen_at(i, kind);
     if let Choice::None = choice {
         return;
     }
-    demux(fd, pid, choice);
+    demux(fd, Asked { pid, kind, choice });
 }
 
 // The input: the file that argument i names, or standard input if there is no such argument.
@@ -330,8 +331,8 @@ fn source(i: usize) -> i32 {
     STDIN_FILENO
 }
 
-pub(crate) fn run(first: usize)
-    requires { ⌜ first ≤ 2 ⌝ }
+fn run_kind(kind: Kind, first: usize)
+    requires { ⌜ first ≤ 3 ⌝ }
 {
     let count = os::arg_count();
     if count < first + 2 {
@@ -350,5 +351,16 @@ pub(crate) fn run(first: usize)
     if fd < 0 {
         return;
     }
-    run_chosen(fd, pid, first + 1);
+    run_chosen(fd, pid, kind, first + 1);
+}
+
+// The option, if it is there, stands in front of the other arguments.
+pub(crate) fn run(first: usize)
+    requires { ⌜ first ≤ 2 ⌝ }
+{
+    if arguments::is_short(first) {
+        run_kind(Kind::Short, first + 1);
+        return;
+    }
+    run_kind(Kind::Plain, first);
 }

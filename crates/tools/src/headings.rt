@@ -35,7 +35,7 @@ fn plan_of(slots: u8) -> [u8; SLOTS]
     let n = carriers::at_most(slots as usize, SLOTS);
     shares[1] = n as u32;
     shares[0] = (SLOTS - n) as u32;
-    plan::numbers(&shares)
+    plan::numbers(&shares, SLOTS)
 }
 
 // The counter of a frame in the super frame with this number: the run's first header has 0.

@@ -13,6 +13,7 @@ mod nulls;
 mod plan;
 mod says;
 mod settings;
+mod sizes;
 mod tally;
 mod unbonding;
 

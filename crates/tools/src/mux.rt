@@ -7,6 +7,7 @@ use crate::plan;
 use crate::plan::SHARES;
 use crate::says;
 use crate::settings;
+use crate::sizes;
 use composer::COMPOSER_BYTES;
 use counters::RelativeNumber;
 use counters::SLOTS;
@@ -16,14 +17,16 @@ use libc::STDOUT_FILENO;
 use packet::FRAME_BYTES;
 use packet::PACKET_BYTES;
 use receiver::STORE_BYTES;
+use setting::Kind;
 use setting::Setting;
+use setting::limits;
 use setting_bytes::SETTING_BYTES;
 ghost use mathlib.Core.Path.{_≡_};
 ghost use Prim.Native.Nat.{_+_, _≤_, _<_};
 ghost use lib.ListN.{length};
 ghost use Rattle.io.specs.Counts.{Counts};
-ghost use Rattle.counters.specs.Counters.{lastStream};
-ghost use Rattle.packet.specs.Packets.{frameLength};
+ghost use Rattle.counters.specs.Counters.{lastSlot, lastStream};
+ghost use Rattle.packet.specs.Packets.{packetLength, frameLength};
 ghost use Rattle.receiver.specs.Store.{storeLength};
 
 // The arguments of each stream: SLOTS, TS_ID, NETWORK_ID and FILE.
@@ -31,7 +34,7 @@ const WORDS: usize = 4;
 
 fn usage() {
     says::text(
-        b"usage: mux PID SLOTS TS_ID NETWORK_ID FILE [SLOTS TS_ID NETWORK_ID FILE].. > FRAMES\n",
+        b"usage: mux [--short] PID SLOTS TS_ID NETWORK_ID FILE [SLOTS TS_ID NETWORK_ID FILE].. > FRAMES\n",
     );
 }
 
@@ -48,10 +51,12 @@ fn out_of_range(r: RelativeNumber, field: &[u8], first: u32, last: u32) {
     says::range(field, first, last, 17);
 }
 
-// Argument i, the number of slots of stream r. If it is out of range, says so and answers 0.
-fn slots_at(i: usize, r: RelativeNumber) -> u32 {
+// Argument i, the number of slots of stream r, of all that a frame has. If it is out of range, says so and answers 0.
+fn slots_at(i: usize, r: RelativeNumber, all: usize) -> u32
+    requires { ⌜ all ≤ lastSlot ⌝ }
+{
     let first = Slot::FIRST as u32;
-    let last = Slot::LAST as u32;
+    let last = all as u32;
     let Number::Is(n) = arguments::number_at(i, first, last) else {
         out_of_range(r, b"SLOTS", first, last);
         return 0;
@@ -89,12 +94,12 @@ fn not_good(given: Given) -> Given {
     }
 }
 
-// Adds stream r, whose arguments start at argument i.
-fn with_words(given: Given, i: usize, r: RelativeNumber) -> Given
+// Adds stream r, whose arguments start at argument i. A frame has so many slots.
+fn with_words(given: Given, i: usize, r: RelativeNumber, all: usize) -> Given
     requires { ⌜ (1 ≤ r .0) × (r .0 ≤ lastStream) ⌝ }
-    requires { ⌜ i ≤ 1000 ⌝ }
+    requires { ⌜ (i ≤ 1000) × (all ≤ lastSlot) ⌝ }
 {
-    let n = slots_at(i, r);
+    let n = slots_at(i, r, all);
     let Number::Is(ts_id) = arguments::number_at(i + 1, 0, 65535) else {
         out_of_range(r, b"TS_ID", 0, 65535);
         return not_good(given);
@@ -106,8 +111,9 @@ fn with_words(given: Given, i: usize, r: RelativeNumber) -> Given
     with_slots(given, r, n, ts_id, network_id)
 }
 
-fn read_streams(first: usize, streams: usize) -> Given
-    requires { ⌜ (first ≤ 3) × (streams ≤ lastStream) ⌝ }
+fn read_streams(first: usize, streams: usize, all: usize) -> Given
+    requires { ⌜ (first ≤ 4) × (streams ≤ lastStream) ⌝ }
+    requires { ⌜ all ≤ lastSlot ⌝ }
 {
     let mut given = Given {
         good: true,
@@ -117,7 +123,7 @@ fn read_streams(first: usize, streams: usize) -> Given
     let mut k = 0;
     while k < streams {
         let r = settings::stream_at(k);
-        given = with_words(given, first + WORDS * k, r);
+        given = with_words(given, first + WORDS * k, r, all);
         k += 1;
     }
     given
@@ -133,18 +139,27 @@ fn sum(slots: &[u32]) -> u32 {
     n
 }
 
-// Adds the plan to the setting. Streams that together need more slots than a frame has are refused.
-fn with_plan(given: Given) -> Given {
+// The frame type of a run's headers.
+fn frame_type(kind: Kind) -> u8 {
+    if let Kind::Short = kind {
+        return limits::SHORT_FRAME_TYPE;
+    }
+    limits::FIRST_FRAME_TYPE
+}
+
+// Adds the frame type and the plan to the setting. Streams that together need more slots than a frame has are refused.
+fn with_plan(given: Given, kind: Kind) -> Given {
+    let all = sizes::slots_of(kind);
     let mut slots = given.slots;
     let asked = sum(&slots);
-    if (SLOTS as u32) < asked {
-        says::range(b"SLOTS of all streams together", 1, SLOTS as u32, 17);
+    if (all as u32) < asked {
+        says::range(b"SLOTS of all streams together", 1, all as u32, 17);
         return not_good(given);
     }
-    slots[0] = SLOTS as u32 - asked;
+    slots[0] = all as u32 - asked;
     let mut setting = given.setting;
-    setting.frame_type = 1;
-    let numbers = plan::numbers(&slots);
+    setting.frame_type = frame_type(kind);
+    let numbers = plan::numbers(&slots, all);
     setting.relative_ts_number = numbers;
     Given {
         good: given.good,
@@ -155,7 +170,7 @@ fn with_plan(given: Given) -> Given {
 
 // Opens the streams' files. Answers whether all were opened.
 fn open_all(fds: &mut [i32], first: usize, streams: usize) -> bool
-    requires { ⌜ (first ≤ 3) × (streams ≤ length (now fds)) ⌝ }
+    requires { ⌜ (first ≤ 4) × (streams ≤ length (now fds)) ⌝ }
     requires { ⌜ length (now fds) ≡ lastStream ⌝ }
 {
     let mut k = 0;
@@ -178,7 +193,7 @@ struct Filled {
 
 // Reads as many packets as there are slots, or all that are left. Answers the bytes of the whole packets.
 fn read_packets(fd: i32, bytes: &mut [u8], slots: u32, r: RelativeNumber) -> usize
-    requires { ⌜ length (now bytes) ≡ storeLength ⌝ }
+    requires { ⌜ length (now bytes) ≡ storeLength lastSlot ⌝ }
     ensures { λ t. ⌜ Counts t (now (bytes .exit)) ⌝ }
 {
     let most = carriers::at_most(slots as usize, SLOTS);
@@ -256,7 +271,7 @@ fn write(bytes: &[u8]) -> bool {
 
 // Writes a frame. If no stream had packets for it, writes only its header, which vouches for the frame before. Answers whether to go on.
 fn write_frame(frame: &[u8], packets: usize) -> bool
-    requires { ⌜ length (now frame) ≡ frameLength ⌝ }
+    requires { ⌜ packetLength ≤ length (now frame) ⌝ }
 {
     if packets == 0 {
         write(&frame[0..PACKET_BYTES]);
@@ -266,7 +281,7 @@ fn write_frame(frame: &[u8], packets: usize) -> bool
 }
 
 fn close_frame(state: &mut [u8], frame: &mut [u8], packets: usize) -> bool
-    requires { ⌜ length (now frame) ≡ frameLength ⌝ }
+    requires { ⌜ packetLength ≤ length (now frame) ⌝ }
 {
     let refusal = composer_close::niranbok_composer_close(state, frame);
     if refusal != 0 {
@@ -284,7 +299,7 @@ fn finish_frame(
     streams: usize,
 ) -> bool
     requires { ⌜ (length (now fds) ≡ lastStream) × (length (now slots) ≡ lastStream + 1) ⌝ }
-    requires { ⌜ (streams ≤ lastStream) × (length (now frame) ≡ frameLength) ⌝ }
+    requires { ⌜ (streams ≤ lastStream) × (packetLength ≤ length (now frame)) ⌝ }
 {
     let filled = fill(state, frame, fds, slots, streams);
     if filled.refusal != 0 {
@@ -303,7 +318,7 @@ fn make_frame(
     streams: usize,
 ) -> bool
     requires { ⌜ (length (now fds) ≡ lastStream) × (length (now slots) ≡ lastStream + 1) ⌝ }
-    requires { ⌜ (streams ≤ lastStream) × (length (now frame) ≡ frameLength) ⌝ }
+    requires { ⌜ (streams ≤ lastStream) × (packetLength ≤ length (now frame)) ⌝ }
 {
     let refusal = composer_begin::niranbok_composer_begin(state, frame, setting);
     if refusal != 0 {
@@ -333,7 +348,7 @@ fn make_frames(
     streams: usize,
 )
     requires { ⌜ (length (now fds) ≡ lastStream) × (length (now slots) ≡ lastStream + 1) ⌝ }
-    requires { ⌜ (streams ≤ lastStream) × (length (now frame) ≡ frameLength) ⌝ }
+    requires { ⌜ (streams ≤ lastStream) × (packetLength ≤ length (now frame)) ⌝ }
 {
     let mut frames: u64 = 0;
     while frames < u64::MAX {
@@ -345,40 +360,65 @@ fn make_frames(
     }
 }
 
+// Makes the frames of a kind at the front of a buffer that has room for the longest.
+fn make_kind(
+    kind: Kind,
+    state: &mut [u8],
+    buffer: &mut [u8],
+    setting: &[u8],
+    fds: &[i32],
+    slots: &[u32],
+    streams: usize,
+)
+    requires { ⌜ (length (now fds) ≡ lastStream) × (length (now slots) ≡ lastStream + 1) ⌝ }
+    requires { ⌜ (streams ≤ lastStream) × (length (now buffer) ≡ frameLength lastSlot) ⌝ }
+{
+    let end = sizes::frame_bytes(kind);
+    make_frames(state, &mut buffer[0..end], setting, fds, slots, streams);
+}
+
 // Starts the run and makes its frames.
-fn compose(pid: u16, given: Given, fds: &[i32], streams: usize)
+fn compose(pid: u16, kind: Kind, given: Given, fds: &[i32], streams: usize)
     requires { ⌜ (length (now fds) ≡ lastStream) × (streams ≤ lastStream) ⌝ }
 {
     let mut state = [0u8; COMPOSER_BYTES];
-    composer_start::niranbok_composer_start(&mut state, pid, 0);
+    composer_start::niranbok_composer_start(&mut state, pid, setting_bytes::kind_number(kind));
     let mut setting = [0u8; SETTING_BYTES];
     setting_write::write_setting(&mut setting, given.setting);
     let slots = given.slots;
-    let mut frame = [0u8; FRAME_BYTES];
-    make_frames(&mut state, &mut frame, &setting, fds, &slots, streams);
+    let mut buffer = [0u8; FRAME_BYTES];
+    make_kind(
+        kind,
+        &mut state,
+        &mut buffer,
+        &setting,
+        fds,
+        &slots,
+        streams,
+    );
 }
 
-fn start(pid: u16, given: Given, first: usize, streams: usize)
-    requires { ⌜ (first ≤ 3) × (streams ≤ lastStream) ⌝ }
+fn start(pid: u16, kind: Kind, given: Given, first: usize, streams: usize)
+    requires { ⌜ (first ≤ 4) × (streams ≤ lastStream) ⌝ }
 {
     let mut fds = [0i32; STREAMS];
     if open_all(&mut fds, first, streams) {
-        compose(pid, given, &fds, streams);
+        compose(pid, kind, given, &fds, streams);
     }
 }
 
 // Reads the streams' arguments, which start at `first`, and makes the frames.
-fn run_streams(pid: u16, first: usize, streams: usize)
-    requires { ⌜ (first ≤ 3) × (streams ≤ lastStream) ⌝ }
+fn run_streams(pid: u16, kind: Kind, first: usize, streams: usize)
+    requires { ⌜ (first ≤ 4) × (streams ≤ lastStream) ⌝ }
 {
-    let given = with_plan(read_streams(first, streams));
+    let given = with_plan(read_streams(first, streams, sizes::slots_of(kind)), kind);
     if given.good {
-        start(pid, given, first, streams);
+        start(pid, kind, given, first, streams);
     }
 }
 
-pub(crate) fn run(first: usize)
-    requires { ⌜ first ≤ 2 ⌝ }
+fn run_kind(kind: Kind, first: usize)
+    requires { ⌜ first ≤ 3 ⌝ }
 {
     let count = os::arg_count();
     if count < first + 1 + WORDS {
@@ -390,12 +430,24 @@ pub(crate) fn run(first: usize)
         usage();
         return;
     }
-    if STREAMS < words / WORDS {
-        says::range(b"streams", 1, STREAMS as u32, 17);
+    let most = sizes::streams_of(kind);
+    if most < words / WORDS {
+        says::range(b"streams", 1, most as u32, 17);
         return;
     }
     let pid = arguments::pid(first);
     if pid != 0 {
-        run_streams(pid, first + 1, words / WORDS);
+        run_streams(pid, kind, first + 1, words / WORDS);
     }
+}
+
+// The option, if it is there, stands in front of the other arguments.
+pub(crate) fn run(first: usize)
+    requires { ⌜ first ≤ 2 ⌝ }
+{
+    if arguments::is_short(first) {
+        run_kind(Kind::Short, first + 1);
+        return;
+    }
+    run_kind(Kind::Plain, first);
 }

@@ -26,8 +26,9 @@ functions = record {
   setting-setting-blank = one (λ κs a x p i. (p i, _));
   setting-pid-allowed = one (λ κs a x p i. (p i, _));
   setting-announce = one (λ κs a x p i. (p i, _));
+  setting-size-of = one (λ κs a x p i. (p i, _));
   setting-widths-information-refusal = one (λ κs a x p i. (p i, _));
-  setting-widths-absent-refusal = one (λ κs a x p i. (p i, _));
+  setting-widths-some-behind = one (λ κs a x p i. (p i, _));
   setting-slots-has-unavailable = one (λ κs a x p i. (p i, _));
   setting-pairs-has-pair-twice = one (λ κs a x p i. (p i, _));
   setting-rules-bonding-refusal = one (λ κs a x p i. (p i, _));
@@ -43,9 +44,13 @@ functions = record {
   setting-checks-width-refusal = one (λ κs a x p i. (p i, _));
   setting-checks-rule-refusal = one (λ κs a x p i. (p i, _));
   -- headers and packets
+  packet-frame-bytes = one (λ κs a x p i. (p i, _));
   packet-place-refusal = one (λ κs a x p i. (p i, _));
   packet-has-unfit = one (λ κs a x p i. (p i, _));
   packet-rest = λ κs a x y p q. p ∙ sym q;
+  header-layout-places-of = one (λ κs a x p i. (p .0 i, _));
+  header-check-cut-run = one (λ κs a x p i. (_, (p i, _)));
+  header-check-read-numbers = one (λ κs a x p i. (_, (p i, _)));
   header-check-check = one (λ κs a x p i. (p i, _));
   header-read-read-into = one (λ κs a x p i. (p .0 i, (_, (_, (_, (p .1 i, _))))));
   header-read-read = one (λ κs a x p i. (p i, _));
@@ -65,9 +70,10 @@ functions = record {
   );
   -- frames received
   receiver-table-header-row = one (λ κs a x p i. (p i, _));
-  receiver-table-broken-row = one (λ κs a x p i. (p i, _));
+  receiver-table-broken-row = one (λ κs a x p i. (p 0 i, _));
   receiver-stage-stage-in = one (λ κs a x p i. (p i, _));
   receiver-stage-write-stage = one (λ κs a x p i. (_, (p i, _)));
+  receiver-stage-store-bytes = one (λ κs a x p i. (p i, _));
   receiver-stage-state-refusal = one (λ κs a x p i. (p i, _));
   receiver-start-start = one (λ κs a x p i. (record { refusal = p .0 i; state = p .1 i }, _));
   -- bonded carriers

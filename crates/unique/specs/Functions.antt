@@ -21,8 +21,9 @@ use Rattle.slot_bits.proofs.slots_as_bits as slotBitsSlotsAsBits
 use Rattle.setting.proofs.Setting.blank as settingSettingBlank
 use Rattle.setting.proofs.pid_allowed as settingPidAllowed
 use Rattle.setting.proofs.announce as settingAnnounce
+use Rattle.setting.proofs.size_of as settingSizeOf
 use Rattle.setting_widths.proofs.information_refusal as settingWidthsInformationRefusal
-use Rattle.setting_widths.proofs.absent_refusal as settingWidthsAbsentRefusal
+use Rattle.setting_widths.proofs.some_behind as settingWidthsSomeBehind
 use Rattle.setting_slots.proofs.has_unavailable as settingSlotsHasUnavailable
 use Rattle.setting_pairs.proofs.has_pair_twice as settingPairsHasPairTwice
 use Rattle.setting_rules.proofs.bonding_refusal as settingRulesBondingRefusal
@@ -37,9 +38,13 @@ use Rattle.setting_write.proofs.write_setting as settingWriteWriteSetting
 use Rattle.setting_checks.proofs.announced_refusal as settingChecksAnnouncedRefusal
 use Rattle.setting_checks.proofs.width_refusal as settingChecksWidthRefusal
 use Rattle.setting_checks.proofs.rule_refusal as settingChecksRuleRefusal
+use Rattle.packet.proofs.frame_bytes as packetFrameBytes
 use Rattle.packet.proofs.place_refusal as packetPlaceRefusal
 use Rattle.packet.proofs.has_unfit as packetHasUnfit
 use Rattle.packet.proofs.rest as packetRest
+use Rattle.header_layout.proofs.places_of as headerLayoutPlacesOf
+use Rattle.header_check.proofs.cut_run as headerCheckCutRun
+use Rattle.header_check.proofs.read_numbers as headerCheckReadNumbers
 use Rattle.header_check.proofs.check as headerCheckCheck
 use Rattle.header_read.proofs.read_into as headerReadReadInto
 use Rattle.header_read.proofs.read as headerReadRead
@@ -56,6 +61,7 @@ use Rattle.receiver_table.proofs.header_row as receiverTableHeaderRow
 use Rattle.receiver_table.proofs.broken_row as receiverTableBrokenRow
 use Rattle.receiver_stage.proofs.stage_in as receiverStageStageIn
 use Rattle.receiver_stage.proofs.write_stage as receiverStageWriteStage
+use Rattle.receiver_stage.proofs.store_bytes as receiverStageStoreBytes
 use Rattle.receiver_stage.proofs.state_refusal as receiverStageStateRefusal
 use Rattle.receiver_start.proofs.start as receiverStartStart
 use Rattle.bond_group.proofs.read_headers as bondGroupReadHeaders
@@ -84,8 +90,9 @@ pub record Functions : Type 0 where
   pub setting-setting-blank : OneOutcome settingSettingBlank.ended settingSettingBlank.Reads.Learnt
   pub setting-pid-allowed : OneOutcome settingPidAllowed.ended settingPidAllowed.Reads.Learnt
   pub setting-announce : OneOutcome settingAnnounce.ended settingAnnounce.Reads.Learnt
+  pub setting-size-of : OneOutcome settingSizeOf.ended settingSizeOf.Reads.Learnt
   pub setting-widths-information-refusal : OneOutcome settingWidthsInformationRefusal.ended settingWidthsInformationRefusal.Reads.Learnt
-  pub setting-widths-absent-refusal : OneOutcome settingWidthsAbsentRefusal.ended settingWidthsAbsentRefusal.Reads.Learnt
+  pub setting-widths-some-behind : OneOutcome settingWidthsSomeBehind.ended settingWidthsSomeBehind.Reads.Learnt
   pub setting-slots-has-unavailable : OneOutcome settingSlotsHasUnavailable.ended settingSlotsHasUnavailable.Reads.Learnt
   pub setting-pairs-has-pair-twice : OneOutcome settingPairsHasPairTwice.ended settingPairsHasPairTwice.Reads.Learnt
   pub setting-rules-bonding-refusal : OneOutcome settingRulesBondingRefusal.ended settingRulesBondingRefusal.Reads.Learnt
@@ -101,6 +108,7 @@ pub record Functions : Type 0 where
   pub setting-checks-width-refusal : OneOutcome settingChecksWidthRefusal.ended settingChecksWidthRefusal.Reads.Learnt
   pub setting-checks-rule-refusal : OneOutcome settingChecksRuleRefusal.ended settingChecksRuleRefusal.Reads.Learnt
   -- headers and packets
+  pub packet-frame-bytes : OneOutcome packetFrameBytes.ended packetFrameBytes.Reads.Learnt
   pub packet-place-refusal : OneOutcome packetPlaceRefusal.ended packetPlaceRefusal.Reads.Learnt
   pub packet-has-unfit : OneOutcome packetHasUnfit.ended packetHasUnfit.Reads.Learnt
   -- a part of the stream that is lent: which bytes it has; the contract does not say where they lie
@@ -109,6 +117,9 @@ pub record Functions : Type 0 where
       → Allows packetRest.ended packetRest.Reads.Learnt κs a x
       → Allows packetRest.ended packetRest.Reads.Learnt κs a y
       → x .0 .now ≡ y .0 .now
+  pub header-layout-places-of : OneOutcome headerLayoutPlacesOf.ended headerLayoutPlacesOf.Reads.Learnt
+  pub header-check-cut-run : OneOutcome headerCheckCutRun.ended headerCheckCutRun.Reads.Learnt
+  pub header-check-read-numbers : OneOutcome headerCheckReadNumbers.ended headerCheckReadNumbers.Reads.Learnt
   pub header-check-check : OneOutcome headerCheckCheck.ended headerCheckCheck.Reads.Learnt
   pub header-read-read-into : OneOutcome headerReadReadInto.ended headerReadReadInto.Reads.Learnt
   pub header-read-read : OneOutcome headerReadRead.ended headerReadRead.Reads.Learnt
@@ -132,6 +143,7 @@ pub record Functions : Type 0 where
   pub receiver-table-broken-row : OneOutcome receiverTableBrokenRow.ended receiverTableBrokenRow.Reads.Learnt
   pub receiver-stage-stage-in : OneOutcome receiverStageStageIn.ended receiverStageStageIn.Reads.Learnt
   pub receiver-stage-write-stage : OneOutcome receiverStageWriteStage.ended receiverStageWriteStage.Reads.Learnt
+  pub receiver-stage-store-bytes : OneOutcome receiverStageStoreBytes.ended receiverStageStoreBytes.Reads.Learnt
   pub receiver-stage-state-refusal : OneOutcome receiverStageStateRefusal.ended receiverStageStateRefusal.Reads.Learnt
   pub receiver-start-start : OneOutcome receiverStartStart.ended receiverStartStart.Reads.Learnt
   -- bonded carriers

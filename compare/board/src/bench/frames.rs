@@ -1,32 +1,33 @@
-//! The rows of frames, with plain headers: each side composes and receives
-//! over what it was lent.
+//! The rows of frames, with plain or short headers: each side composes and
+//! receives over what it was lent.
 
-use super::inputs::{counted_headers, setting, stream, streams, PID, PLAIN};
+use super::inputs::{counted_headers, setting, stream, streams, PID};
 use super::measure::{copy, measure, Row};
 use crate::archive;
-use crate::coding::{setting_bytes, COMPOSER_BYTES, RECEIVER_BYTES};
-use reference::{
-    Composer, Event, Kind, Receiver, FRAME_BYTES, PACKET_BYTES, SLOTS, STORE_BYTES, STREAMS,
-};
+use crate::coding::{kind_byte, setting_bytes, COMPOSER_BYTES, RECEIVER_BYTES};
+use reference::{Composer, Event, Kind, Receiver, PACKET_BYTES};
 use std::hint::black_box;
+use std::ops::RangeInclusive;
 
 const READY: u8 = 3;
 
 /// Begin, a put for each stream with a packet for each of its slots, close.
-pub fn compose() -> Row {
-    let setting = setting(Kind::Plain);
+pub fn compose(name: &str, kind: Kind) -> Row {
+    let setting = setting(kind);
     let bytes = setting_bytes(&setting);
-    let streams = streams();
+    let streams = streams(kind);
     let mut state = [0; COMPOSER_BYTES];
-    assert_eq!(archive::composer_start(&mut state, PID, PLAIN), 0);
-    let (_, mut composer) = Composer::start(PID, Kind::Plain);
-    let [mut archives, mut ours] = [[0; FRAME_BYTES]; 2];
-    let source = stream(SLOTS);
-    let mut target = [0; STORE_BYTES];
+    let refusal = archive::composer_start(&mut state, PID, kind_byte(kind));
+    assert_eq!(refusal, 0);
+    let (_, mut composer) = Composer::start(PID, kind);
+    let mut archives = vec![0; kind.size().frame_bytes()];
+    let mut ours = archives.clone();
+    let source = stream(kind.size().slots);
+    let mut target = source.clone();
     measure(
-        "compose a frame",
+        name,
         || {
-            let (state, frame) = (black_box(&mut state), black_box(&mut archives));
+            let (state, frame) = (black_box(&mut state), black_box(&mut archives[..]));
             assert_eq!(archive::composer_begin(state, frame, &bytes), 0);
             for (r, stream) in (1..).zip(&streams) {
                 let answer = archive::composer_put(state, frame, stream, r);
@@ -35,7 +36,7 @@ pub fn compose() -> Row {
             assert_eq!(archive::composer_close(state, frame), 0);
         },
         || {
-            let (composer, frame) = (black_box(&mut composer), black_box(&mut ours));
+            let (composer, frame) = (black_box(&mut composer), black_box(&mut ours[..]));
             assert!(composer.begin(frame, &setting).is_ok());
             for (r, stream) in (1..).zip(&streams) {
                 let placed = composer.put(frame, r, stream).placed;
@@ -58,25 +59,34 @@ struct Received {
 /// is that of the last header.
 struct Lent<S> {
     state: S,
+    kind: Kind,
     counter: usize,
-    store: [u8; STORE_BYTES],
-    out: [u8; STORE_BYTES],
+    store: Vec<u8>,
+    out: Vec<u8>,
 }
 
 impl<S> Lent<S> {
-    fn new(state: S) -> Lent<S> {
+    fn new(state: S, kind: Kind) -> Lent<S> {
+        let store = vec![0; kind.size().store_bytes()];
         Lent {
             state,
+            kind,
             counter: 0,
-            store: [0; STORE_BYTES],
-            out: [0; STORE_BYTES],
+            out: store.clone(),
+            store,
         }
+    }
+
+    /// The numbers of all streams.
+    fn streams(&self) -> RangeInclusive<u8> {
+        1..=self.kind.size().streams as u8
     }
 }
 
 impl Lent<[u8; RECEIVER_BYTES]> {
     fn frame(&mut self, received: &Received) {
-        let (state, store) = (black_box(&mut self.state), black_box(&mut self.store));
+        let streams = self.streams();
+        let (state, store) = (black_box(&mut self.state), black_box(&mut self.store[..]));
         for packet in received.packets.chunks_exact(PACKET_BYTES) {
             archive::receiver_receive(state, packet, store);
         }
@@ -85,18 +95,19 @@ impl Lent<[u8; RECEIVER_BYTES]> {
         let answer = archive::receiver_receive(state, header, store);
         assert_eq!(answer, (0, READY));
         let mut taken = 0;
-        for r in 1..=STREAMS as u8 {
+        for r in streams {
             let out = black_box(&mut self.out[taken..]);
             let (_, packets) = archive::receiver_hand_out(state, store, out, r);
             taken += PACKET_BYTES * packets;
         }
-        assert_eq!(taken, STORE_BYTES);
+        assert_eq!(taken, self.store.len());
     }
 }
 
 impl Lent<Receiver> {
     fn frame(&mut self, received: &Received) {
-        let (state, store) = (black_box(&mut self.state), black_box(&mut self.store));
+        let streams = self.streams();
+        let (state, store) = (black_box(&mut self.state), black_box(&mut self.store[..]));
         for packet in received.packets.chunks_exact(PACKET_BYTES) {
             let _ = state.receive(store, packet);
         }
@@ -104,31 +115,32 @@ impl Lent<Receiver> {
         let header = &received.headers[self.counter];
         assert_eq!(state.receive(store, header), Ok(Event::Ready));
         let mut taken = 0;
-        for r in 1..=STREAMS as u8 {
+        for r in streams {
             let out = black_box(&mut self.out[taken..]);
             let packets = state.hand_out(store, r, out);
             taken += PACKET_BYTES * packets.unwrap_or(0);
         }
-        assert_eq!(taken, STORE_BYTES);
+        assert_eq!(taken, self.store.len());
     }
 }
 
-/// 52 packets and the next header, and then every stream handed out.
-pub fn receive() -> Row {
+/// A packet for each slot and the next header, and then every stream handed
+/// out.
+pub fn receive(name: &str, kind: Kind) -> Row {
     let received = Received {
-        packets: stream(SLOTS),
-        headers: counted_headers(),
+        packets: stream(kind.size().slots),
+        headers: counted_headers(kind),
     };
-    let mut archives = Lent::new([0; RECEIVER_BYTES]);
-    let refusal = archive::receiver_start(&mut archives.state, PID, PLAIN);
+    let mut archives = Lent::new([0; RECEIVER_BYTES], kind);
+    let refusal = archive::receiver_start(&mut archives.state, PID, kind_byte(kind));
     assert_eq!(refusal, 0);
     let first = &received.headers[0];
     archive::receiver_receive(&mut archives.state, first, &mut archives.store);
-    let mut ours = Lent::new(Receiver::start(PID, Kind::Plain).1);
+    let mut ours = Lent::new(Receiver::start(PID, kind).1, kind);
     assert!(ours.state.receive(&mut ours.store, first).is_ok());
-    let [mut store, mut out] = [[0; STORE_BYTES]; 2];
+    let [mut store, mut out] = [received.packets.clone(), received.packets.clone()];
     measure(
-        "receive a frame, hand out",
+        name,
         || archives.frame(&received),
         || ours.frame(&received),
         || {

@@ -1,9 +1,9 @@
 //! The rows of headers, which are plain.
 
-use super::inputs::{header, setting, PID, PLAIN};
+use super::inputs::{header, setting, PID};
 use super::measure::{copy, measure, Row};
 use crate::archive;
-use crate::coding::{setting_bytes, SETTING_BYTES};
+use crate::coding::{kind_byte, setting_bytes, SETTING_BYTES};
 use reference::{crc32, Kind, PACKET_BYTES};
 use std::hint::black_box;
 
@@ -20,6 +20,7 @@ pub fn crc() -> Row {
 }
 
 pub fn write() -> Row {
+    let plain = kind_byte(Kind::Plain);
     let setting = setting(Kind::Plain);
     let bytes = setting_bytes(&setting);
     let source = header(Kind::Plain, &setting);
@@ -28,7 +29,7 @@ pub fn write() -> Row {
         "header write",
         || {
             let packet = black_box(&mut archives[..]);
-            let refusal = archive::header_write(packet, PID, PLAIN, black_box(&bytes));
+            let refusal = archive::header_write(packet, PID, plain, black_box(&bytes));
             assert_eq!(refusal, 0);
         },
         || {
@@ -43,6 +44,7 @@ pub fn write() -> Row {
 }
 
 pub fn read() -> Row {
+    let plain = kind_byte(Kind::Plain);
     let packet = header(Kind::Plain, &setting(Kind::Plain));
     let mut setting = [0; SETTING_BYTES];
     let mut target = [0; PACKET_BYTES];
@@ -50,7 +52,7 @@ pub fn read() -> Row {
         "header read",
         || {
             let setting = black_box(&mut setting);
-            let refusal = archive::header_read(black_box(&packet), PID, PLAIN, setting);
+            let refusal = archive::header_read(black_box(&packet), PID, plain, setting);
             assert_eq!(refusal, 0);
         },
         || {

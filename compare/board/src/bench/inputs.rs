@@ -1,27 +1,30 @@
-//! What the work is done on: every slot is planned, and all fifteen streams
-//! are available.
+//! What the work is done on: every slot is planned, and all streams are
+//! available.
 
-use reference::{Asked, Kind, Setting, FRAME_BYTES, PACKET_BYTES, SLOTS, STREAMS};
+use reference::{Asked, Kind, Setting, FRAME_BYTES, PACKET_BYTES, SLOTS};
 
 pub const PID: u16 = 0x1FF0;
-/// The kind, as the archive is told it.
-pub const PLAIN: u8 = 0;
 const NETWORK: u16 = 0x0020;
 const FIRST_TS_ID: u16 = 0x4000;
 
 /// The streams take the slots in turn.
 pub fn setting(kind: Kind) -> Setting {
+    let size = kind.size();
     let mut setting = Setting {
-        frame_type: 1,
-        availability: 0x7FFF,
-        ts_id: std::array::from_fn(|stream| FIRST_TS_ID + stream as u16),
-        original_network_id: [NETWORK; STREAMS],
-        receive_status: std::array::from_fn(|stream| (stream % 4) as u8),
-        relative_ts_number: std::array::from_fn(|place| (place % STREAMS) as u8 + 1),
+        frame_type: if kind == Kind::Short { 3 } else { 1 },
         ..Setting::ZEROS
     };
-    if kind == Kind::Plain {
-        setting.private_data = std::array::from_fn(|place| place as u8);
+    for stream in 0..size.streams {
+        setting.availability |= 0x4000 >> stream;
+        setting.ts_id[stream] = FIRST_TS_ID + stream as u16;
+        setting.original_network_id[stream] = NETWORK;
+        setting.receive_status[stream] = (stream % 4) as u8;
+    }
+    for place in 0..size.slots {
+        setting.relative_ts_number[place] = (place % size.streams) as u8 + 1;
+    }
+    for place in 0..kind.private_data_bytes() {
+        setting.private_data[place] = place as u8;
     }
     setting
 }
@@ -36,10 +39,11 @@ pub fn stream(packets: usize) -> Vec<u8> {
 }
 
 /// For each stream as many packets as it has slots.
-pub fn streams() -> Vec<Vec<u8>> {
-    let numbers = setting(Kind::Plain).relative_ts_number;
+pub fn streams(kind: Kind) -> Vec<Vec<u8>> {
+    let numbers = setting(kind).relative_ts_number;
     let slots = |r| numbers.iter().filter(|&&number| number == r).count();
-    (1..=STREAMS as u8).map(|r| stream(slots(r))).collect()
+    let last = kind.size().streams as u8;
+    (1..=last).map(|r| stream(slots(r))).collect()
 }
 
 pub fn header(kind: Kind, setting: &Setting) -> [u8; PACKET_BYTES] {
@@ -50,13 +54,13 @@ pub fn header(kind: Kind, setting: &Setting) -> [u8; PACKET_BYTES] {
 }
 
 /// The headers of sixteen frames behind one another.
-pub fn counted_headers() -> Vec<[u8; PACKET_BYTES]> {
+pub fn counted_headers(kind: Kind) -> Vec<[u8; PACKET_BYTES]> {
     let counted = |continuity_counter| Setting {
         continuity_counter,
-        ..setting(Kind::Plain)
+        ..setting(kind)
     };
     (0..16)
-        .map(|counter| header(Kind::Plain, &counted(counter)))
+        .map(|counter| header(kind, &counted(counter)))
         .collect()
 }
 

@@ -9,6 +9,7 @@ mod measure;
 mod table;
 
 use measure::Row;
+use reference::Kind;
 pub use table::{markdown, plain};
 
 /// How often all rows are measured, one after another, so that a while in
@@ -36,11 +37,14 @@ fn pass() -> Vec<Row> {
         headers::crc(),
         headers::write(),
         headers::read(),
-        frames::compose(),
-        frames::receive(),
+        frames::compose("compose a frame", Kind::Plain),
+        frames::receive("receive a frame, hand out", Kind::Plain),
     ];
     for (name, frames) in [("3 + 4 frames", &[3, 4][..]), ("8 x 4 frames", &[4; 8])] {
         rows.extend(groups::spread_and_gather(name, frames));
     }
+    rows.push(frames::compose("compose a short frame", Kind::Short));
+    let name = "receive a short frame, hand out";
+    rows.push(frames::receive(name, Kind::Short));
     rows
 }

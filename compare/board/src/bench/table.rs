@@ -25,7 +25,7 @@ fn cells(row: &Row) -> [String; 6] {
 /// Names to the left and numbers to the right of their columns.
 fn aligned([name, numbers @ ..]: [String; 6]) -> String {
     let numbers = numbers.map(|number| format!("{number:>16}"));
-    format!("{name:<26}{}\n", numbers.concat())
+    format!("{name:<32}{}\n", numbers.concat())
 }
 
 pub fn plain(rows: &[Row]) -> String {

@@ -1,12 +1,13 @@
-//! The calls of a composer and of a receiver. A state is looked at behind all
-//! lengths: its PID first, and then whether its bytes are a state at all.
+//! The calls of a composer and of a receiver. Of a state only the kind is
+//! looked at before all lengths, which it decides; behind them its PID first,
+//! and then whether its bytes are a state at all.
 
 use super::{counted, fixed, fixed_length, known_kind, refusal, unless, Checked};
 use crate::coding::{
-    composer_bytes, composer_of, receiver_bytes, receiver_of, setting_of, state_pid,
+    composer_bytes, composer_of, receiver_bytes, receiver_of, setting_of, state_pid, state_size,
     COMPOSER_BYTES, RECEIVER_BYTES,
 };
-use reference::{header_pid, Composer, Event, Receiver, FRAME_BYTES, PACKET_BYTES, STORE_BYTES};
+use reference::{header_pid, Composer, Event, Receiver, PACKET_BYTES};
 
 pub fn composer_start(state: &mut [u8], pid: u16, kind: u8) -> u8 {
     refusal(start_composer(state, pid, kind))
@@ -31,7 +32,7 @@ pub fn composer_begin(state: &mut [u8], frame: &mut [u8], setting: &[u8]) -> u8 
 }
 
 fn begin(state: &mut [u8], frame: &mut [u8], setting: &[u8]) -> Checked {
-    fixed_length(frame, FRAME_BYTES)?;
+    fixed_length(frame, state_size(state).frame_bytes())?;
     let setting = setting_of(fixed(setting)?);
     let mut composer = composer(state)?;
     composer.begin(frame, &setting)?;
@@ -44,7 +45,7 @@ pub fn composer_put(state: &mut [u8], frame: &mut [u8], stream: &[u8], r: u8) ->
 }
 
 fn put(state: &mut [u8], frame: &mut [u8], stream: &[u8], r: u8) -> Result<usize, u8> {
-    fixed_length(frame, FRAME_BYTES)?;
+    fixed_length(frame, state_size(state).frame_bytes())?;
     unless(stream.len().is_multiple_of(PACKET_BYTES), 1)?;
     let mut composer = composer(state)?;
     let placed = composer.put(frame, r, stream).placed?;
@@ -63,7 +64,7 @@ pub fn composer_close(state: &mut [u8], frame: &mut [u8]) -> u8 {
 }
 
 fn close(state: &mut [u8], frame: &mut [u8]) -> Checked {
-    fixed_length(frame, FRAME_BYTES)?;
+    fixed_length(frame, state_size(state).frame_bytes())?;
     let mut composer = composer(state)?;
     composer.close(frame)?;
     state.copy_from_slice(&composer_bytes(&composer));
@@ -97,7 +98,7 @@ pub fn receiver_receive(state: &mut [u8], packet: &[u8], store: &mut [u8]) -> (u
 
 fn receive(state: &mut [u8], packet: &[u8], store: &mut [u8]) -> Result<Event, u8> {
     fixed_length(packet, PACKET_BYTES)?;
-    fixed_length(store, STORE_BYTES)?;
+    fixed_length(store, state_size(state).store_bytes())?;
     let mut receiver = receiver(state)?;
     let event = receiver.receive(store, packet)?;
     state.copy_from_slice(&receiver_bytes(&receiver));
@@ -122,6 +123,6 @@ pub fn receiver_hand_out(state: &[u8], store: &[u8], out: &mut [u8], r: u8) -> (
 }
 
 fn hand_out(state: &[u8], store: &[u8], out: &mut [u8], r: u8) -> Result<usize, u8> {
-    fixed_length(store, STORE_BYTES)?;
+    fixed_length(store, state_size(state).store_bytes())?;
     receiver(state)?.hand_out(store, r, out)
 }

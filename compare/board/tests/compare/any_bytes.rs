@@ -4,18 +4,15 @@
 
 use crate::draw::faults::change_bytes;
 use crate::draw::packets::{frames, lent_stream};
-use crate::draw::{good, kind, length, near_pid, number, pid, resized};
+use crate::draw::{good, kind, length, near_pid, number, pid, resized, stream_number, KIND_BYTES};
 use board::coding::{
-    composer_bytes, kind_byte, receiver_bytes, setting_bytes, COMPOSER_BYTES, RECEIVER_BYTES,
-    SETTING_BYTES,
+    composer_bytes, kind_byte, receiver_bytes, setting_bytes, state_size, COMPOSER_BYTES, KIND,
+    RECEIVER_BYTES, SETTING_BYTES,
 };
 use board::judge::Judge;
 use board::lent::Lent;
 use board::random::Random;
-use reference::{
-    Announced, Composer, Kind, OpenFrame, Receiver, Standing, FRAME_BYTES, PACKET_BYTES, SLOTS,
-    STORE_BYTES,
-};
+use reference::{Announced, Composer, Kind, OpenFrame, Receiver, Standing, PACKET_BYTES, SLOTS};
 
 pub fn round(judge: &mut Judge, random: &mut Random) {
     let (pid, kind) = (pid(random), kind(random));
@@ -62,6 +59,13 @@ fn settings(judge: &mut Judge, random: &mut Random, pid: u16, kind: Kind) {
     judge.header_read(&mut packet, pid, kind, &mut any(random, SETTING_BYTES));
 }
 
+/// Now and then the state is said to be of any kind. Lengths go by that.
+fn change_kind(random: &mut Random, state: &mut [u8]) {
+    if random.one_in(8) {
+        state[KIND] = random.of(&KIND_BYTES);
+    }
+}
+
 /// A composer's state; its marks are on slots that have a plan.
 fn composer(random: &mut Random, pid: u16, kind: Kind) -> Composer {
     let (_, mut composer) = Composer::start(pid, kind);
@@ -85,14 +89,13 @@ fn composer(random: &mut Random, pid: u16, kind: Kind) -> Composer {
 }
 
 fn composers(judge: &mut Judge, random: &mut Random, pid: u16, kind: Kind) {
-    let state = composer_bytes(&composer(random, pid, kind));
+    let mut state = composer_bytes(&composer(random, pid, kind));
     assert_eq!(state.len(), COMPOSER_BYTES);
-    let frame = random.bytes(FRAME_BYTES);
-    let frame_length = length(random, FRAME_BYTES);
-    let mut frame = Lent::new(&resized(&frame, frame_length));
+    change_kind(random, &mut state);
+    let mut frame = any(random, state_size(&state).frame_bytes());
     let mut stream = Lent::new(&lent_stream(random, pid));
     for _ in 0..2 {
-        let r = 1 + random.byte_below(15);
+        let r = stream_number(random, kind);
         let r = number(random, r);
         judge.composer_put(&mut lent(random, &state), &mut frame, &mut stream, r);
         judge.composer_close(&mut lent(random, &state), &mut frame);
@@ -105,11 +108,12 @@ fn composers(judge: &mut Judge, random: &mut Random, pid: u16, kind: Kind) {
 
 fn receiver(random: &mut Random, pid: u16, kind: Kind) -> Receiver {
     let continuity_counter = random.byte_below(16);
+    let slots = kind.size().slots;
     let standing = match random.below(5) {
         0 => Standing::Waiting,
         1 | 2 => Standing::Open {
             continuity_counter,
-            stored: random.of(&[0, 1, 51, 52]),
+            stored: random.of(&[0, 1, slots - 1, slots]),
         },
         _ => Standing::Ready { continuity_counter },
     };
@@ -124,9 +128,10 @@ fn receiver(random: &mut Random, pid: u16, kind: Kind) -> Receiver {
 
 /// The packet is at times a header, whose counter follows at times.
 fn receivers(judge: &mut Judge, random: &mut Random, pid: u16, kind: Kind) {
-    let state = receiver_bytes(&receiver(random, pid, kind));
+    let mut state = receiver_bytes(&receiver(random, pid, kind));
     assert_eq!(state.len(), RECEIVER_BYTES);
-    let mut store = any(random, STORE_BYTES);
+    change_kind(random, &mut state);
+    let mut store = any(random, state_size(&state).store_bytes());
     let frame = frames(random, pid, kind, 1).concat();
     for _ in 0..2 {
         let slot = random.of(&[0, 0, 1]);
@@ -135,7 +140,7 @@ fn receivers(judge: &mut Judge, random: &mut Random, pid: u16, kind: Kind) {
         judge.receiver_receive(&mut lent(random, &state), &mut packet, &mut store);
         let room = random.of(&[0, 188, 1000, 9776]);
         let mut out = Lent::new(&random.bytes(room));
-        let r = 1 + random.byte_below(15);
+        let r = stream_number(random, kind);
         let r = number(random, r);
         judge.receiver_hand_out(&mut lent(random, &state), &mut store, &mut out, r);
     }

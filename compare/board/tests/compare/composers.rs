@@ -3,15 +3,12 @@
 
 use crate::draw::faults::{change_bytes, spoil};
 use crate::draw::packets::lent_stream;
-use crate::draw::{good, kind, lent_setting, pid, plan};
-use board::coding::{kind_byte, setting_bytes, setting_of, COMPOSER_BYTES};
+use crate::draw::{good, kind, lent_setting, pid, plan, stream_number};
+use board::coding::{kind_byte, setting_bytes, setting_of, COMPOSER_BYTES, OPEN_SETTING};
 use board::judge::Judge;
 use board::lent::Lent;
 use board::random::Random;
-use reference::{Kind, Setting, FRAME_BYTES, PACKET_BYTES};
-
-/// Where a state has the setting of its open frame.
-const OPEN_SETTING: std::ops::Range<usize> = 86..338;
+use reference::{Kind, Setting, PACKET_BYTES};
 
 struct Run {
     pid: u16,
@@ -27,7 +24,7 @@ pub fn round(judge: &mut Judge, random: &mut Random) {
         pid,
         kind,
         state: Lent::new(&random.bytes(COMPOSER_BYTES)),
-        frame: Lent::new(&random.bytes(FRAME_BYTES)),
+        frame: Lent::new(&random.bytes(kind.size().frame_bytes())),
         setting: good(random, kind),
     };
     let refusal = judge.composer_start(&mut run.state, pid, kind_byte(kind));
@@ -71,9 +68,12 @@ impl Run {
         match random.below(6) {
             0 => self.setting = good(random, self.kind),
             1 => self.setting.emergency_indicator ^= 1,
-            2 => self.setting.receive_status[random.below(15)] = random.byte_below(4),
+            2 => {
+                let stream = random.below(self.kind.size().streams);
+                self.setting.receive_status[stream] = random.byte_below(4);
+            }
             3 => (),
-            _ => plan(random, &mut self.setting),
+            _ => plan(random, self.kind, &mut self.setting),
         }
     }
 
@@ -97,7 +97,7 @@ impl Run {
         let mut stream = Lent::new(&lent_stream(random, self.pid));
         let r = match random.below(4) {
             0 => random.byte_below(17),
-            _ => 1 + random.byte_below(15),
+            _ => stream_number(random, self.kind),
         };
         let (_, placed) = judge.composer_put(&mut self.state, &mut self.frame, &mut stream, r);
         let rest = judge.composer_rest(&mut stream, placed);
@@ -117,12 +117,8 @@ impl Run {
         let (mut lent, mut frame) = again();
         judge.composer_begin(&mut lent, &mut frame, &mut setting);
         let (mut lent, mut frame) = again();
-        judge.composer_put(
-            &mut lent,
-            &mut frame,
-            &mut stream,
-            1 + random.byte_below(15),
-        );
+        let r = stream_number(random, self.kind);
+        judge.composer_put(&mut lent, &mut frame, &mut stream, r);
         let (mut lent, mut frame) = again();
         judge.composer_close(&mut lent, &mut frame);
     }
@@ -134,7 +130,7 @@ impl Run {
             change_bytes(random, &mut state);
             return state;
         }
-        let open: &[u8; 252] = state[OPEN_SETTING].try_into().expect("it is as long");
+        let open = state[OPEN_SETTING].try_into().expect("it is as long");
         let mut setting = setting_of(open);
         spoil(random, self.kind, &mut setting);
         state[OPEN_SETTING].copy_from_slice(&setting_bytes(&setting));

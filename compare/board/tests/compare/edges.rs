@@ -12,12 +12,20 @@ use board::coding::{
 use board::judge::Judge;
 use board::lent::Lent;
 use board::random::Random;
-use reference::{Asked, Composer, Event, Kind, Receiver, FRAME_BYTES, PACKET_BYTES, STORE_BYTES};
+use reference::{Asked, Composer, Event, Kind, Receiver, Size, FRAME_BYTES, PACKET_BYTES};
 
 /// Numbers of streams, slots and carriers around their ends.
-const NUMBERS: [u8; 9] = [0, 1, 2, 8, 9, 14, 15, 16, 255];
+const NUMBERS: [u8; 10] = [0, 1, 2, 7, 8, 9, 14, 15, 16, 255];
 /// Lengths of streams and of buffers written to.
 const STREAMS: [usize; 7] = [0, 1, 187, 188, 189, 376, 9776];
+
+const SIZES: [Size; 2] = [Size::LARGE, Size::SHORT];
+
+/// The lengths around those of both sizes.
+fn sized_lengths(of: fn(Size) -> usize) -> Vec<usize> {
+    let around = SIZES.map(|size| [of(size) - 1, of(size), of(size) + 1]);
+    [&[0, 1][..], around.as_flattened()].concat()
+}
 
 pub fn round(judge: &mut Judge, random: &mut Random) {
     for kind in KINDS {
@@ -49,10 +57,11 @@ fn settings(judge: &mut Judge, random: &mut Random, kind: Kind) {
     }
 }
 
-/// Both values of emergency_indicator, the last bit of byte 72, are written, and
-/// each is read with the reserved bit before it at 0 and at 1.
+/// Both values of emergency_indicator, the last bit of byte 72 or 37, are
+/// written, and each is read with the reserved bit before it at 0 and at 1.
 fn emergency(judge: &mut Judge, random: &mut Random, kind: Kind) {
     let (pid, number) = (0x1FF0, kind_byte(kind));
+    let byte = if kind == Kind::Short { 37 } else { 72 };
     let mut setting = good(random, kind);
     for bit in [0, 1] {
         setting.emergency_indicator = bit;
@@ -60,10 +69,10 @@ fn emergency(judge: &mut Judge, random: &mut Random, kind: Kind) {
         let mut packet = Lent::new(&random.bytes(PACKET_BYTES));
         let refusal = judge.header_write(&mut packet, pid, number, &mut setting);
         assert_eq!(refusal, 0, "a good setting is written");
-        assert_eq!(packet.bytes()[72] & 3, 2 | bit);
+        assert_eq!(packet.bytes()[byte] & 3, 2 | bit);
         for reserved in [0, 2] {
             packet.change(|bytes| {
-                bytes[72] = bytes[72] & 0xFD | reserved;
+                bytes[byte] = bytes[byte] & 0xFD | reserved;
                 make_crc_right(bytes);
             });
             let mut read = Lent::new(&random.bytes(SETTING_BYTES));
@@ -90,10 +99,10 @@ fn starts(judge: &mut Judge, random: &mut Random) {
 /// A state with an open frame, some of whose slots are filled.
 fn open_state(random: &mut Random, pid: u16, kind: Kind) -> Vec<u8> {
     let mut setting = good(random, kind);
-    setting.availability |= 0x4001;
-    plan(random, &mut setting);
+    setting.availability |= 0x4000;
+    plan(random, kind, &mut setting);
     let (_, mut composer) = Composer::start(pid, kind);
-    let mut frame = vec![0; FRAME_BYTES];
+    let mut frame = vec![0; kind.size().frame_bytes()];
     // It may be a 10 now, and the state is then one with no open frame.
     let _ = composer.begin(&mut frame, &setting);
     composer.put(&mut frame, 1, &stream(random, pid, 1));
@@ -107,7 +116,7 @@ fn composers(judge: &mut Judge, random: &mut Random, kind: Kind) {
     let setting = setting_bytes(&good(random, kind));
     let lent = stream(random, pid, 52);
     for length in lengths(COMPOSER_BYTES) {
-        for frame_length in lengths(FRAME_BYTES) {
+        for frame_length in sized_lengths(Size::frame_bytes) {
             let state = resized(&state, length);
             let mut frame = Lent::new(&random.bytes(frame_length));
             for length in lengths(SETTING_BYTES) {
@@ -128,10 +137,15 @@ fn composers(judge: &mut Judge, random: &mut Random, kind: Kind) {
 /// A state with a ready frame, and its store.
 fn ready_state(random: &mut Random, pid: u16, kind: Kind) -> (Vec<u8>, Vec<u8>) {
     let (_, mut receiver) = Receiver::start(pid, kind);
-    let mut store = vec![0; STORE_BYTES];
+    let mut store = vec![0; kind.size().store_bytes()];
     let frames = frames(random, pid, kind, 2);
+    let first_and_header = kind.size().slots + 2;
     let mut last = None;
-    for packet in frames.concat().chunks_exact(PACKET_BYTES).take(54) {
+    for packet in frames
+        .concat()
+        .chunks_exact(PACKET_BYTES)
+        .take(first_and_header)
+    {
         last = receiver.receive(&mut store, packet).ok();
     }
     assert_eq!(last, Some(Event::Ready));
@@ -142,7 +156,7 @@ fn receivers(judge: &mut Judge, random: &mut Random, kind: Kind) {
     let pid = 0x1FF0;
     let (state, store) = ready_state(random, pid, kind);
     for length in lengths(RECEIVER_BYTES) {
-        for store_length in lengths(STORE_BYTES) {
+        for store_length in sized_lengths(Size::store_bytes) {
             let mut lent = Lent::new(&resized(&state, length));
             let mut store = Lent::new(&resized(&store, store_length));
             for length in STREAMS {
@@ -161,26 +175,29 @@ fn receivers(judge: &mut Judge, random: &mut Random, kind: Kind) {
     state_pids(judge, random, &state, kind);
 }
 
-/// The PID and the kind of states.
+/// The PID and the kind of states, with the lengths of both sizes.
 fn state_pids(judge: &mut Judge, random: &mut Random, ready: &[u8], kind: Kind) {
     let open = open_state(random, 16, kind);
     let mut setting = Lent::new(&setting_bytes(&good(random, kind)));
     let mut stream = Lent::new(&stream(random, 16, 1));
     let mut packet = Lent::new(stream.bytes());
-    let mut store = Lent::new(&random.bytes(STORE_BYTES));
-    for pid in PIDS {
-        for kind in [kind_byte(kind), 2, 255] {
+    for (pid, size) in PIDS
+        .into_iter()
+        .flat_map(|pid| SIZES.map(|size| (pid, size)))
+    {
+        let mut frame = Lent::new(&random.bytes(size.frame_bytes()));
+        let mut store = Lent::new(&random.bytes(size.store_bytes()));
+        let mut out = Lent::new(&random.bytes(size.store_bytes()));
+        for kind in KIND_BYTES {
             let of = |state: &[u8]| {
                 let mut state = Lent::new(state);
                 let [high, low] = pid.to_be_bytes();
                 state.change(|bytes| bytes[..3].copy_from_slice(&[high, low, kind]));
                 state
             };
-            let mut frame = Lent::new(&random.bytes(FRAME_BYTES));
             judge.composer_put(&mut of(&open), &mut frame, &mut stream, 1);
             judge.composer_close(&mut of(&open), &mut frame);
             judge.composer_begin(&mut of(&open), &mut frame, &mut setting);
-            let mut out = Lent::new(&random.bytes(STORE_BYTES));
             judge.receiver_hand_out(&mut of(ready), &mut store, &mut out, 1);
             judge.receiver_receive(&mut of(ready), &mut packet, &mut store);
         }

@@ -4,7 +4,7 @@
 use crate::draw::faults::{damage, spoil};
 use crate::draw::packets::ordinary;
 use crate::draw::{good, kind, lent_setting, near_pid, number, pid};
-use board::coding::kind_byte;
+use board::coding::{kind_byte, SETTING_BYTES};
 use board::judge::Judge;
 use board::lent::Lent;
 use board::random::Random;
@@ -39,7 +39,7 @@ fn check(judge: &mut Judge, packet: &mut Lent, pid: u16, kind: u8, setting: &Set
 }
 
 fn read_back(judge: &mut Judge, packet: &mut Lent, pid: u16, kind: Kind, setting: &Setting) {
-    let mut read = Lent::new(&[0xA5; 252]);
+    let mut read = Lent::new(&[0xA5; SETTING_BYTES]);
     let refusal = judge.header_read(packet, pid, kind_byte(kind), &mut read);
     assert_eq!(refusal, 0, "a written header is read");
     assert_eq!(read.bytes(), lent_setting(setting).bytes());
@@ -53,11 +53,11 @@ fn damaged(judge: &mut Judge, random: &mut Random, packet: &[u8], pid: u16, kind
         _ => packet.to_vec(),
     };
     if !random.one_in(12) {
-        damage(random, &mut packet);
+        damage(random, kind, &mut packet);
     }
     let (pid, kind) = (near_pid(random, pid), number(random, kind_byte(kind)));
     let mut packet = Lent::new(&packet);
-    let mut setting = Lent::new(&random.bytes(252));
+    let mut setting = Lent::new(&random.bytes(SETTING_BYTES));
     judge.header_read(&mut packet, pid, kind, &mut setting);
     judge.place_refusal(&mut packet, pid);
 }

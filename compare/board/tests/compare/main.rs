@@ -5,8 +5,10 @@ mod any_bytes;
 mod composers;
 mod draw;
 mod edges;
+mod every_byte;
 mod groups;
 mod headers;
+mod losses;
 mod numbers;
 mod receivers;
 
@@ -26,7 +28,7 @@ struct Family {
     run: fn(&mut Judge, &mut Random),
 }
 
-const FAMILIES: [Family; 7] = [
+const FAMILIES: [Family; 9] = [
     family("numbers", 1, numbers::round),
     family("edges", 4, edges::round),
     family("headers", 40_000, headers::round),
@@ -34,6 +36,8 @@ const FAMILIES: [Family; 7] = [
     family("receivers", 600, receivers::round),
     family("groups", 1_000, groups::round),
     family("any bytes", 40_000, any_bytes::round),
+    family("every byte", 2, every_byte::round),
+    family("losses", 60, losses::round),
 ];
 
 const fn family(name: &'static str, rounds: u64, run: fn(&mut Judge, &mut Random)) -> Family {
@@ -58,7 +62,9 @@ fn main() {
 /// How many times as many rounds as by default, or which part of them.
 fn number(name: &str) -> u64 {
     match env::var(name) {
-        Ok(number) => number.parse().unwrap_or_else(|_| panic!("{name} is a number from 1 on")),
+        Ok(number) => number
+            .parse()
+            .unwrap_or_else(|_| panic!("{name} is a number from 1 on")),
         Err(_) => 1,
     }
 }

@@ -8,7 +8,7 @@ use board::coding::{kind_byte, RECEIVER_BYTES};
 use board::judge::Judge;
 use board::lent::Lent;
 use board::random::Random;
-use reference::{PACKET_BYTES, STORE_BYTES};
+use reference::{Kind, PACKET_BYTES};
 
 const READY: u8 = 3;
 const FRAMES: usize = 24;
@@ -17,6 +17,7 @@ type Packets = Vec<Vec<u8>>;
 
 struct Run {
     pid: u16,
+    kind: Kind,
     state: Lent,
     store: Lent,
 }
@@ -25,8 +26,9 @@ pub fn round(judge: &mut Judge, random: &mut Random) {
     let (pid, kind) = (pid(random), kind(random));
     let mut run = Run {
         pid,
+        kind,
         state: Lent::new(&random.bytes(RECEIVER_BYTES)),
-        store: Lent::new(&random.bytes(STORE_BYTES)),
+        store: Lent::new(&random.bytes(kind.size().store_bytes())),
     };
     let other = near_pid(random, pid);
     let other_kind = number(random, kind_byte(kind));
@@ -34,14 +36,14 @@ pub fn round(judge: &mut Judge, random: &mut Random) {
     let refusal = judge.receiver_start(&mut run.state, pid, kind_byte(kind));
     assert_eq!(refusal, 0, "PID and kind are right");
     for frame in frames(random, pid, kind, FRAMES) {
-        for packet in arriving(random, &frame, pid) {
+        for packet in arriving(random, &frame, pid, kind) {
             run.receive(judge, random, &packet);
         }
     }
 }
 
 /// The packets of a frame that arrive, as they do.
-fn arriving(random: &mut Random, frame: &[u8], pid: u16) -> Packets {
+fn arriving(random: &mut Random, frame: &[u8], pid: u16, kind: Kind) -> Packets {
     let mut packets: Packets = frame
         .chunks_exact(PACKET_BYTES)
         .map(<[u8]>::to_vec)
@@ -52,7 +54,7 @@ fn arriving(random: &mut Random, frame: &[u8], pid: u16) -> Packets {
         1 => packets.insert(at, packets[at].clone()),
         2 => packets.insert(0, packets[0].clone()),
         3 => drop(packets.remove(0)),
-        4 => damage(random, &mut packets[0]),
+        4 => damage(random, kind, &mut packets[0]),
         5 => packets[0][1..3].fill(0),
         6 => make_unfit(random, &mut packets[at], pid),
         7 => packets.truncate(at),
@@ -81,8 +83,9 @@ impl Run {
 
     /// Every stream, with room for all, for some bytes more, or for too few.
     fn hand_out_all(&mut self, judge: &mut Judge, random: &mut Random) {
-        for r in 0..=16 {
-            let mut out = Lent::new(&random.bytes(STORE_BYTES));
+        let size = self.kind.size();
+        for r in (0..=size.streams as u8 + 1).chain([15, 16]) {
+            let mut out = Lent::new(&random.bytes(size.store_bytes()));
             let (_, packets) = self.hand_out(judge, &mut out, r);
             let room = PACKET_BYTES * packets;
             for room in [room, room + random.below(200), room.saturating_sub(1), 0] {
@@ -102,7 +105,7 @@ impl Run {
         let r = random.byte_below(17);
         self.hand_out(judge, &mut out, r);
         let packet_length = length(random, PACKET_BYTES);
-        let store_length = length(random, STORE_BYTES);
+        let store_length = length(random, self.kind.size().store_bytes());
         let mut state = self.state.bytes().to_vec();
         if random.one_in(2) {
             change_bytes(random, &mut state);

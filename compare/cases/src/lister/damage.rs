@@ -52,7 +52,7 @@ pub fn base(generator: &mut Generator) -> Packet {
     for number in &mut setting.relative_ts_number {
         *number = [0, 1, 2, 14, 15][usize::from(generator.below(5))];
     }
-    generator.fill(&mut setting.private_data, 256);
+    generator.fill(&mut setting.private_data[..Kind::Plain.private_data_bytes()], 256);
     header(Kind::Plain, &setting)
 }
 

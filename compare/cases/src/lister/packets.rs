@@ -53,7 +53,7 @@ fn setting(generator: &mut Generator, variety: usize) -> Setting {
     generator.fill(&mut setting.receive_status, 4);
     setting.emergency_indicator = (variety / 3 % 2) as u8;
     slots(generator, &mut setting, variety);
-    generator.fill(&mut setting.private_data, 256);
+    generator.fill(&mut setting.private_data[..Kind::Plain.private_data_bytes()], 256);
     setting
 }
 

@@ -2,7 +2,7 @@
 //! the table, read from above.
 
 use super::state::{Composer, OpenFrame};
-use crate::layout::{FRAME_BYTES, PACKET_BYTES};
+use crate::layout::PACKET_BYTES;
 use crate::packet::{fits_a_slot, Places};
 use crate::rules::{
     announced_fits, content, counts_fit, earlier, fields_fit, fixed_length, header_pid,
@@ -12,7 +12,7 @@ use crate::setting::Setting;
 
 impl Composer {
     pub(super) fn check_begin(&self, frame_length: usize, setting: &Setting) -> Checked {
-        fixed_length(frame_length, FRAME_BYTES)?;
+        self.check_length(frame_length)?;
         self.check_pid_and_numbers()?;
         fields_fit(self.kind, setting)?;
         let new = content(self.kind, setting);
@@ -30,11 +30,11 @@ impl Composer {
         relative_ts_number: u8,
         stream: &[u8],
     ) -> Result<Places, u8> {
-        fixed_length(frame_length, FRAME_BYTES)?;
+        self.check_length(frame_length)?;
         let (packets, cut) = stream.as_chunks::<PACKET_BYTES>();
         unless(cut.is_empty(), 1)?;
         self.check_pid_and_numbers()?;
-        stream_number(relative_ts_number)?;
+        stream_number(self.kind.size(), relative_ts_number)?;
         let open = self.check_open()?;
         let available = open.setting.is_available(relative_ts_number.into());
         unless(available, 13)?;
@@ -46,17 +46,21 @@ impl Composer {
     }
 
     pub(super) fn check_close(&self, frame_length: usize) -> Checked {
-        fixed_length(frame_length, FRAME_BYTES)?;
+        self.check_length(frame_length)?;
         self.check_pid_and_numbers()?;
         self.check_open()?;
         Ok(())
+    }
+
+    fn check_length(&self, frame_length: usize) -> Checked {
+        fixed_length(frame_length, self.kind.size().frame_bytes())
     }
 
     /// 2 and a state's share of 17, but for the marks.
     fn check_pid_and_numbers(&self) -> Checked {
         header_pid(self.pid)?;
         counts_fit(self.continuity_counter, self.version_number)?;
-        announced_fits(&self.announced)?;
+        by_kind!(self.kind, kind => announced_fits(kind.size(), &self.announced))?;
         match &self.open {
             Some(open) => fields_fit(self.kind, &open.setting),
             None => Ok(()),

@@ -24,7 +24,8 @@ impl Composer {
     /// so it raises nothing.
     pub fn begin(&mut self, frame: &mut [u8], setting: &Setting) -> Checked {
         self.check_begin(frame.len(), setting)?;
-        frame[PACKET_BYTES..].copy_from_slice(&NULL_PACKETS);
+        let slots = &mut frame[PACKET_BYTES..];
+        slots.copy_from_slice(&NULL_PACKETS[..slots.len()]);
         self.open = Some(OpenFrame {
             setting: setting.clone(),
             filled: [false; SLOTS],

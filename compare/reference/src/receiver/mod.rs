@@ -3,7 +3,7 @@
 
 mod state;
 
-use crate::layout::{LAST_COUNTER, PACKET_BYTES, SLOTS, STORE_BYTES};
+use crate::layout::{LAST_COUNTER, PACKET_BYTES};
 use crate::packet::{fits_a_slot, place, Places};
 use crate::read::read;
 use crate::rules::{fixed_length, stream_number, unless, Checked};
@@ -25,7 +25,7 @@ pub enum Event {
 
 impl Receiver {
     pub fn receive(&mut self, store: &mut [u8], packet: &[u8]) -> Result<Event, u8> {
-        fixed_length(store.len(), STORE_BYTES)?;
+        fixed_length(store.len(), self.kind.size().store_bytes())?;
         let packet = packet.try_into().map_err(|_| 1)?;
         self.check_pid_and_numbers()?;
         // What fits a slot bears another PID than a header.
@@ -43,7 +43,7 @@ impl Receiver {
         let continuity_counter = header.continuity_counter;
         let event = match self.open_frame() {
             None => Event::Opened,
-            Some((_, stored)) if stored < SLOTS => Event::Short,
+            Some((_, stored)) if stored < self.kind.size().slots => Event::Short,
             Some((old, _)) if step(old, continuity_counter) != 1 => Event::Jump,
             Some(_) => Event::Ready,
         };
@@ -63,7 +63,7 @@ impl Receiver {
         let Some((continuity_counter, stored)) = self.open_frame() else {
             return Event::Nothing;
         };
-        if stored == SLOTS {
+        if stored == self.kind.size().slots {
             return self.drop_frame(Event::Long);
         }
         store[place(stored)].copy_from_slice(packet);
@@ -102,9 +102,9 @@ impl Receiver {
 
     /// All but 15, for which the packets have to be counted.
     fn check_hand_out(&self, store_length: usize, relative_ts_number: u8) -> Checked {
-        fixed_length(store_length, STORE_BYTES)?;
+        fixed_length(store_length, self.kind.size().store_bytes())?;
         self.check_pid_and_numbers()?;
-        stream_number(relative_ts_number)?;
+        stream_number(self.kind.size(), relative_ts_number)?;
         unless(self.is_ready(), 16)
     }
 }

@@ -4,6 +4,7 @@
 use crate::layout::{LAST_COUNTER, SLOTS};
 use crate::rules::{header_pid, slot_numbers_fit, unless, Checked};
 use crate::setting::Kind;
+use crate::size::Size;
 
 #[derive(Clone, Debug, PartialEq, Eq)]
 pub struct Receiver {
@@ -71,10 +72,18 @@ impl Receiver {
     /// 2 and a state's share of 17.
     pub(super) fn check_pid_and_numbers(&self) -> Checked {
         header_pid(self.pid)?;
+        by_kind!(self.kind, kind => self.check_numbers(kind.size()))
+    }
+
+    #[inline(always)]
+    fn check_numbers(&self, size: Size) -> Checked {
         if let Some((continuity_counter, stored)) = self.open_frame() {
-            unless(continuity_counter <= LAST_COUNTER && stored <= SLOTS, 17)?;
+            unless(
+                continuity_counter <= LAST_COUNTER && stored <= size.slots,
+                17,
+            )?;
         }
-        slot_numbers_fit(&self.relative_ts_number)?;
-        slot_numbers_fit(&self.relative_ts_number_before)
+        slot_numbers_fit(size, &self.relative_ts_number)?;
+        slot_numbers_fit(size, &self.relative_ts_number_before)
     }
 }

@@ -1,7 +1,7 @@
 //! Runs, streams and packets for the tests of composer and receiver.
 
 use super::{good, header, least, Random, PID};
-use reference::{Composer, Event, Kind, Receiver, Setting, FRAME_BYTES, STORE_BYTES};
+use reference::{Composer, Event, Kind, Receiver, Setting};
 
 pub fn run(kind: Kind) -> Composer {
     let (refusal, composer) = Composer::start(PID, kind);
@@ -38,9 +38,14 @@ pub fn stream(random: &mut Random, packets: usize) -> Vec<u8> {
     stream
 }
 
+/// What a frame is composed in.
+pub fn any_frame(kind: Kind) -> Vec<u8> {
+    vec![0xA5; kind.size().frame_bytes()]
+}
+
 /// A frame of the run with a drawn setting and drawn streams.
 pub fn drawn_frame(random: &mut Random, composer: &mut Composer) -> Vec<u8> {
-    let mut frame = vec![0xA5; FRAME_BYTES];
+    let mut frame = any_frame(composer.kind);
     let setting = good(random, composer.kind);
     assert_eq!(composer.begin(&mut frame, &setting), Ok(()));
     for r in 1..=15 {
@@ -62,11 +67,11 @@ pub fn ten_slots(kind: Kind) -> Setting {
     setting
 }
 
-/// A good plain header with this counter.
-pub fn counted_header(continuity_counter: u8) -> [u8; 188] {
-    let mut setting = ten_slots(Kind::Plain);
+/// A good header with this counter.
+pub fn counted_header(kind: Kind, continuity_counter: u8) -> [u8; 188] {
+    let mut setting = ten_slots(kind);
     setting.continuity_counter = continuity_counter;
-    header(Kind::Plain, &setting)
+    header(kind, &setting)
 }
 
 /// A receiver with its store.
@@ -79,7 +84,7 @@ impl Lent {
     pub fn new(kind: Kind) -> Lent {
         Lent {
             receiver: receiver(kind),
-            store: vec![0xA5; STORE_BYTES],
+            store: vec![0xA5; kind.size().store_bytes()],
         }
     }
 
@@ -89,7 +94,7 @@ impl Lent {
 
     /// The ready frame's packets of a stream.
     pub fn handed_out(&self, relative_ts_number: u8) -> Vec<u8> {
-        let mut buffer = vec![0; STORE_BYTES];
+        let mut buffer = vec![0; self.store.len()];
         let out = self
             .receiver
             .hand_out(&self.store, relative_ts_number, &mut buffer);

@@ -7,7 +7,7 @@ pub mod groups;
 
 use reference::{Kind, Setting};
 
-pub const KINDS: [Kind; 2] = [Kind::Plain, Kind::Extended];
+pub const KINDS: [Kind; 3] = [Kind::Plain, Kind::Extended, Kind::Short];
 pub const PID: u16 = 0x1FF0;
 
 pub struct Random(pub u64);
@@ -35,7 +35,7 @@ impl Random {
 /// The least setting that the writer takes.
 pub fn least(kind: Kind) -> Setting {
     let mut setting = Setting {
-        frame_type: 1,
+        frame_type: if kind == Kind::Short { 3 } else { 1 },
         ..Setting::ZEROS
     };
     if kind == Kind::Extended {
@@ -53,25 +53,28 @@ pub fn good(random: &mut Random, kind: Kind) -> Setting {
     setting.continuity_counter = random.byte(16);
     setting.version_number = random.byte(8);
     setting.slot_allocation_type = random.byte(2);
-    setting.availability = random.below(1 << 15) as u16;
-    for stream in 0..15 {
+    let size = kind.size();
+    setting.availability = (random.below(1 << 15) as u16) >> (15 - size.streams);
+    setting.availability <<= 15 - size.streams;
+    for stream in 0..size.streams {
         // A few values only, so that pairs share one half often; the
         // network tells the streams apart.
         setting.ts_id[stream] = random.below(3) as u16 * 0x7FFF;
         setting.original_network_id[stream] = (random.below(4096) * 16 + stream as u64) as u16;
     }
-    random.fill(&mut setting.receive_status, 4);
+    random.fill(&mut setting.receive_status[..size.streams], 4);
     setting.emergency_indicator = random.byte(2);
-    random.fill(&mut setting.relative_ts_number, 16);
+    random.fill(&mut setting.relative_ts_number[..size.slots], 16);
     let kept = setting.clone();
     for number in &mut setting.relative_ts_number {
         if !kept.is_available(usize::from(*number)) {
             *number = 0;
         }
     }
-    match kind {
-        Kind::Plain => random.fill(&mut setting.private_data, 256),
-        Kind::Extended => good_extension(random, &mut setting),
+    let private_data = &mut setting.private_data[..kind.private_data_bytes()];
+    random.fill(private_data, 256);
+    if kind == Kind::Extended {
+        good_extension(random, &mut setting);
     }
     setting
 }
@@ -91,6 +94,15 @@ pub fn header(kind: Kind, setting: &Setting) -> [u8; 188] {
     let mut packet = [0; 188];
     assert_eq!(reference::write(&mut packet, PID, kind, setting), 0);
     packet
+}
+
+/// The bytes of a header that end in the reserved bit behind the availability,
+/// and in emergency_indicator with a reserved bit before it.
+pub fn reserved_bytes(kind: Kind) -> [usize; 2] {
+    match kind {
+        Kind::Plain | Kind::Extended => [8, 72],
+        Kind::Short => [7, 37],
+    }
 }
 
 pub fn make_crc_right(packet: &mut [u8; 188]) {

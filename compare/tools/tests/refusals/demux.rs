@@ -21,6 +21,22 @@ fn arguments() {
     refuses("15 1 missing", BAD_PID);
 }
 
+#[test]
+fn short_arguments() {
+    let folder = folder();
+    let refuses = |words: &str, line: &str| {
+        let words = format!("--short {words}");
+        refuses(&folder, "demux", &words, line);
+    };
+    for choice in ["0", "8", "15", "16", "x", "''", "17"] {
+        refuses(&format!("0x1FF0 {choice} short_frames"), BAD_SHORT_STREAM);
+    }
+    refuses("0x1FF0 a:b short_frames", BAD_TS_ID);
+    refuses("0x1FF0 1:1:1 short_frames", BAD_NETWORK_ID);
+    refuses("0x1FF0 1 missing", MISSING);
+    refuses("15 8 short_frames", BAD_PID);
+}
+
 fn no_header(packets: usize) -> String {
     format!(
         "no header with PID 8176 in {packets} packets: \
@@ -39,6 +55,10 @@ fn inputs() {
     refuses("0x1FF0 1 stream", &no_header(500));
     refuses("0x1FF0 1:1 stream", &no_header(500));
     refuses("0x1FF0 1 frames_shifted", &no_header(53 * FRAMES));
+    refuses("--short 0x1FF0 1 short_frames_tail", TAIL);
+    refuses("--short 0x1FF0 1 stream", &no_header(500));
+    let words = "--short 0x1FF0 1 short_frames_shifted";
+    refuses(words, &no_header(41 * FRAMES));
     let said = folder.run_on("demux", "0x1FF0 1", "frames_tail");
     assert_eq!((said.out, &said.err[..]), (vec![], TAIL));
 }

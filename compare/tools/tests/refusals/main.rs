@@ -9,7 +9,7 @@ mod unbond;
 
 use cases::generator::Generator;
 use lines::*;
-use reference::PACKET_BYTES;
+use reference::{Kind, PACKET_BYTES};
 use std::fs::OpenOptions;
 use std::os::unix::fs::symlink;
 use tools::composing::compose;
@@ -22,18 +22,21 @@ const FRAMES: usize = 20;
 const TOOLS: [&str; 4] = ["mux", "demux", "bond", "unbond"];
 
 /// A folder with what the tools read. `stream` is good for mux and bond,
-/// `frames` for demux and `carrier` for unbond; `header` is a stream with a
-/// packet that bears the header PID.
+/// `frames` and `short_frames` for demux and `carrier` for unbond; `header` is a
+/// stream with a packet that bears the header PID.
 fn folder() -> Folder {
     let mut generator = Generator::new(1);
     let folder = Folder::new();
     let good = stream(&mut generator, 500, PID);
     folder.write("stream", &good);
     folder.write("header", &with_header_pid(&good));
-    folder.write("frames", &compose(&mut generator, FRAMES, PID).bytes);
+    for (name, kind) in [("frames", Kind::Plain), ("short_frames", Kind::Short)] {
+        let composed = compose(&mut generator, kind, FRAMES, PID);
+        folder.write(name, &composed.bytes);
+    }
     folder.write("empty", &[]);
     folder.run("bond", "8176 1 1 1 stream 3 52 carrier");
-    for name in ["stream", "frames", "carrier"] {
+    for name in ["stream", "frames", "short_frames", "carrier"] {
         let bytes = folder.read(name);
         folder.write(
             &format!("{name}_tail"),
@@ -81,6 +84,14 @@ fn usage() {
     refuses(&folder, "mux", "16 1 1 1", MUX_USAGE);
     refuses(&folder, "mux", "16 1 1 1 stream 1", MUX_USAGE);
     refuses(&folder, "demux", "16 1 frames frames", DEMUX_USAGE);
+    for words in ["--short", "--short 16", "--short 16 1 1 1"] {
+        refuses(&folder, "mux", words, MUX_USAGE);
+        refuses(&folder, "tools", &format!("mux {words}"), MUX_USAGE);
+    }
+    for words in ["--short", "--short 16", "--short 16 1 frames frames"] {
+        refuses(&folder, "demux", words, DEMUX_USAGE);
+        refuses(&folder, "tools", &format!("demux {words}"), DEMUX_USAGE);
+    }
     refuses(&folder, "bond", "16 1 1 1 stream 3 1", BOND_USAGE);
     refuses(&folder, "bond", "16 1 1 1 stream 3 1 c1 3", BOND_USAGE);
     refuses(&folder, "unbond", "16 1 1", UNBOND_USAGE);
@@ -133,13 +144,34 @@ fn header_pid() {
     }
 }
 
+/// The option stands first, and once; any other word there is the PID.
+#[test]
+fn option_at_another_place() {
+    let folder = folder();
+    let mux = |words: &str, line: &str| refuses(&folder, "mux", words, line);
+    mux("--short --short 1 1 1 stream", BAD_PID);
+    mux("--shorter 1 1 1 stream", BAD_PID);
+    mux("-short 1 1 1 stream", BAD_PID);
+    let in_the_place_of_slots = format!("stream 1: {BAD_SLOTS}");
+    mux("16 --short 1 1 stream", &in_the_place_of_slots);
+    let demux = |words: &str, line: &str| refuses(&folder, "demux", words, line);
+    demux("--short --short 1 frames", BAD_PID);
+    demux("--SHORT 1 frames", BAD_PID);
+    demux("0x1FF0 --short frames", BAD_STREAM);
+    // Bonding is over extended headers alone.
+    refuses(&folder, "bond", "--short 1 1 1 stream 3 52 c1", BAD_PID);
+    refuses(&folder, "unbond", "--short 1 1 carrier", BAD_PID);
+}
+
 /// What standard output does not take is said once, and is not counted as out.
 #[test]
 fn output_that_is_full() {
     let folder = folder();
     let words = [
         ("mux", "0x1FF0 10 1 1 stream"),
+        ("mux", "--short 0x1FF0 10 1 1 stream"),
         ("demux", "0x1FF0 1:1 frames"),
+        ("demux", "--short 0x1FF0 1:1 short_frames"),
         ("unbond", "0x1FF0 1 1 carrier"),
     ];
     for (tool, words) in words {

@@ -36,6 +36,39 @@ fn arguments() {
 }
 
 #[test]
+fn short_arguments() {
+    let folder = folder();
+    let refuses =
+        |words: &str, line: &str| refuses(&folder, "mux", &format!("--short {words}"), line);
+    for slots in ["0", "41", "52", "x", "''", "257"] {
+        let words = format!("16 {slots} 1 1 stream");
+        refuses(&words, &format!("stream 1: {BAD_SHORT_SLOTS}"));
+    }
+    let second = |slots| format!("16 1 1 1 stream {slots} 1 2 stream");
+    refuses(&second("41"), &format!("stream 2: {BAD_SHORT_SLOTS}"));
+    refuses(&second("40"), BAD_SHORT_SUM);
+    refuses("15 1 1 1 stream", BAD_PID);
+    refuses("16 1 65536 1 stream", &format!("stream 1: {BAD_TS_ID}"));
+    refuses("16 1 1 1 stream 1 1 1 stream", SAME);
+    refuses("16 1 1 1 missing", MISSING);
+    let streams = |count| -> String { (0..count).map(|k| format!(" 1 {k} 1 stream")).collect() };
+    refuses(&format!("16{}", streams(8)), BAD_SHORT_STREAMS);
+    refuses(&format!("16{}", streams(15)), BAD_SHORT_STREAMS);
+    let seven = folder.run("mux", &format!("--short 16{}", streams(7)));
+    assert_eq!(seven.err, "");
+}
+
+#[test]
+fn short_inputs() {
+    let folder = folder();
+    let line = format!("stream 1: {NO_SLOTS_PACKET}");
+    refuses(&folder, "mux", "--short 0x1FF0 10 1 1 header", &line);
+    let said = folder.run("mux", "--short 0x1FF0 10 1 1 stream_tail");
+    assert_eq!(said.err, format!("stream 1: {TAIL}"));
+    assert!(said.out == folder.run("mux", "--short 0x1FF0 10 1 1 stream").out);
+}
+
+#[test]
 fn inputs() {
     let folder = folder();
     let line = format!("stream 1: {NO_SLOTS_PACKET}");
@@ -62,5 +95,7 @@ fn order() {
     );
     first("16 0 1 1 missing", &format!("stream 1: {BAD_SLOTS}"));
     first("16 52 1 1 missing 1 1 1 stream", BAD_SUM);
+    first("--short 15 0 1 1 stream", BAD_PID);
+    first("--short 16 40 1 1 missing 1 1 1 stream", BAD_SHORT_SUM);
     first("0x1FF0 1 1 1 header 1 1 1 stream", SAME);
 }

@@ -3,7 +3,8 @@ use mathlib.Core.Bool.{true}
 use borrow.Author.Needs.{needs}
 use borrow.Author.Tests.{not-true, not-false}
 use native.Mathlib.Omega.{arith}
-use Rattle.setting_bytes.specs.Settings.{announcedLength}
+use Rattle.setting_bytes.specs.Settings.{part, announcedLength, announcedOf}
+use Rattle.setting.specs.declared.Kind.{Kind}
 use Rattle.setting.specs.Announcing.{announcedChecks}
 use Rattle.setting.specs.Refusal.{firstOf}
 use Rattle.setting_bytes.proofs.Parts.{length-part}
@@ -38,12 +39,18 @@ coded c = sym (c .before .is-coded .ensures) ∙ not-false _ (c .if2 .left)
 abbrev two : tie.Else4 → tie.Else2
 two c = c .before .before .before .before
 
+abbrev four : tie.After-announced-refusal → tie.Else4
+four c = c .before .before .before .before
+
 -- what the last header announced, as the state says it
-told : (c : tie.After-announced-refusal) → let b = start₁ (one (two (c .before .before))) .args .bytes .now in c .announced-refusal .result ≡ firstOf (announcedChecks (composerOf b .last))
+told : (c : tie.After-announced-refusal)
+    → let b = start₁ (one (two (four c))) .args .bytes .now in c .announced-refusal .result ≡ firstOf (announcedChecks (composerOf b .kind) (composerOf b .last))
 unfolding composerOf
 told c =
-    let s = start₁ (one (two (c .before .before))) in
-    c .announced-refusal .ensures ∙ at-length _ _ _ (length-part lastAt announcedLength (s .args .bytes .now) (omega (arith, s .pre)))
+    let s = start₁ (one (two (four c))) in
+    let b = s .args .bytes .now in
+    c .announced-refusal .ensures ∙ at-length _ _ _ (length-part lastAt announcedLength b (omega (arith, s .pre)))
+    ∙ ap (λ (k : Kind). firstOf (announcedChecks k (announcedOf (part lastAt announcedLength b)))) (c .before .before .kind-of .ensures)
 
 shared-slice-read-word : tie.Need-shared-slice-read-word
 shared-slice-read-word c = search needs
@@ -84,6 +91,12 @@ returns-4 c =
     let k = c .before .before .before .before in
     sym (at-version (start₁ (one k) .args .bytes .now) (pid (one k)) (coded k) (c .before .before .if3 .left) (c .if4 .taken))
 
+shared-slice-read-kind-of : tie.Need-shared-slice-read-kind-of
+shared-slice-read-kind-of c = search needs
+
+kind-of-requires : tie.Need-kind-of-requires
+kind-of-requires c κs = search needs
+
 sub-announced-refusal : tie.Need-sub-announced-refusal
 sub-announced-refusal c = search needs
 
@@ -99,9 +112,10 @@ announced-refusal-requires c κs = search needs
 returns-5 : tie.Need-returns-5
 unfolding composerOf
 returns-5 c =
-    let k = two (c .before .before .before) in
+    let asked = four (c .before) in
+    let k = two asked in
     let n = told (c .before) in
-    n ∙ sym (behind-numbers (start₁ (one k) .args .bytes .now) (pid (one k)) (coded k) (c .before .before .before .before .before .if3 .left) (c .before .before .before .if4 .left)
+    n ∙ sym (behind-numbers (start₁ (one k) .args .bytes .now) (pid (one k)) (coded k) (asked .before .before .if3 .left) (asked .if4 .left)
     ∙ at-once _ _ (λ z. c .if5 .taken (n ∙ z)))
 
 open-width-refusal-requires : tie.Need-open-width-refusal-requires
@@ -110,12 +124,12 @@ open-width-refusal-requires c κs = search needs
 returns-6 : tie.Need-returns-6
 unfolding composerOf
 returns-6 c =
-    let four = c .before .before .before .before in
-    let k = two four in
+    let asked = four (c .before .before) in
+    let k = two asked in
     let n = told (c .before .before) in
     c .open-width-refusal .ensures
-    ∙ sym (behind-numbers (start₁ (one k) .args .bytes .now) (pid (one k)) (coded k) (four .before .before .if3 .left) (four .if4 .left)
-    ∙ onward _ (announced-none _ (sym n ∙ c .before .if5 .left)))
+    ∙ sym (behind-numbers (start₁ (one k) .args .bytes .now) (pid (one k)) (coded k) (asked .before .before .if3 .left) (asked .if4 .left)
+    ∙ onward _ (announced-none _ _ (sym n ∙ c .before .if5 .left)))
 
 pub long-state-refusal-spec : {M : Type 1} → statement M
 long-state-refusal-spec =
@@ -132,6 +146,8 @@ long-state-refusal-spec =
     returns-3
     shared-slice-read-if4
     returns-4
+    shared-slice-read-kind-of
+    kind-of-requires
     sub-announced-refusal
     part-announced-refusal-start
     part-announced-refusal-end

@@ -171,7 +171,7 @@ returns-3 c =
     close-done state (args .frame .now) l (checks .before .close-refusal .ensures) (checks .if2 .left)
     (closed-state state l (p .open-state) (look .are-bytes .ensures) refl (version .next-version .ensures)
     (ended .end-frame .ensures ∙ state-said state counter _ l said (say .say .ensures) (replicate openLength 0)))
-    (closed-memory state (setting-said state counter _ l said (say .say .ensures) refl (version .next-version .ensures) (p .open-state .counter)) (args .frame .now) setting (p .long) whole
+    (closed-memory state (setting-said state counter _ l said (say .say .ensures) refl (version .next-version .ensures) (p .open-state .counter)) (args .frame .now) setting _ (p .long) whole
     (kind .kind-of .ensures) (word .word .ensures) (write .write-header .ensures))
 
 pub niranbok-composer-close-spec : {M : Type 1} → statement M

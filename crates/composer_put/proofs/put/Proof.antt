@@ -1,7 +1,7 @@
 -- `put` meets its contract: the state that passed the checks changes in its marks alone, and the rest is what was not placed. Assumes nothing.
-use Prim.Native.Nat.{ℕ}
+use Prim.Native.Nat.{ℕ, _/_, _^_, _<_}
 use mathlib.Core.Path.{_≡_, refl, sym, ap, ap₂, _∙_}
-use mathlib.Core.Bool.{Bool, true}
+use mathlib.Core.Bool.{Bool, true, false}
 use mathlib.Core.List.{List, _++_, map}
 use native.Mathlib.Omega.{arith}
 use borrow.Author.Needs.{needs}
@@ -10,10 +10,13 @@ use denote.Ref.{now}
 use lib.Dec.{eqb}
 use lib.ListN.{length, take, length-map}
 use Rattle.setting.specs.Refusal.{leaves}
+use Rattle.setting.specs.Size.{slotsOf}
+use Rattle.setting.specs.Rules.{someBehind}
+use Rattle.setting.proofs.Fields.{narrow}
 use Rattle.counters.specs.Counters.{lastSlot}
 use Rattle.setting_bytes.specs.Settings.{part}
 use Rattle.setting_bytes.proofs.Parts.{length-part}
-use Rattle.packet.specs.Packets.{restOf}
+use Rattle.packet.specs.Packets.{packetLength, restOf}
 use Rattle.composer.specs.Slots.{emptyFor, filledBy, placedBy, marksAfter, frameAfter}
 use Rattle.composer.specs.States.{composerLength, markByte, marksOf, isCoded, composerOf, filledAt, planAt}
 use Rattle.composer.proofs.Same.{marked-bytes, marks-low, all-bytes, coded-by-counter}
@@ -22,6 +25,7 @@ use Rattle.composer.specs.Calls.{putRefused, putPlaced, putState, putMemory}
 use Rattle.composer.proofs.Calls.{put-refused, put-done}
 use Rattle.slot_bits.specs.Bits.{slotsAsBits}
 use Rattle.composer.proofs.Slots.{length-empty}
+use Rattle.composer_put.proofs.Inside.{bits-inside}
 use Rattle.composer_put.proofs.Placed.{left-within, counted}
 use Rattle.composer_put.proofs.Passed.{PutPassed, put-passed}
 use Rattle.composer_put.proofs.put.Statement.{statement}
@@ -67,6 +71,21 @@ empty-long c =
 bits : (c : tie.After-empty-slots)
     → c .empty-slots .result ≡ slotsAsBits (empty (start₁ (c .before .before .before .before) .args .r .0) (start₁ (c .before .before .before .before) .args .state .now))
 bits c = c .empty-slots .ensures
+
+-- no slot behind the frame's last is among them
+few : (c : tie.Else2) → asked c .before .before .empty-slots .result < 2 ^ (length (start₂ c .args .frame .now) / packetLength)
+few c =
+    let p = past c in
+    let state = start₂ c .args .state .now in
+    let plan = part planAt lastSlot state in
+    let kind = composerOf state .kind in
+    let behind : someBehind (slotsOf kind) plan ≡ false =
+    sym (ap (someBehind (slotsOf kind)) (plan-there state (measured (asked c) .if1 .left))) ∙ narrow kind (p .open-state .widths) .numbers-behind in
+    omega (
+      arith,
+      bits (asked c .before .before),
+      bits-inside (start₂ c .args .r .0) (slotsOf kind) plan (marksOf (part filledAt lastSlot state)) (p .number) behind (p .long),
+    )
 
 -- what the placing leaves of the stream
 left : (c : tie.After-place)
@@ -136,7 +155,7 @@ place-requires c κs =
     let k = c .before .before .before .before in
     let b = start₂ k .args .state .now in
     let long = measured (asked k) .if1 .left in
-    ((past k .long, length-part filledAt lastSlot b (omega arith)), (marks-low b long (all-bytes b (c .before .before .are-bytes .ensures)) (coded k), (_, empty-long k, bits (asked k .before .before))))
+    ((few k, length-part filledAt lastSlot b (omega arith)), (marks-low b long (all-bytes b (c .before .before .are-bytes .ensures)) (coded k), (_, empty-long k, bits (asked k .before .before))))
 
 sub-placed : tie.Need-sub-placed
 sub-placed c =

@@ -5,6 +5,7 @@ use borrow.Author.Needs.{needs}
 use borrow.Author.Tests.{eq-eqb, ne-eqb, lt-ltb, le-ltb, not-true, not-false}
 use lib.ListN.{length}
 use Rattle.setting.specs.Refusal.{firstOf, leaves}
+use Rattle.setting_bytes.specs.Kinds.{kinds}
 use Rattle.composer.specs.States.{composerLength}
 use Rattle.composer.specs.Calls.{startRefused, startState}
 use Rattle.composer_start.proofs.niranbok_composer_start.Statement.{statement}
@@ -32,7 +33,7 @@ returns-3 c =
     let allowed = checked .before in
     let tested = allowed .before in
     let state = tested .before .before .args .state .now in
-    rw (eq-eqb (length state) composerLength (tested .if1 .left), sym (allowed .pid-allowed .ensures) ∙ not-false _ (checked .if2 .left), le-ltb _ 2 (c .if3 .taken)) (refl, refl)
+    rw (eq-eqb (length state) composerLength (tested .if1 .left), sym (allowed .pid-allowed .ensures) ∙ not-false _ (checked .if2 .left), le-ltb _ kinds (c .if3 .taken)) (refl, refl)
 
 write-fresh-requires : tie.Need-write-fresh-requires
 write-fresh-requires c κs = search needs
@@ -49,7 +50,7 @@ returns-4 c =
     let allowed = checked .before in
     let tested = allowed .before in
     let args = tested .before .before .args in
-    rw (eq-eqb (length (args .state .now)) composerLength (tested .if1 .left), sym (allowed .pid-allowed .ensures) ∙ not-false _ (checked .if2 .left), lt-ltb (args .kind) 2 (omega (arith, numbered .if3 .left)))
+    rw (eq-eqb (length (args .state .now)) composerLength (tested .if1 .left), sym (allowed .pid-allowed .ensures) ∙ not-false _ (checked .if2 .left), lt-ltb (args .kind) kinds (omega (arith, numbered .if3 .left)))
     (refl, written .write-fresh .ensures)
 
 pub niranbok-composer-start-spec : {M : Type 1} → statement M

@@ -4,6 +4,7 @@ use native.Mathlib.Omega.{arith}
 use borrow.Author.Tests.{eq-eqb, ne-eqb, lt-ltb, le-ltb, not-true, not-false}
 use Rattle.setting.specs.Refusal.{firstOf}
 use Rattle.header_layout.specs.Header.{headerLength}
+use Rattle.setting_bytes.specs.Kinds.{kinds}
 use Rattle.setting_bytes.specs.Settings.{settingLength}
 use Rattle.header_calls.specs.Calls.{callRefused}
 use borrow.Author.Needs.{needs}
@@ -39,7 +40,7 @@ returns-4 c =
       eq-eqb (a .packet) headerLength (c .before .before .before .before .if1 .left),
       eq-eqb (a .setting) settingLength (c .before .before .before .if2 .left),
       sym (c .before .before .pid-allowed .ensures) ∙ not-false _ (c .before .if3 .left),
-      le-ltb (a .kind) 2 (omega (arith, c .if4 .taken)),
+      le-ltb (a .kind) kinds (omega (arith, c .if4 .taken)),
     )
 
 returns-5 : tie.Need-returns-5
@@ -50,7 +51,7 @@ returns-5 c =
       eq-eqb (a .packet) headerLength (c .before .before .before .before .if1 .left),
       eq-eqb (a .setting) settingLength (c .before .before .before .if2 .left),
       sym (c .before .before .pid-allowed .ensures) ∙ not-false _ (c .before .if3 .left),
-      lt-ltb (a .kind) 2 (omega (arith, c .if4 .left)),
+      lt-ltb (a .kind) kinds (omega (arith, c .if4 .left)),
     )
 
 pub call-refusal-spec : {M : Type 1} → statement M

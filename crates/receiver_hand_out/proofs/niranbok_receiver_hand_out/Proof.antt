@@ -5,12 +5,13 @@ use borrow.Author.Needs.{needs}
 use lib.ListN.{length, drop, length-drop}
 use lib.Seq.{length-take-le}
 use Rattle.setting.specs.Refusal.{firstOf}
+use Rattle.setting.proofs.Sizes.{sized}
 use Rattle.receiver.specs.Packed.{packedLength}
 use Rattle.receiver.specs.Bytes.{beforeAt, receiverLength, receiverOf}
 use Rattle.receiver.proofs.LentRefusal.{lent-accepted}
 use Rattle.receiver.proofs.Answers.{hand-refused, hands}
 use Rattle.receiver_hand_out.specs.Ready.{readyChecks}
-use Rattle.receiver_hand_out.proofs.Frames.{state-first, refused-before, handed-store, handed-number, handed-frame, handed-buffer}
+use Rattle.receiver_hand_out.proofs.Frames.{state-first, refused-before, handed-packets, handed-number, handed-frame, handed-buffer}
 use Rattle.receiver_hand_out.proofs.niranbok_receiver_hand_out.Statement.{statement}
 use Rattle.receiver_hand_out.proofs.niranbok_receiver_hand_out.Tie as tie
 
@@ -44,13 +45,14 @@ part-hand-out-end : tie.Need-part-hand-out-end
 part-hand-out-end c = omega (arith, accepted (c .before) .0)
 
 hand-out-requires : tie.Need-hand-out-requires
+unfolding receiverOf
 hand-out-requires c κs =
     let k = c .before .before in
     let a = start k .args in
     let w = receiverOf (a .state .now) in (
       length-take-le packedLength (drop beforeAt (a .state .now)) (rw length-drop (omega (arith, accepted k .0))),
-      handed-store w (a .r) _ (accepted k .1),
-      omega (arith, handed-number w (a .r) (length (a .store .now)) (accepted k .1)),
+      handed-packets w (a .r) _ (accepted k .1) (a .store .now) refl,
+      omega (arith, handed-number w (a .r) (length (a .store .now)) (accepted k .1) .1, sized (w .kind) .streams),
     )
 
 same-length : tie.Need-same-length

@@ -4,14 +4,11 @@ use mathlib.Core.Path.{refl, ap, _∙_}
 use mathlib.Core.List.{List, _++_}
 use native.Mathlib.Omega.{arith}
 use borrow.Author.Needs.{needs}
-use lib.ListN.{take, drop}
+use lib.ListN.{take}
 use lib.Seq.{length-take-le}
 use Rattle.slices.specs.Slices.{copied}
-use Rattle.header_layout.specs.Rows.{place}
-use Rattle.header_layout.specs.Layout.{numbersStart}
-use Rattle.header_layout.proofs.LaidOut.{laid-out}
 use Rattle.receiver.specs.Packed.{packedLength}
-use Rattle.receiver_receive.proofs.Joined.{copied-part, joined, length-own}
+use Rattle.receiver_receive.proofs.Joined.{copied-part, joined}
 use Rattle.receiver_receive.proofs.renew.Statement.{statement}
 use Rattle.receiver_receive.proofs.renew.Tie as tie
 
@@ -29,15 +26,6 @@ part-copy-end c = search needs
 
 copy-requires : tie.Need-copy-requires
 copy-requires c κs = search needs
-
-sub-own : tie.Need-sub-own
-sub-own c = search needs
-
-part-own-start : tie.Need-part-own-start
-part-own-start c = search needs
-
-part-own-end : tie.Need-part-own-end
-part-own-end c = search needs
 
 are-bytes-requires : tie.Need-are-bytes-requires
 are-bytes-requires c κs = search needs
@@ -76,19 +64,16 @@ same-length : tie.Need-same-length
 same-length c = search needs
 
 returns : tie.Need-returns
-unfolding numbersStart laid-out place
 returns c =
     let last = c .before .before in
     let first = last .before .before .before .before .before in
     let look = first .before .before in
-    let copy = look .before .before .before in
+    let copy = look .before .before in
     let s = copy .before .before .before .before .before .before in
     let a = s .args in
     let held = copy .copy .ensures ∙ copied-part (a .numbers .now) 0 packedLength (omega (arith, s .pre .0)) refl in
-    let own = take packedLength (drop numbersStart (a .packet .now)) in
     let before = take packedLength (a .numbers .now) in (
-      joined (a .numbers .now) own before (s .pre .0)
-          (length-own (a .packet .now) (s .pre .1)) (length-take-le packedLength (a .numbers .now) (omega (arith, s .pre .0)))
+      joined (a .numbers .now) (a .own .now) before (s .pre .0) (s .pre .1) (length-take-le packedLength (a .numbers .now) (omega (arith, s .pre .0)))
           (first .copy2 .ensures) (last .copy3 .ensures ∙ ap (copied _) held),
       look .are-bytes .ensures,
     )
@@ -102,9 +87,6 @@ renew-spec =
     part-copy-start
     part-copy-end
     copy-requires
-    sub-own
-    part-own-start
-    part-own-end
     are-bytes-requires
     sub-copy-2
     part-copy-start-2

@@ -1,24 +1,25 @@
 -- `take_header` meets its contract: the packet is broken, or a header. Assumes nothing.
 use Prim.Native.Nat.{ℕ, _+_}
 use mathlib.Core.Path.{_≡_, refl, sym, ap, ap₂, _∙_}
-use mathlib.Core.List.{List}
+use mathlib.Core.List.{List, _++_}
 use native.Mathlib.Omega.{arith}
 use borrow.Author.Needs.{needs}
 use borrow.Author.Tests.{eq-eqb}
 use lib.ListN.{length, take, drop, length-drop}
 use lib.Seq.{length-take-le}
-use Rattle.header_layout.specs.Layout.{numbersStart}
 use Rattle.header_layout.specs.Header.{reading}
 use Rattle.header_check.specs.Checking.{readRefusal, checkedOf}
 use Rattle.setting.specs.declared.Kind.{Kind}
+use Rattle.setting.specs.declared.Size.{Size}
+use Rattle.setting.specs.Size.{sizeOf, slotsOf}
 use Rattle.receiver.specs.declared.Stage.{Stage}
 use Rattle.receiver.specs.Table.{good, broken, rowOf}
-use Rattle.receiver.specs.Packed.{packedLength}
+use Rattle.receiver.specs.Packed.{packedLength, packed}
 use Rattle.receiver.specs.Store.{storeLength}
 use Rattle.receiver.specs.Bytes.{receiverOf, receiverLength, numbersAt}
 use Rattle.receiver.proofs.Bytes.{over-stage}
+use Rattle.receiver.proofs.Packing.{length-packed}
 use Rattle.receiver_receive.proofs.Sorts.{broken-sort, good-sort, checked-refusal, checked-counter}
-use Rattle.receiver_receive.proofs.Joined.{length-own, opened-is}
 use Rattle.receiver_receive.proofs.Receipts.{whole-packet, broken-receipt, good-receipt}
 use Rattle.receiver_receive.proofs.Taking.{keeps, renews, renewed, renewed-length}
 use Rattle.receiver_receive.proofs.take_header.Statement.{statement}
@@ -98,23 +99,27 @@ returns c =
     let s = start check in
     let a = s .args in
     let w = receiverOf (a .state .now) in
+    let long-store = storeLength (slotsOf (w .kind)) in
     let sort = broken-sort (w .kind) (w .pid) (a .packet .now) (s .pre .1 .0) (λ e. row .before .before .if1 .taken (said-refusal check ∙ e)) in
-    keeps (a .state .now) (a .packet .now) storeLength (s .pre .0 .0) (s .pre .0 .1) (s .pre .1 .1) (row .broken-row .result) (move .move-on .ensures .0)
-    (broken-receipt w (a .packet .now) storeLength (s .pre .1 .1) sort (row .broken-row .ensures ∙ ap (λ (t : Stage). rowOf t broken 0) (said-stage check)))
+    keeps (a .state .now) (a .packet .now) long-store (s .pre .0 .0) (s .pre .0 .1) (s .pre .1 .1) (row .broken-row .result) (move .move-on .ensures .0)
+    (broken-receipt w (a .packet .now) long-store (s .pre .1 .1) sort (row .broken-row .ensures (slotsOf (w .kind)) ∙ ap (λ (t : Stage). rowOf (slotsOf (w .kind)) t broken 0) (said-stage check)))
     (move .move-on .ensures .1 ∙ over-stage (a .state .now) (row .broken-row .result .stage))
 
-sub-renew : tie.Need-sub-renew
-sub-renew c = search needs
+size-of-requires : tie.Need-size-of-requires
+size-of-requires c κs = search needs
 
-part-renew-start : tie.Need-part-renew-start
-part-renew-start c = search needs
+sub-renumber : tie.Need-sub-renumber
+sub-renumber c = search needs
 
-part-renew-end : tie.Need-part-renew-end
-part-renew-end c = search needs
+part-renumber-start : tie.Need-part-renumber-start
+part-renumber-start c = search needs
 
-renew-requires : tie.Need-renew-requires
-renew-requires c κs =
-    let s = start (c .before .before .before) in
+part-renumber-end : tie.Need-part-renumber-end
+part-renumber-end c = search needs
+
+renumber-requires : tie.Need-renumber-requires
+renumber-requires c κs =
+    let s = start (c .before .before .before .before) in
     (length-take-le (packedLength + packedLength) (drop numbersAt (s .args .state .now)) (rw length-drop (omega (arith, s .pre .0 .0))), whole-packet _ _ _ (s .pre .1 .1))
 
 header-row-requires : tie.Need-header-row-requires
@@ -123,10 +128,8 @@ header-row-requires c κs = search needs
 move-on-requires-2 : tie.Need-move-on-requires-2
 move-on-requires-2 c κs =
     let renew = c .before .before .before .before in
-    let s = start (renew .before .before .before .before) in
-    let p = s .args .packet .now in
-    renewed-length (s .args .state .now) _ (take packedLength (drop numbersStart p)) (s .pre .0 .0)
-    (length-own p (whole-packet (receiverOf (s .args .state .now)) _ _ (s .pre .1 .1))) (renew .renew .ensures .0)
+    let s = start (renew .before .before .before .before .before) in
+    renewed-length (s .args .state .now) _ (packed _) (s .pre .0 .0) (length-packed _) (renew .renumber .ensures)
 
 same-length-2 : tie.Need-same-length-2
 same-length-2 c = search needs
@@ -136,20 +139,25 @@ returns-2 c =
     let move = c .before .before in
     let row = move .before in
     let renew = row .before .before .before .before in
-    let accepted = renew .before .before in
+    let asked = renew .before .before in
+    let accepted = asked .before in
     let check = accepted .before .before in
     let s = start check in
     let a = s .args in
     let w = receiverOf (a .state .now) in
     let p = a .packet .now in
+    let long-store = storeLength (slotsOf (w .kind)) in
+    let slots = ap (λ (z : Size). z .slots) (asked .size-of .ensures ∙ ap sizeOf (said-kind check)) in
     let accepts = sym (said-refusal check) ∙ accepted .if1 .left in
-    let own = take packedLength (drop numbersStart p) in
     let said = reading (w .kind) p in
-    renews (a .state .now) p storeLength (s .pre .0 .0) (s .pre .0 .1) (s .pre .1 .1) (row .header-row .result) (move .move-on2 .ensures .0) said
-    (good-receipt w p storeLength (s .pre .1 .1) (good-sort (w .kind) (w .pid) p accepts) said refl
-    (row .header-row .ensures ∙ ap₂ (λ (t : Stage) (n : ℕ). rowOf t good n) (said-stage check) (checked-counter (w .kind) (w .pid) p (checked check) accepts)))
-    (opened-is (w .kind) p (whole-packet w _ _ (s .pre .1 .1)) (renew .renew .ensures .1))
-    (move .move-on2 .ensures .1 ∙ renewed (a .state .now) _ own (row .header-row .result .stage) (s .pre .0 .0) (renew .renew .ensures .0))
+    let lent = take (packedLength + packedLength) (drop numbersAt (a .state .now)) in
+    let own = renew .renumber .ensures ∙ ap (λ (k : Kind). packed (reading k p .«relative_ts_number») ++ take packedLength lent) (said-kind check) in
+    renews (a .state .now) p long-store (s .pre .0 .0) (s .pre .0 .1) (s .pre .1 .1) (row .header-row .result) (move .move-on2 .ensures .0) said
+    (good-receipt w p long-store (s .pre .1 .1) (good-sort (w .kind) (w .pid) p accepts) said refl
+    (row .header-row .ensures ∙ ap (λ (n : ℕ). rowOf n (staged check .stage-in .result) good (check .check .result .«continuity_counter»)) slots
+    ∙ ap₂ (λ (t : Stage) (n : ℕ). rowOf (slotsOf (w .kind)) t good n) (said-stage check) (checked-counter (w .kind) (w .pid) p (checked check) accepts)))
+    refl
+    (move .move-on2 .ensures .1 ∙ renewed (a .state .now) _ (packed (said .«relative_ts_number»)) (row .header-row .result .stage) (s .pre .0 .0) own)
 
 pub take-header-spec : {M : Type 1} → statement M
 take-header-spec =
@@ -166,10 +174,11 @@ take-header-spec =
     move-on-requires
     same-length
     returns
-    sub-renew
-    part-renew-start
-    part-renew-end
-    renew-requires
+    size-of-requires
+    sub-renumber
+    part-renumber-start
+    part-renumber-end
+    renumber-requires
     header-row-requires
     move-on-requires-2
     same-length-2

@@ -3,6 +3,7 @@ use native.Mathlib.Omega.{arith}
 use borrow.Author.Needs.{needs}
 use borrow.Author.Tests.{eq-eqb, ne-eqb, lt-ltb, le-ltb}
 use lib.ListN.{length, getD}
+use Rattle.setting_bytes.specs.Kinds.{kinds}
 use Rattle.receiver.specs.Bytes.{kindAt, receiverLength}
 use Rattle.receiver_stage.proofs.stage_in.Statement.{statement}
 use Rattle.receiver_stage.proofs.stage_in.Tie as tie
@@ -26,7 +27,7 @@ returns-2 c =
     let k = c .before in
     let lent = k .before .before in
     let b = lent .before .before .args .bytes .now in
-    rw (eq-eqb (length b) receiverLength (lent .if1 .left), le-ltb (getD b kindAt 0) 2 (omega (arith, k .if2 .taken))) (c .no-stage2 .ensures)
+    rw (eq-eqb (length b) receiverLength (lent .if1 .left), le-ltb (getD b kindAt 0) kinds (omega (arith, k .if2 .taken))) (c .no-stage2 .ensures)
 
 shared-slice-read-stage-of : tie.Need-shared-slice-read-stage-of
 shared-slice-read-stage-of c = search needs
@@ -45,7 +46,7 @@ returns-3 c =
     let k = c .before .before .before .before in
     let lent = k .before .before in
     let b = lent .before .before .args .bytes .now in
-    rw (eq-eqb (length b) receiverLength (lent .if1 .left), lt-ltb (getD b kindAt 0) 2 (omega (arith, k .if2 .left))) (c .stage-of .ensures)
+    rw (eq-eqb (length b) receiverLength (lent .if1 .left), lt-ltb (getD b kindAt 0) kinds (omega (arith, k .if2 .left))) (c .stage-of .ensures)
 
 pub stage-in-spec : {M : Type 1} → statement M
 stage-in-spec =

@@ -1,7 +1,6 @@
 -- `stage_refusal` meets its contract, test by test. Assumes nothing.
 use mathlib.Core.Path.{refl}
 use mathlib.Core.Bool.{and-false}
-use borrow.Author.Needs.{needs}
 use borrow.Author.Tests.{ne-eqb, le-leb, lt-leb, lt-ltb, le-ltb}
 use Rattle.setting.specs.Refusal.{firstOf}
 use Rattle.receiver.specs.Table.{stageChecks}
@@ -12,9 +11,6 @@ use Rattle.receiver_stage.proofs.stage_refusal.Tie as tie
 returns : tie.Need-returns
 unfolding stageOf stageChecks firstOf
 returns c = rw (c .before .if1 .taken, le-leb _ _ (c .if2 .taken)) refl
-
-cast-if3 : tie.Need-cast-if3
-cast-if3 c = search needs
 
 returns-2 : tie.Need-returns-2
 unfolding stageOf stageChecks firstOf
@@ -67,7 +63,6 @@ stage-refusal-spec =
     tie.close
     (tie.spec
     returns
-    cast-if3
     returns-2
     returns-3
     returns-4

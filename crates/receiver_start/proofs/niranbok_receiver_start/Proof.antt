@@ -47,7 +47,7 @@ returns-4 c =
     let known = written .before .before in
     let k = known .before in
     let a = start k .args in
-    starts (a .state .now) (a .pid) (a .kind) (k .before .before .if1 .left) (allowed k) (known .if3 .left) (written .write-fresh .ensures)
+    starts (a .state .now) (a .pid) (a .kind) (k .before .before .if1 .left) (allowed k) (omega (arith, known .if3 .left)) (written .write-fresh .ensures)
 
 pub niranbok-receiver-start-spec : {M : Type 1} → statement M
 niranbok-receiver-start-spec =

@@ -16,15 +16,15 @@ enum-told-3 c = search needs
 
 returns : tie.Need-returns
 unfolding rowOf openRow
-returns c = rw (c .enum-told .given .1) refl
+returns c slots = rw (c .enum-told .given .1) refl
 
 returns-2 : tie.Need-returns-2
 unfolding rowOf openRow
-returns-2 c = rw (c .enum-told2 .given .1) refl
+returns-2 c slots = rw (c .enum-told2 .given .1) refl
 
 returns-3 : tie.Need-returns-3
 unfolding rowOf openRow
-returns-3 c = rw (c .enum-told3 .given .1) refl
+returns-3 c slots = rw (c .enum-told3 .given .1) refl
 
 pub broken-row-spec : {M : Type 1} → statement M
 broken-row-spec =

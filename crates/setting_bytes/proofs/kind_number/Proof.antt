@@ -18,5 +18,12 @@ returns-2 : tie.Need-returns-2
 unfolding kindNumber
 returns-2 c = rw (c .enum-told2 .given .1)
 
+enum-told-3 : tie.Need-enum-told-3
+enum-told-3 c = search needs
+
+returns-3 : tie.Need-returns-3
+unfolding kindNumber
+returns-3 c = rw (c .enum-told3 .given .1)
+
 pub kind-number-spec : {M : Type 1} → statement M
-kind-number-spec = tie.close (tie.spec enum-told enum-told-2 returns returns-2)
+kind-number-spec = tie.close (tie.spec enum-told enum-told-2 enum-told-3 returns returns-2 returns-3)

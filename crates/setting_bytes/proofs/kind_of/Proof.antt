@@ -10,7 +10,11 @@ returns c = rw (c .if1 .taken)
 
 returns-2 : tie.Need-returns-2
 unfolding kindOf
-returns-2 c = rw (ne-eqb (c .before .args .n) 1 (c .if1 .left))
+returns-2 c = rw (ne-eqb (c .before .before .args .n) 1 (c .before .if1 .left), c .if2 .taken)
+
+returns-3 : tie.Need-returns-3
+unfolding kindOf
+returns-3 c = rw (ne-eqb (c .before .before .args .n) 1 (c .before .if1 .left), ne-eqb (c .before .before .args .n) 2 (c .if2 .left))
 
 pub kind-of-spec : {M : Type 1} → statement M
-kind-of-spec = tie.close (tie.spec returns returns-2)
+kind-of-spec = tie.close (tie.spec returns returns-2 returns-3)

@@ -41,28 +41,28 @@ is-within-requires c κs = search needs
 
 returns : tie.Need-returns
 unfolding bondingChecks
-returns c = rw (c .before .before .enum-told2 .given .1) (sym (answers _ _ (ap not (sym (c .before .is-within .ensures)) ∙ c .if1 .taken)))
+returns c = rw (c .before .before .enum-told3 .given .1) (sym (answers _ _ (ap not (sym (c .before .is-within .ensures)) ∙ c .if1 .taken)))
 
 is-within-requires-2 : tie.Need-is-within-requires-2
 is-within-requires-2 c κs = search needs
 
 returns-2 : tie.Need-returns-2
 unfolding bondingChecks
-returns-2 c = rw (c .before .before .before .before .enum-told2 .given .1) (sym (past-1 (c .before .before) ∙ answers _ _ (ap not (sym (c .before .is-within2 .ensures)) ∙ c .if2 .taken)))
+returns-2 c = rw (c .before .before .before .before .enum-told3 .given .1) (sym (past-1 (c .before .before) ∙ answers _ _ (ap not (sym (c .before .is-within2 .ensures)) ∙ c .if2 .taken)))
 
 is-within-requires-3 : tie.Need-is-within-requires-3
 is-within-requires-3 c κs = search needs
 
 returns-3 : tie.Need-returns-3
 unfolding bondingChecks
-returns-3 c = rw (c .before .before .before .before .before .before .enum-told2 .given .1) (sym (past-2 (c .before .before) ∙ answers _ _ (ap not (sym (c .before .is-within3 .ensures)) ∙ c .if3 .taken)))
+returns-3 c = rw (c .before .before .before .before .before .before .enum-told3 .given .1) (sym (past-2 (c .before .before) ∙ answers _ _ (ap not (sym (c .before .is-within3 .ensures)) ∙ c .if3 .taken)))
 
 is-within-requires-4 : tie.Need-is-within-requires-4
 is-within-requires-4 c κs = search needs
 
 returns-4 : tie.Need-returns-4
 unfolding bondingChecks
-returns-4 c = rw (c .before .before .before .before .before .before .before .before .enum-told2 .given .1) (sym (past-3 (c .before .before) ∙ answers _ _ (ap not (sym (c .before .is-within4 .ensures)) ∙ c .if4 .taken)))
+returns-4 c = rw (c .before .before .before .before .before .before .before .before .enum-told3 .given .1) (sym (past-3 (c .before .before) ∙ answers _ _ (ap not (sym (c .before .is-within4 .ensures)) ∙ c .if4 .taken)))
 
 returns-5 : tie.Need-returns-5
 unfolding bondingChecks firstOf
@@ -70,7 +70,14 @@ returns-5 c = rw (c .enum-told .given .1)
 
 returns-6 : tie.Need-returns-6
 unfolding bondingChecks firstOf
-returns-6 c = rw (c .before .before .before .before .before .before .before .before .enum-told2 .given .1) (sym (past-4 c))
+returns-6 c = rw (c .enum-told2 .given .1)
+
+returns-7 : tie.Need-returns-7
+unfolding bondingChecks firstOf
+returns-7 c = rw (c .before .before .before .before .before .before .before .before .enum-told3 .given .1) (sym (past-4 c))
+
+enum-told-3 : tie.Need-enum-told-3
+enum-told-3 c = search needs
 
 pub bonding-refusal-spec : {M : Type 1} → statement M
 bonding-refusal-spec =
@@ -78,6 +85,7 @@ bonding-refusal-spec =
     (tie.spec
     enum-told
     enum-told-2
+    enum-told-3
     is-within-requires
     returns
     is-within-requires-2
@@ -87,4 +95,5 @@ bonding-refusal-spec =
     is-within-requires-4
     returns-4
     returns-5
-    returns-6)
+    returns-6
+    returns-7)

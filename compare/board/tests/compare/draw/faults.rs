@@ -2,7 +2,8 @@
 
 use super::availability_bit;
 use board::random::Random;
-use reference::{crc32, Kind, Setting};
+use reference::{crc32, Kind, Setting, SLOTS, STREAMS};
+use std::ops::Range;
 
 /// How many sorts of faults there are in a setting.
 const SORTS: usize = 18;
@@ -10,19 +11,26 @@ const SORTS: usize = 18;
 /// One field off, mostly by one, or at its end and just right.
 pub fn spoil(random: &mut Random, kind: Kind, setting: &mut Setting) {
     let any = random.byte();
+    let size = kind.size();
     match random.below(SORTS) {
         0 => setting.continuity_counter = random.of(&[0, 15, 16, 255, any]),
         1 => setting.version_number = random.of(&[0, 7, 8, 255, any]),
         2 => setting.slot_allocation_type = random.of(&[0, 1, 2, 255, any]),
         3 | 4 => setting.frame_type = random.of(&[0, 1, 2, 3, 14, 15, 16, 17, 18, 255]),
         5 => setting.availability |= 0x8000,
-        6 => setting.receive_status[random.below(15)] = random.of(&[0, 3, 4, 255, any]),
+        6 => setting.receive_status[random.below(STREAMS)] = random.of(&[0, 3, 4, 255, any]),
         7 => setting.emergency_indicator = random.of(&[0, 1, 2, 255, any]),
-        8 => setting.relative_ts_number[random.below(52)] = random.of(&[15, 16, 17, 255, any]),
+        8 => {
+            let number = random.of(&[7, 8, 15, 16, 17, 255, any]);
+            setting.relative_ts_number[random.below(SLOTS)] = number;
+        }
         9 => lacking_part(random, kind, setting),
-        10 | 11 => setting.relative_ts_number[random.of(&[0, 51, 20])] = random.byte_below(16),
-        12 | 13 => setting.availability ^= availability_bit(random.between(1, 15)),
-        14 | 15 => equal_pairs(random, setting),
+        10 | 11 => {
+            let slot = random.of(&[0, size.slots - 1, 20]);
+            setting.relative_ts_number[slot] = random.byte_below(size.streams + 1);
+        }
+        12 | 13 => setting.availability ^= availability_bit(random.between(1, size.streams)),
+        14 | 15 => equal_pairs(random, size.streams, setting),
         _ => bonding(random, setting),
     }
 }
@@ -30,16 +38,34 @@ pub fn spoil(random: &mut Random, kind: Kind, setting: &mut Setting) {
 /// A byte of a part that the kind has not, at one of its ends or inside.
 fn lacking_part(random: &mut Random, kind: Kind, setting: &mut Setting) {
     let value = random.of(&[1, 128, 255]);
-    match kind {
-        Kind::Extended => setting.private_data[random.of(&[0, 40, 84])] = value,
-        Kind::Plain if random.one_in(2) => setting.auxiliary[random.of(&[0, 13, 27])] = value,
-        Kind::Plain => *bonding_field(random.below(5), setting) = value,
+    match (kind, random.below(3)) {
+        (Kind::Extended, _) => setting.private_data[random.of(&[0, 40, 84, 85, 130])] = value,
+        (Kind::Plain, 0) => setting.private_data[random.of(&[85, 86, 108, 130])] = value,
+        (Kind::Short, 0) => behind_the_last(random, setting, value),
+        (_, 1) => setting.auxiliary[random.of(&[0, 13, 27])] = value,
+        _ => *bonding_field(random.below(5), setting) = value,
+    }
+}
+
+/// Something of streams 8 to 15 or of slots 41 to 52, at an end or inside.
+fn behind_the_last(random: &mut Random, setting: &mut Setting, value: u8) {
+    let stream = random.of(&[8, 9, 12, 15]);
+    let word = u16::from(value) << random.of(&[0, 8]);
+    match random.below(6) {
+        0 => setting.availability |= availability_bit(stream),
+        1 => setting.ts_id[stream - 1] = word,
+        2 => setting.original_network_id[stream - 1] = word,
+        3 => setting.receive_status[stream - 1] = random.of(&[1, 2, 3, value]),
+        _ => {
+            let slot = random.of(&[41, 42, 47, 52]);
+            setting.relative_ts_number[slot - 1] = random.of(&[1, 7, 8, 15, value]);
+        }
     }
 }
 
 /// Two available streams with equal pairs, or with a bit between them.
-fn equal_pairs(random: &mut Random, setting: &mut Setting) {
-    let (one, other) = (random.between(1, 15), random.between(1, 15));
+fn equal_pairs(random: &mut Random, last: usize, setting: &mut Setting) {
+    let (one, other) = (random.between(1, last), random.between(1, last));
     setting.availability |= availability_bit(one) | availability_bit(other);
     setting.ts_id[one - 1] = setting.ts_id[other - 1];
     setting.original_network_id[one - 1] = setting.original_network_id[other - 1];
@@ -72,15 +98,21 @@ fn bonding(random: &mut Random, setting: &mut Setting) {
 
 /// Damages a header somewhere. Half of the time its CRC is right again, so
 /// that what stands behind 7 is reached.
-pub fn damage(random: &mut Random, packet: &mut [u8]) {
+pub fn damage(random: &mut Random, kind: Kind, packet: &mut [u8]) {
+    let (pairs, numbers) = (pairs(kind), slot_numbers(kind));
     for _ in 0..random.of(&[1, 1, 1, 2, 3]) {
         let any = random.below(packet.len());
-        let byte = random.of(&[any, any, 0, 1, 2, 3, 4, 5, 6, 7, 8, 73, 98, 128, 129, 130]);
+        let ends = [pairs.start, pairs.end, numbers.start, numbers.end];
+        let end = random.of(&ends) - random.below(2);
+        let byte = random.of(&[any, any, 0, 1, 2, 3, 4, 5, 6, 7, end, end, 128, 129, 130]);
         packet[byte] ^= 1 << random.below(8);
     }
     match random.below(4) {
-        0 => copy_pair(random, packet),
-        1 => packet[73 + random.below(26)] = random.byte(),
+        0 => {
+            let [from, to] = [(); 2].map(|_| pairs.start + 4 * random.below(pairs.len() / 4));
+            packet.copy_within(from..from + 4, to);
+        }
+        1 => packet[numbers.start + random.below(numbers.len())] = random.byte(),
         _ => (),
     }
     if random.one_in(2) {
@@ -88,10 +120,20 @@ pub fn damage(random: &mut Random, packet: &mut [u8]) {
     }
 }
 
-/// The pair of one stream becomes that of another.
-fn copy_pair(random: &mut Random, packet: &mut [u8]) {
-    let [from, to] = [9 + 4 * random.below(15), 9 + 4 * random.below(15)];
-    packet.copy_within(from..from + 4, to);
+/// Where a header has the identifiers of all streams.
+fn pairs(kind: Kind) -> Range<usize> {
+    match kind {
+        Kind::Plain | Kind::Extended => 9..69,
+        Kind::Short => 8..36,
+    }
+}
+
+/// Where it has the numbers of all slots.
+fn slot_numbers(kind: Kind) -> Range<usize> {
+    match kind {
+        Kind::Plain | Kind::Extended => 73..99,
+        Kind::Short => 38..53,
+    }
 }
 
 pub fn make_crc_right(packet: &mut [u8]) {
@@ -108,7 +150,7 @@ pub fn change_bytes(random: &mut Random, bytes: &mut [u8]) {
         bytes[at] = match random.below(4) {
             0 => bytes[at].wrapping_add(1),
             1 => bytes[at] ^ 1 << random.below(8),
-            _ => random.of(&[0, 1, 2, 3, 4, 8, 15, 16, 52, 53, 255, drawn]),
+            _ => random.of(&[0, 1, 2, 3, 4, 7, 8, 15, 16, 40, 41, 52, 53, 255, drawn]),
         };
     }
 }

@@ -90,7 +90,7 @@ pub fn spoil_header(random: &mut Random, header: &mut [u8]) {
         2 => header[129] = random.byte_below(10),
         3 => header[130] ^= 0x70,
         4 => header[130] = header[130] & 0xF0 | random.byte_below(6),
-        _ => return damage(random, header),
+        _ => return damage(random, Kind::Extended, header),
     }
     make_crc_right(header);
 }

@@ -2,7 +2,7 @@
 
 use super::{good, plan};
 use board::random::Random;
-use reference::{Composer, Kind, FRAME_BYTES, PACKET_BYTES};
+use reference::{Composer, Kind, PACKET_BYTES};
 
 /// A packet that may stand in a slot, at times a null packet.
 pub fn ordinary(random: &mut Random, header_pid: u16) -> Vec<u8> {
@@ -38,7 +38,7 @@ pub fn stream(random: &mut Random, header_pid: u16, packets: usize) -> Vec<u8> {
 /// A stream as a put gets it: now and then with a packet that is unfit, and
 /// now and then with a cut one at its end.
 pub fn lent_stream(random: &mut Random, header_pid: u16) -> Vec<u8> {
-    let packets = random.of(&[0, 1, 2, 3, 4, 5, 8, 53]);
+    let packets = random.of(&[0, 1, 2, 3, 4, 5, 8, 41, 53]);
     let mut stream = stream(random, header_pid, packets);
     if packets > 0 && random.one_in(6) {
         let unfit = random.below(packets);
@@ -60,8 +60,8 @@ pub fn frames(random: &mut Random, pid: u16, kind: Kind, count: usize) -> Vec<Ve
         if random.one_in(3) {
             setting = good(random, kind);
         }
-        plan(random, &mut setting);
-        let mut frame = vec![0; FRAME_BYTES];
+        plan(random, kind, &mut setting);
+        let mut frame = vec![0; kind.size().frame_bytes()];
         composer.begin(&mut frame, &setting).expect("it is good");
         for r in (1..=15).filter(|&r| setting.is_available(r)) {
             let packets = random.below(8);

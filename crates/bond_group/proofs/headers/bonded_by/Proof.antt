@@ -7,17 +7,24 @@ use native.Mathlib.Omega.{arith}
 use borrow.Author.Tests.{ne-eqb}
 use lib.Count.{ones}
 use lib.Dec.{eqb}
+use lib.ListN.{length, take, drop}
+use lib.Seq.{drop-drop}
 use Rattle.counters.specs.Counters.{firstSlot, lastSlot, firstStream, lastStream, within}
 use Rattle.counters.proofs.Within.{between}
 use Rattle.counters.proofs.Numbers.{relative-inside, relative-outside}
 use Rattle.slot_bits.specs.Bits.{asBits, slotsAsBits}
 use Rattle.setting.specs.declared.Kind.{Kind}
 use Rattle.setting.specs.declared.Setting.{Setting}
+use Rattle.setting.specs.Size.{sizeOf}
+use Rattle.setting.proofs.Sizes.{resized-same}
+use Rattle.setting_pairs.specs.Identifiers.{idsApart}
+use Rattle.setting_pairs.proofs.Apart.{length-apart}
+use Rattle.bits.specs.Fields.{Fit}
 use Rattle.bits.proofs.Laws.{fit-of}
-use Rattle.header_layout.specs.Header.{reading}
+use Rattle.slices.proofs.Front.{drop-take}
+use Rattle.header_layout.specs.Header.{headerLength, reading}
 use Rattle.header_check.specs.declared.Checked.{Checked}
 use Rattle.header_check.specs.Checking.{partsOf}
-use Rattle.header_check.proofs.Asked.{ts-ids-are, network-ids-are}
 use Rattle.header_check.proofs.Identifiers.{ts-ids-in, network-ids-in}
 use Rattle.bond_places.specs.Order.{framePackets}
 use Rattle.bond_group.specs.declared.Bond.{Bond}
@@ -34,6 +41,21 @@ unfolding marks bondedSlot partsOf
 marked b h s same number =
     ap₂ (λ (ns : List ℕ) (n : ℕ). slotsAsBits (passing (hasNumber ns n) firstSlot lastSlot)) (ap (λ (x : Checked). x .«relative_ts_number») same) number
 
+-- the identifiers stand where an extended header has them
+module _ (p : List ℕ) (f : Fit 8 p) (h : length p ≡ headerLength) where
+  ts-ids-of : idsApart 4 lastStream (take 60 (drop 9 p)) ≡ reading Kind.Extended p .«ts_id»
+  unfolding sizeOf
+  ts-ids-of = sym (resized-same lastStream _ (length-apart 4 lastStream (take 60 (drop 9 p)))) ∙ ts-ids-in Kind.Extended p f h
+
+  -- the same bytes without the first two
+  behind-two : idsApart 4 lastStream (take 58 (drop 11 p)) ≡ idsApart 4 lastStream (drop 2 (take 60 (drop 9 p)))
+  behind-two = ap (idsApart 4 lastStream) (sym (drop-take 2 58 (drop 9 p) ∙ ap (take 58) (drop-drop 2 9 p)))
+
+  network-ids-of : idsApart 4 lastStream (take 58 (drop 11 p)) ≡ reading Kind.Extended p .«original_network_id»
+  unfolding sizeOf
+  network-ids-of =
+      behind-two ∙ sym (resized-same lastStream _ (length-apart 4 lastStream (drop 2 (take 60 (drop 9 p))))) ∙ network-ids-in Kind.Extended p f h
+
 -- so the number is the stream's in it
 numbered : (c : tie.After-number-of) → c .number-of .result ≡ numberOf (c .before .before .before .before .args .b) (reading Kind.Extended (c .before .before .before .before .args .packet .now))
 unfolding partsOf
@@ -42,8 +64,8 @@ numbered c =
     let p = s .args .packet .now in
     let bytes = fit-of 8 p (λ i. c .before .before .before .shared-slice-known .given i .fits) in
     c .number-of .ensures .0 (reading Kind.Extended p) (sym (ap (λ (x : Checked). x .availability) (s .pre .1)))
-    (sym (ts-ids-in p bytes (s .pre .0) ∙ ts-ids-are Kind.Extended p bytes (s .pre .0)))
-    (sym (network-ids-in p bytes (s .pre .0) ∙ network-ids-are Kind.Extended p bytes (s .pre .0)))
+    (sym (ts-ids-of p bytes (s .pre .0)))
+    (sym (network-ids-of p bytes (s .pre .0)))
 
 -- no slot has the number 0
 no-marks : (ns : List ℕ) → slotsAsBits (passing (hasNumber ns 0) firstSlot lastSlot) ≡ 0
@@ -71,6 +93,9 @@ part-number-of-start c = search needs
 
 part-number-of-end : tie.Need-part-number-of-end
 part-number-of-end c = search needs
+
+add-number-of : tie.Need-add-number-of
+add-number-of c = search needs
 
 sub-number-of-2 : tie.Need-sub-number-of-2
 sub-number-of-2 c = search needs
@@ -138,6 +163,7 @@ bonded-by-spec =
     sub-number-of
     part-number-of-start
     part-number-of-end
+    add-number-of
     sub-number-of-2
     part-number-of-start-2
     part-number-of-end-2

@@ -7,7 +7,6 @@ use borrow.Author.Needs.{needs}
 use borrow.Rule.Slice.PartMut.{mid-len}
 use lib.ListN.{length}
 use Rattle.slices.proofs.Toward.{Toward, toward-none, toward-kept, toward-part, toward-length, toward-all}
-use Rattle.counters.specs.Counters.{lastSlot}
 use Rattle.packet.specs.Packets.{packetLength, frameLength}
 use Rattle.composer.specs.Slots.{nulls, cleared}
 use Rattle.composer_begin.proofs.Nulls.{nulls-from, nulls-none}
@@ -15,16 +14,18 @@ use Rattle.composer_begin.proofs.slots.clear.Statement.{statement}
 use Rattle.composer_begin.proofs.slots.clear.Tie as tie
 
 abbrev Inv-loop : tie.InvT-loop
-Inv-loop frame₀ i₀ frame i =
-    (1 ≤ i) × (i ≤ lastSlot + 1) × (length frame ≡ frameLength)
-    × Toward (cleared frame₀) frame₀ frame (nulls (lastSlot + 1 - i)) (packetLength * i)
+Inv-loop frame₀ slots i₀ frame i =
+    (1 ≤ i) × (i ≤ slots + 1) × (length frame ≡ frameLength slots)
+    × Toward (cleared slots frame₀) frame₀ frame (nulls (slots + 1 - i)) (packetLength * i)
 
 abbrev μ-loop : tie.MeasureT-loop
-μ-loop frame₀ i₀ frame i = lastSlot + 1 - i
+μ-loop frame₀ slots i₀ frame i = slots + 1 - i
 
 loop-holds : tie.Need-loop-holds Inv-loop μ-loop
 unfolding cleared
-loop-holds c = (omega arith, omega arith, c .before .pre, toward-kept (toward-none _ _) packetLength refl refl (omega arith))
+loop-holds c =
+    let all : c .before .args .slots + 1 - 1 ≡ c .before .args .slots = omega arith in
+    (omega arith, omega arith, c .before .pre, rw all (toward-kept (toward-none _ _) packetLength refl refl (omega arith)))
 
 mul-at : tie.Need-mul-at Inv-loop μ-loop
 mul-at c = search needs
@@ -58,7 +59,8 @@ loop-again c =
     let start = call .before .before .before in
     let loop = start .loop in
     let at = packetLength * loop .i in
-    let next = nulls-from (loop .i) (omega arith) ∙ ap (λ (l : List ℕ). l ++ nulls (lastSlot + 1 - (loop .i + 1))) (sym (call .write-null .ensures)) in
+    let slots = start .before .before .args .slots in
+    let next = nulls-from slots (loop .i) (omega arith) ∙ ap (λ (l : List ℕ). l ++ nulls (slots + 1 - (loop .i + 1))) (sym (call .write-null .ensures)) in
     let walked = toward-part (loop .inv .3) (call .write-null .last .0) (at + packetLength - at) {j = packetLength * (loop .i + 1)} next (call .write-null .kept .0 ∙ mid-len at (at + packetLength) (loop .frame) (omega arith)) (omega arith) in
     (omega arith, omega arith, toward-length walked (omega arith) ∙ start .before .before .pre, walked)
 
@@ -68,7 +70,7 @@ same-length c = c .before .loop .inv .2 ∙ sym (c .before .before .before .pre)
 returns : tie.Need-returns Inv-loop μ-loop
 returns c =
     let loop = c .before .loop in
-    toward-all (loop .inv .3) (nulls-none (c .before .before .before .args .frame .now) (packetLength * loop .i) (lastSlot + 1 - loop .i) (omega arith) (omega arith))
+    toward-all (loop .inv .3) (nulls-none (c .before .before .before .args .frame .now) (packetLength * loop .i) (c .before .before .before .args .slots + 1 - loop .i) (omega arith) (omega arith))
 
 pub clear-spec : {M : Type 1} → statement M
 clear-spec =

@@ -1,25 +1,37 @@
-use Prim.Native.Nat.{ℕ}
+use Prim.Native.Nat.{ℕ, _≤_, _<_}
 use mathlib.Core.Path.{_≡_, sym, ap, _∙_}
 use mathlib.Core.Bool.{true, not}
 use mathlib.Core.List.{List, _∷_, _++_}
+use native.Mathlib.Omega.{arith}
 use borrow.Author.Needs.{needs}
 use borrow.Author.Tests.{eq-eqb, ne-eqb}
 use Rattle.counters.specs.Counters.{firstStream, lastStream, lastSlot, within}
+use Rattle.counters.proofs.Within.{past, between}
 use Rattle.counters.proofs.Numbers.{relative-inside, relative-outside}
+use Rattle.setting.specs.declared.Size.{Size}
+use Rattle.setting.specs.Size.{slotsOf, streamsOf}
 use Rattle.setting.specs.Refusal.{Check, firstOf}
+use Rattle.setting.proofs.Sizes.{sized}
 use Rattle.setting.proofs.Refusals.{at-length, answers, passed, onward, at-once}
 use Rattle.setting_bytes.specs.Settings.{part}
+use Rattle.packet.specs.Packets.{frameLength}
 use Rattle.composer.specs.Slots.{emptyFor}
 use Rattle.composer.specs.Composing.{stateChecks, openChecks, streamChecks, putRefusal}
 use Rattle.composer.proofs.Refusals.{state-none, open-none}
 use Rattle.composer.specs.States.{composerOf, marksOf, filledAt, planAt}
+use Rattle.composer.proofs.There.{kind-there, frame-there}
 use Rattle.slot_bits.specs.Bits.{slotsAsBits}
+use Rattle.composer_put.proofs.Streams.{at-least, outside}
 use Rattle.composer_put.proofs.checks.put_refusal.Statement.{statement}
 use Rattle.composer_put.proofs.checks.put_refusal.Tie as tie
 
--- from the place after a check that did not hold to the function's start
+-- from the place where the kind was told to the function's start
+abbrev kind-start : tie.After-kind-of → tie.Start
+kind-start c = c .before .before .before .before
+
+-- and from the place after a check that did not hold
 abbrev start₁ : tie.Else1 → tie.Start
-start₁ c = c .before .before .before
+start₁ c = kind-start (c .before .before)
 
 abbrev start₂ : tie.Else2 → tie.Start
 start₂ c = start₁ (c .before)
@@ -31,8 +43,14 @@ start₃ c = start₂ (c .before .before)
 abbrev number-start : tie.After-known-told → tie.Start
 number-start c = start₃ (c .before .before .before .before)
 
+abbrev answered : tie.Else4 → tie.After-known-told
+answered c = c .before .before .before .before
+
 abbrev start₄ : tie.Else4 → tie.Start
-start₄ c = number-start (c .before .before)
+start₄ c = number-start (answered c)
+
+abbrev start₅ : tie.Else5 → tie.Start
+start₅ c = start₄ (c .before .before)
 
 -- the refusal of the whole, and its parts behind the lengths
 abbrev all : tie.Start → ℕ
@@ -48,16 +66,26 @@ abbrev streams : tie.Start → List Check
 streams c = streamChecks (composerOf (c .args .state .now)) (c .args .r .0) (c .args .stream .now)
 
 abbrev numbers : tie.Start → List Check
-numbers c = (17, not (within firstStream lastStream (c .args .r .0))) ∷ (opens c ++ streams c)
+numbers c = (17, not (within firstStream (streamsOf (composerOf (c .args .state .now) .kind)) (c .args .r .0))) ∷ (opens c ++ streams c)
+
+-- how long the frame is, and how many streams there are
+frame-told : (c : tie.After-frame-bytes) → c .frame-bytes .result ≡ frameLength (slotsOf (composerOf (kind-start (c .before) .args .state .now) .kind))
+frame-told c = frame-there _ (c .before .kind-of .ensures) (c .frame-bytes .ensures)
+
+kind-told : (c : tie.Else3) → c .before .before .before .before .before .kind-of .result ≡ composerOf (start₃ c .args .state .now) .kind
+kind-told c = c .before .before .before .before .before .kind-of .ensures ∙ sym (kind-there (start₃ c .args .state .now))
+
+streams-told : (c : tie.After-size-of) → c .size-of .result .streams ≡ streamsOf (composerOf (number-start (c .before) .args .state .now) .kind)
+streams-told c = ap (λ (z : Size). z .streams) (c .size-of .ensures) ∙ ap streamsOf (kind-told (c .before .before .before .before .before))
 
 -- what is asked of the state's bytes
 state-told : (c : tie.After-state-refusal) → c .state-refusal .result ≡ firstOf (states (start₂ (c .before)))
 state-told c =
     c .state-refusal .ensures ∙ at-length _ _ _ (start₂ (c .before) .pre .0)
 
-open-told : (c : tie.After-open-refusal) → c .open-refusal .result ≡ firstOf (opens (number-start (c .before)))
+open-told : (c : tie.After-open-refusal) → c .open-refusal .result ≡ firstOf (opens (start₄ (c .before)))
 open-told c =
-    c .open-refusal .ensures ∙ at-length _ _ _ (number-start (c .before) .pre .0)
+    c .open-refusal .ensures ∙ at-length _ _ _ (start₄ (c .before) .pre .0)
 
 -- the number that was answered: it lies inside, and is the one that was given
 number-told : (c : tie.After-known-told)
@@ -67,29 +95,43 @@ number-told c =
 
 past₂ : (c : tie.Else2) → all (start₂ c) ≡ firstOf (states (start₂ c) ++ numbers (start₂ c))
 unfolding putRefusal
-past₂ c = passed _ _ (ap not (eq-eqb _ _ (c .before .if1 .left))) ∙ passed _ _ (ap not (eq-eqb _ _ (c .if2 .left)))
+past₂ c = passed _ _ (ap not (eq-eqb _ _ (c .before .if1 .left ∙ frame-told (c .before .before)))) ∙ passed _ _ (ap not (eq-eqb _ _ (c .if2 .left)))
 
 past₃ : (c : tie.Else3) → all (start₃ c) ≡ firstOf (numbers (start₃ c))
 past₃ c =
     past₂ (c .before .before)
     ∙ onward (numbers (start₃ c)) (state-none (composerOf (start₃ c .args .state .now)) (sym (state-told (c .before)) ∙ c .if3 .left))
 
-past-number : (c : tie.After-known-told) → all (number-start c) ≡ firstOf (opens (number-start c) ++ streams (number-start c))
-past-number c = past₃ (c .before .before .before .before) ∙ passed _ _ (ap not (number-told c .0))
-
-past₄ : (c : tie.Else4) → all (start₄ c) ≡ firstOf (streams (start₄ c))
+past₄ : (c : tie.Else4) → all (start₄ c) ≡ firstOf (opens (start₄ c) ++ streams (start₄ c))
 past₄ c =
-    past-number (c .before .before)
-    ∙ onward (streams (start₄ c)) (open-none (composerOf (start₄ c .args .state .now)) (sym (open-told (c .before)) ∙ c .if4 .left))
+    let told = answered c in
+    let n = number-told told in
+    let low : start₄ c .args .r .0 ≤ streamsOf (composerOf (start₄ c .args .state .now) .kind) =
+    omega (arith, n .1, streams-told (c .before .before .before), c .if4 .left) in
+    past₃ (told .before .before .before .before) ∙ passed _ _ (ap not (between firstStream _ _ (at-least firstStream lastStream _ (n .0)) low))
+
+past₅ : (c : tie.Else5) → all (start₅ c) ≡ firstOf (streams (start₅ c))
+past₅ c =
+    past₄ (c .before .before)
+    ∙ onward (streams (start₅ c)) (open-none (composerOf (start₅ c .args .state .now)) (sym (open-told (c .before)) ∙ c .if5 .left))
+
+shared-slice-read-kind-of : tie.Need-shared-slice-read-kind-of
+shared-slice-read-kind-of c = search needs
+
+kind-of-requires : tie.Need-kind-of-requires
+kind-of-requires c κs = search needs
+
+frame-bytes-requires : tie.Need-frame-bytes-requires
+frame-bytes-requires c κs = search needs
 
 returns : tie.Need-returns
 unfolding putRefusal
-returns c = sym (answers _ _ (ap not (ne-eqb _ _ (c .if1 .taken))))
+returns c = sym (answers _ _ (ap not (ne-eqb _ _ (λ e. c .if1 .taken (e ∙ sym (frame-told (c .before)))))))
 
 returns-2 : tie.Need-returns-2
 unfolding putRefusal
 returns-2 c =
-    sym (passed _ _ (ap not (eq-eqb _ _ (c .before .if1 .left))) ∙ answers _ _ (ap not (ne-eqb _ _ (c .if2 .taken))))
+    sym (passed _ _ (ap not (eq-eqb _ _ (c .before .if1 .left ∙ frame-told (c .before .before)))) ∙ answers _ _ (ap not (ne-eqb _ _ (c .if2 .taken))))
 
 state-refusal-requires : tie.Need-state-refusal-requires
 state-refusal-requires c κs = search needs
@@ -112,37 +154,53 @@ enum-told c = search needs
 returns-4 : tie.Need-returns-4
 returns-4 c =
     let told = c .before .before in
-    let out = relative-outside firstStream lastStream _ (sym (c .enum-told .given .1) ∙ told .new .ensures) in
-    sym (past₃ (told .before) ∙ answers _ _ (ap not (out .0)))
+    let a = start₃ (told .before) .args in
+    let kind = composerOf (a .state .now) .kind in
+    let out = relative-outside firstStream lastStream (a .r .0) (sym (c .enum-told .given .1) ∙ told .new .ensures) in
+    sym (past₃ (told .before) ∙ answers _ _ (ap not (outside firstStream lastStream (streamsOf kind) (a .r .0) (sized kind .streams) (out .0))))
+
+size-of-requires : tie.Need-size-of-requires
+size-of-requires c κs = search needs
+
+returns-5 : tie.Need-returns-5
+returns-5 c =
+    let told = c .before .before .before .before in
+    let n = number-told told in
+    let high : streamsOf (composerOf (number-start told .args .state .now) .kind) < number-start told .args .r .0 =
+    omega (arith, n .1, streams-told (c .before .before .before), c .if4 .taken) in
+    sym (past₃ (told .before .before .before .before) ∙ answers _ _ (ap not (past firstStream _ _ (at-least firstStream lastStream _ (n .0)) high)))
 
 open-refusal-requires : tie.Need-open-refusal-requires
 open-refusal-requires c κs = search needs
 
-returns-5 : tie.Need-returns-5
-returns-5 c =
-    let start = number-start (c .before .before) in
+returns-6 : tie.Need-returns-6
+returns-6 c =
+    let start = start₄ (c .before .before) in
     let n = open-told (c .before) in
-    n ∙ sym (past-number (c .before .before) ∙ at-once (opens start) (streams start) (λ z. c .if4 .taken (n ∙ z)))
+    n ∙ sym (past₄ (c .before .before) ∙ at-once (opens start) (streams start) (λ z. c .if5 .taken (n ∙ z)))
 
 stream-refusal-requires : tie.Need-stream-refusal-requires
 stream-refusal-requires c κs =
-    let a = start₄ c .args in (
-      start₄ c .pre .0,
-      start₄ c .pre .1
-          ∙ ap (λ (n : ℕ). slotsAsBits (emptyFor n (part planAt lastSlot (a .state .now)) (marksOf (part filledAt lastSlot (a .state .now))))) (sym (number-told (c .before .before) .1)),
+    let a = start₅ c .args in (
+      start₅ c .pre .0,
+      start₅ c .pre .1
+          ∙ ap (λ (n : ℕ). slotsAsBits (emptyFor n (part planAt lastSlot (a .state .now)) (marksOf (part filledAt lastSlot (a .state .now))))) (sym (number-told (answered (c .before .before)) .1)),
     )
 
-returns-6 : tie.Need-returns-6
-returns-6 c =
-    let a = start₄ (c .before) .args in
+returns-7 : tie.Need-returns-7
+returns-7 c =
+    let a = start₅ (c .before) .args in
     c .stream-refusal .ensures
-    ∙ ap (λ (n : ℕ). firstOf (streamChecks (composerOf (a .state .now)) n (a .stream .now))) (number-told (c .before .before .before) .1)
-    ∙ sym (past₄ (c .before))
+    ∙ ap (λ (n : ℕ). firstOf (streamChecks (composerOf (a .state .now)) n (a .stream .now))) (number-told (answered (c .before .before .before)) .1)
+    ∙ sym (past₅ (c .before))
 
 pub put-refusal-spec : {M : Type 1} → statement M
 put-refusal-spec =
     tie.close
     (tie.spec
+    shared-slice-read-kind-of
+    kind-of-requires
+    frame-bytes-requires
     returns
     returns-2
     state-refusal-requires
@@ -151,7 +209,9 @@ put-refusal-spec =
     enum-known-number
     enum-told
     returns-4
-    open-refusal-requires
+    size-of-requires
     returns-5
+    open-refusal-requires
+    returns-6
     stream-refusal-requires
-    returns-6)
+    returns-7)

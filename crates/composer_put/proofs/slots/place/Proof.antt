@@ -4,7 +4,7 @@ use mathlib.Core.Path.{_≡_, refl, sym, ap, _∙_}
 use mathlib.Core.Bool.{Bool, true, false, not, _&&_}
 use mathlib.Core.Logic.{_⊎_, inl, inr, ⊎-elim}
 use mathlib.Core.List.{List, map}
-use native.Mathlib.Nat.{one-mul}
+use native.Mathlib.Nat.{one-mul, le-refl}
 use native.Mathlib.Omega.{arith}
 use borrow.Author.Needs.{needs}
 use borrow.Author.Tests.{eqb-true, eqb-false, leb-true, leb-false, not-true}
@@ -17,12 +17,12 @@ use lib.Seq.{take-all, drop-drop, length-take-le}
 use Rattle.slices.proofs.Any.{both}
 use Rattle.slices.proofs.Front.{copied-over}
 use Rattle.counters.specs.Counters.{lastSlot}
-use Rattle.packet.specs.Packets.{packetLength, frameLength}
+use Rattle.packet.specs.Packets.{packetLength}
 use Rattle.composer.specs.States.{markByte, marksOf}
 use Rattle.composer.proofs.Same.{marks-same}
 use Rattle.slot_bits.specs.Bits.{slotsAsBits}
 use Rattle.slot_bits.proofs.Bits.{same-slots}
-use Rattle.composer_put.proofs.Placing.{Placing, placing-none, slot-inside, placing-more, frame-done, marks-done, rest-done, mark-more}
+use Rattle.composer_put.proofs.Placing.{Placing, bit-inside, placing-none, slot-inside, placing-more, frame-done, marks-done, rest-done, mark-more}
 use Rattle.composer_put.proofs.slots.place.Statement.{statement}
 use Rattle.composer_put.proofs.slots.place.Tie as tie
 
@@ -33,7 +33,7 @@ Of slots stream frame₀ filled₀ frame filled now rest =
 
 abbrev Inv-loop : tie.InvT-loop
 Inv-loop frame₀ stream filled₀ slots rest₀ at₀ frame filled rest at =
-    (at ≤ length stream) × (length frame ≡ frameLength) × (length filled ≡ lastSlot) × (map markByte (marksOf filled) ≡ filled)
+    (at ≤ length stream) × (length frame ≡ length frame₀) × (length filled ≡ lastSlot) × (map markByte (marksOf filled) ≡ filled) × (rest ≤ slots)
     × Of slots stream frame₀ filled₀ frame filled (drop at stream) rest
 
 abbrev μ-loop : tie.MeasureT-loop
@@ -63,7 +63,15 @@ module _ (c : tie.In-loop Inv-loop μ-loop) where
   slot = trailingZeros 64 (c .before .loop .rest)
 
   inside : (1 ≤ slot) × (slot ≤ lastSlot) × (2 ^ slot ≤ c .before .loop .rest)
-  inside = slot-inside _ _ _ _ (c .before .loop .inv .4 .3) some
+  inside = slot-inside _ _ _ _ (c .before .loop .inv .5 .3) some
+
+  -- the frame has it
+  in-frame : packetLength * slot + packetLength ≤ length (c .before .loop .frame)
+  in-frame =
+      let k = c .before in
+      let few : 2 ^ slot ≤ start k .args .slots = omega (arith, inside, k .loop .inv .4) in
+      let has = bit-inside few (start k .pre .0 .0) in
+      omega (arith, k .loop .inv .1)
 
   bit : 1 * 2 ^ slot % 2 ^ 64 ≡ 2 ^ slot
   bit = shl-exact 1 slot 64 (omega arith) (omega (arith, inside)) ∙ one-mul (2 ^ slot)
@@ -77,7 +85,7 @@ taken c =
     let from = call .start-of .result in
     let stream = start k .args .stream .now in
     let left = room t in
-    let next = inside t in
+    let fits = in-frame t in
     let at = call .start-of .ensures in
     let there : from + packetLength - from ≡ packetLength = omega arith in
     let here : k .loop .at + packetLength - k .loop .at ≡ packetLength = omega arith in
@@ -105,7 +113,7 @@ loop-holds : tie.Need-loop-holds Inv-loop μ-loop
 loop-holds c =
     let s = c .before .before .before in
     let w = s .pre .1 .1 in
-    (omega arith, s .pre .0 .0, s .pre .0 .1, marks-same _ (s .pre .1 .0), (w .0, w .1, w .2, placing-none _ _ _ _ (w .1) (w .2)))
+    (omega arith, refl, s .pre .0 .1, marks-same _ (s .pre .1 .0), le-refl _, (w .0, w .1, w .2, placing-none _ _ _ _ (w .1) (w .2)))
 
 sub-loop : tie.Need-sub-loop Inv-loop μ-loop
 sub-loop c = search needs
@@ -134,8 +142,7 @@ start-of-requires c κs = search needs
 -- the slot lies in the frame
 frame-long : (c : tie.After-start-of Inv-loop μ-loop) → c .start-of .result + packetLength ≤ length (c .before .before .before .loop .frame)
 frame-long c =
-    let next = inside (c .before .before) in
-    omega (arith, c .start-of .ensures, c .before .before .before .loop .inv .1)
+    omega (arith, c .start-of .ensures, in-frame (c .before .before))
 
 add-copy : tie.Need-add-copy Inv-loop μ-loop
 add-copy c =
@@ -208,9 +215,9 @@ loop-again c =
     let call = copy .before .before .before in
     let t = turn c in
     let k = t .before in
-    let of = k .loop .inv .4 in
+    let of = k .loop .inv .5 in
     let from = packetLength * slot t in
-    let next = inside t in
+    let fits = in-frame t in
     let left = room t in
     let long = ap length (taken copy) ∙ length-take-le packetLength (now t) (room-now t) in
     let lent : from + packetLength - from ≡ packetLength = omega arith in
@@ -219,6 +226,7 @@ loop-again c =
       same-len-mid from (from + packetLength - from) (k .loop .frame) (copy .copy .last .0) (long ∙ sym (mid-len from (from + packetLength) (k .loop .frame) (omega arith) ∙ lent)) ∙ k .loop .inv .1,
       length-set (k .loop .filled) (slot t - 1) 1 ∙ k .loop .inv .2,
       mark-more (k .loop .filled) (slot t - 1) (k .loop .inv .3),
+      omega (arith, k .loop .inv .4),
       (of .0, of .1, of .2, placing-more _ _ _ _ (of .3) (some t) (room-now t) (from + packetLength - from) lent (copy .copy .last .0) (taken copy) (omega arith)),
     )
 
@@ -232,7 +240,7 @@ part-result-end : tie.Need-part-result-end Inv-loop μ-loop
 part-result-end c = search needs
 
 same-length : tie.Need-same-length Inv-loop μ-loop
-same-length c = c .before .before .loop .inv .1 ∙ sym (start (c .before .before) .pre .0 .0)
+same-length c = c .before .before .loop .inv .1
 
 same-length-2 : tie.Need-same-length-2 Inv-loop μ-loop
 same-length-2 c = c .before .before .loop .inv .2 ∙ sym (start (c .before .before) .pre .0 .1)
@@ -241,7 +249,7 @@ same-length-2 c = c .before .before .loop .inv .2 ∙ sym (start (c .before .bef
 module _ (c : tie.After-loop Inv-loop μ-loop) (empty : List Bool) (l : length empty ≡ lastSlot) (e : start (c .before) .args .slots ≡ slotsAsBits empty) where
   those : Placing empty (start (c .before) .args .stream .now) (start (c .before) .args .frame .now) (start (c .before) .args .filled .now)
       (c .before .loop .frame) (c .before .loop .filled) (drop (c .before .loop .at) (start (c .before) .args .stream .now)) (c .before .loop .rest)
-  those = let of = c .before .loop .inv .4 in rw (same-slots empty (of .0) (l ∙ sym (of .1)) (sym e ∙ of .2)) (of .3)
+  those = let of = c .before .loop .inv .5 in rw (same-slots empty (of .0) (l ∙ sym (of .1)) (sym e ∙ of .2)) (of .3)
 
 returns : tie.Need-returns Inv-loop μ-loop
 returns c =

@@ -1,23 +1,19 @@
 -- `said_by` meets its contract, check by check. Assumes nothing.
-use Prim.Native.Nat.{ℕ, _/_}
+use Prim.Native.Nat.{ℕ}
 use mathlib.Core.Path.{_≡_, refl, sym, ap, ap₂, _∙_}
 use mathlib.Core.Bool.{not}
 use mathlib.Core.List.{List}
 use native.Mathlib.Omega.{arith}
 use borrow.Author.Needs.{needs}
-use lib.Dec.{eqb}
 use Rattle.bits.specs.Fields.{Fit}
 use Rattle.bits.proofs.Laws.{fit-of}
-use Rattle.counters.specs.Counters.{within}
 use Rattle.setting.specs.declared.Kind.{Kind}
 use Rattle.setting.specs.declared.Setting.{Setting}
 use Rattle.setting.specs.Refusal.{Check, firstOf}
 use Rattle.setting.proofs.Refusals.{Past, answers, passed}
-use Rattle.setting.specs.Rules.{byKind, someUnavailable, pairTwice, bondingChecks, bondingOf, ruleChecks}
+use Rattle.setting.specs.Rules.{typeAllowed, someUnavailable, pairTwice, bondingChecks, bondingOf, ruleChecks}
 use Rattle.header_layout.specs.Header.{reading}
-use Rattle.header_layout.proofs.Cut.{length-part}
-use Rattle.header_check.proofs.Identifiers.{ts-ids-in, network-ids-in}
-use Rattle.header_check.proofs.Asked.{counter-is, type-is, streams-are, slots-are, ts-ids-are, network-ids-are, refused, accepted}
+use Rattle.header_check.proofs.Asked.{counter-is, type-is, refused, accepted}
 use Rattle.header_check.proofs.parts.said_by.Statement.{statement}
 use Rattle.header_check.proofs.parts.said_by.Tie as tie
 
@@ -38,45 +34,27 @@ bytes : (c : tie.After-frame-type-allowed) → Fit 8 (packet c)
 bytes c = fit-of 8 (packet c) (λ i. c .before .before .shared-slice-known .given i .fits)
 
 -- from each place to the first check
-abbrev from₁ : tie.After-word-at → tie.After-frame-type-allowed
-from₁ c = c .before .before
-
 abbrev from₂ : tie.After-has-unavailable → tie.After-frame-type-allowed
-from₂ c = from₁ (c .before .before .before .before .before .before)
+from₂ c = c .before .before .before .before .before .before .before
 
 abbrev from₃ : tie.After-has-pair-twice → tie.After-frame-type-allowed
-from₃ c = from₂ (c .before .before .before .before)
+from₃ c = from₂ (c .before .before)
 
 -- what each check asks for is what the packet says
-allowed : (c : tie.After-frame-type-allowed) → c .frame-type-allowed .result ≡ byKind (kind c) (eqb (said c .«frame_type») 1) (within 1 2 (said c .«frame_type»))
-allowed c =
-    c .frame-type-allowed .ensures
-    ∙ ap (λ (n : ℕ). byKind (kind c) (eqb n 1) (within 1 2 n)) (type-is (kind c) (packet c) (bytes c) (c .before .before .before .pre))
-
-streams : (c : tie.After-word-at) → c .word-at .result / 2 ≡ said (from₁ c) .availability
-streams c =
-    let t = from₁ c in
-    ap (λ (n : ℕ). n / 2) (c .word-at .ensures) ∙ streams-are (kind t) (packet t) (bytes t) (t .before .before .before .pre)
+allowed : (c : tie.After-frame-type-allowed) → c .frame-type-allowed .result ≡ typeAllowed (kind c) (said c .«frame_type»)
+allowed c = c .frame-type-allowed .ensures ∙ ap (typeAllowed (kind c)) (type-is (kind c) (packet c) (bytes c) (c .before .before .before .pre))
 
 unavailable : (c : tie.After-has-unavailable) → c .has-unavailable .result ≡ someUnavailable (said (from₂ c) .availability) (said (from₂ c) .«relative_ts_number»)
 unavailable c =
-    let t = from₂ c in
-    let halves = c .before .before .before in
-    c .has-unavailable .ensures
-    ∙ ap₂ someUnavailable (streams (halves .before .before .before))
-    (halves .read-halves .ensures ∙ slots-are (kind t) (packet t) (bytes t) (t .before .before .before .pre))
+    let read = c .before .before .before in
+    c .has-unavailable .ensures ∙ ap₂ someUnavailable (read .before .before .availability-of .ensures) (read .read-numbers .ensures)
 
 twice : (c : tie.After-has-pair-twice)
     → c .has-pair-twice .result ≡ pairTwice (said (from₃ c) .availability) (said (from₃ c) .«ts_id») (said (from₃ c) .«original_network_id»)
 twice c =
     let t = from₃ c in
-    let word = c .before .before .before .before .before .before .before .before .before .before in
-    let long = t .before .before .before .pre in
-    c .has-pair-twice .ensures
-    ∙ rw (length-part (packet t) 9 60 (omega (arith, long)), length-part (packet t) 11 58 (omega (arith, long)))
-    (λ i.
-    pairTwice (streams word i) ((ts-ids-in (packet t) (bytes t) long ∙ ts-ids-are (kind t) (packet t) (bytes t) long) i)
-    ((network-ids-in (packet t) (bytes t) long ∙ network-ids-are (kind t) (packet t) (bytes t) long) i))
+    let streams = c .before .before .before .before .before .before .before .availability-of .ensures in
+    c .has-pair-twice .ensures ∙ ap (λ (n : ℕ). pairTwice n (said t .«ts_id») (said t .«original_network_id»)) streams
 
 -- the bonding fields are those that the packet says
 bonds : (c : tie.After-bonding-refusal) → c .bonding-refusal .result ≡ firstOf (bondingOf (kind (from₃ (c .before .before .before))) (said (from₃ (c .before .before .before))))
@@ -93,11 +71,11 @@ past-1 c = passed _ _ (ap not (sym (allowed (c .before))) ∙ c .if1 .left)
 
 past-2 : (c : tie.Else2) → Past 2 (rows (from₂ (c .before)))
 unfolding ruleChecks
-past-2 c = past-1 (c .before .before .before .before .before .before .before .before) ∙ passed _ _ (sym (unavailable (c .before)) ∙ c .if2 .left)
+past-2 c = past-1 (c .before .before .before .before .before .before .before) ∙ passed _ _ (sym (unavailable (c .before)) ∙ c .if2 .left)
 
 past-3 : (c : tie.Else3) → Past 3 (rows (from₃ (c .before)))
 unfolding ruleChecks
-past-3 c = past-2 (c .before .before .before .before) ∙ passed _ _ (sym (twice (c .before)) ∙ c .if3 .left)
+past-3 c = past-2 (c .before .before) ∙ passed _ _ (sym (twice (c .before)) ∙ c .if3 .left)
 
 -- the bonding fields answer for all
 bonded : (c : tie.After-bonding-refusal) → firstOf (rows (from₃ (c .before .before .before))) ≡ c .bonding-refusal .result
@@ -119,23 +97,14 @@ returns c =
     let t = c .before .before in
     refused (kind t) (packet t) (answers 8 _ (ap not (sym (allowed t)) ∙ c .before .if1 .taken)) _ (omega arith) (c .refused .ensures)
 
-word-at-requires : tie.Need-word-at-requires
-word-at-requires c κs = search needs
+availability-of-requires : tie.Need-availability-of-requires
+availability-of-requires c κs = search needs
 
-slice-aggregate-read-halves : tie.Need-slice-aggregate-read-halves
-slice-aggregate-read-halves c = search needs
+slice-aggregate-read-numbers : tie.Need-slice-aggregate-read-numbers
+slice-aggregate-read-numbers c = search needs
 
-sub-read-halves : tie.Need-sub-read-halves
-sub-read-halves c = search needs
-
-part-read-halves-start : tie.Need-part-read-halves-start
-part-read-halves-start c = search needs
-
-part-read-halves-end : tie.Need-part-read-halves-end
-part-read-halves-end c = search needs
-
-read-halves-requires : tie.Need-read-halves-requires
-read-halves-requires c κs = search needs
+read-numbers-requires : tie.Need-read-numbers-requires
+read-numbers-requires c κs = search needs
 
 slice-aggregate-has-unavailable : tie.Need-slice-aggregate-has-unavailable
 slice-aggregate-has-unavailable c = search needs
@@ -152,25 +121,7 @@ returns-2 c =
     let u = c .before .before in
     let t = from₂ u in
     refused (kind t) (packet t)
-    (past-1 (u .before .before .before .before .before .before .before) ∙ answers 9 _ (sym (unavailable u) ∙ c .before .if2 .taken)) _ (omega arith) (c .refused2 .ensures)
-
-sub-has-pair-twice : tie.Need-sub-has-pair-twice
-sub-has-pair-twice c = search needs
-
-part-has-pair-twice-start : tie.Need-part-has-pair-twice-start
-part-has-pair-twice-start c = search needs
-
-part-has-pair-twice-end : tie.Need-part-has-pair-twice-end
-part-has-pair-twice-end c = search needs
-
-sub-has-pair-twice-2 : tie.Need-sub-has-pair-twice-2
-sub-has-pair-twice-2 c = search needs
-
-part-has-pair-twice-start-2 : tie.Need-part-has-pair-twice-start-2
-part-has-pair-twice-start-2 c = search needs
-
-part-has-pair-twice-end-2 : tie.Need-part-has-pair-twice-end-2
-part-has-pair-twice-end-2 c = search needs
+    (past-1 (u .before .before .before .before .before .before) ∙ answers 9 _ (sym (unavailable u) ∙ c .before .if2 .taken)) _ (omega arith) (c .refused2 .ensures)
 
 has-pair-twice-requires : tie.Need-has-pair-twice-requires
 has-pair-twice-requires c κs = search needs
@@ -184,7 +135,7 @@ returns-3 c =
     let u = c .before .before in
     let t = from₃ u in
     refused (kind t) (packet t)
-    (past-2 (u .before .before .before) ∙ answers 10 _ (sym (twice u) ∙ c .before .if3 .taken)) _ (omega arith) (c .refused3 .ensures)
+    (past-2 (u .before) ∙ answers 10 _ (sym (twice u) ∙ c .before .if3 .taken)) _ (omega arith) (c .refused3 .ensures)
 
 bonding-of-requires : tie.Need-bonding-of-requires
 bonding-of-requires c κs = search needs
@@ -209,15 +160,14 @@ returns-5 c =
     let u = c .before .before in
     let b = u .before .bonding-of .ensures in
     let pair = u .before .before .before in
-    let slots = pair .before .before .before .before in
-    let halves = slots .before .before .before in
+    let read = pair .before .before .before .before .before in
     let t = from₃ pair in
     let long = t .before .before .before .pre in
     accepted (kind t) (packet t) (bonded u) _ (c .before .if4 .left) refl
     (record {
       counter = counter-is (kind t) (packet t) (bytes t) long;
-      streams = streams (halves .before .before .before);
-      numbers = halves .read-halves .ensures ∙ slots-are (kind t) (packet t) (bytes t) long;
+      streams = read .before .before .availability-of .ensures;
+      numbers = read .read-numbers .ensures;
       group = b .0;
       carriers = b .1 .0;
       sequence = b .1 .1 .0;
@@ -233,22 +183,13 @@ said-by-spec =
     frame-type-allowed-requires
     refused-requires
     returns
-    word-at-requires
-    slice-aggregate-read-halves
-    sub-read-halves
-    part-read-halves-start
-    part-read-halves-end
-    read-halves-requires
+    availability-of-requires
+    slice-aggregate-read-numbers
+    read-numbers-requires
     slice-aggregate-has-unavailable
     has-unavailable-requires
     refused-requires-2
     returns-2
-    sub-has-pair-twice
-    part-has-pair-twice-start
-    part-has-pair-twice-end
-    sub-has-pair-twice-2
-    part-has-pair-twice-start-2
-    part-has-pair-twice-end-2
     has-pair-twice-requires
     refused-requires-3
     returns-3

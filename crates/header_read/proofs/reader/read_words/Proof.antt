@@ -5,7 +5,6 @@ use native.Mathlib.Omega.{arith}
 use lib.ListN.{length, getD, take, length-set}
 use lib.Seq.{take-all}
 use Rattle.bits.proofs.Laws.{fit-of, fit-getD}
-use Rattle.counters.specs.Counters.{lastStream}
 use Rattle.setting_bytes.specs.Words.{wordBytes}
 use Rattle.setting_bytes.proofs.Numbers.{word-written}
 use Rattle.setting_pairs.specs.Identifiers.{idsApart}
@@ -14,10 +13,10 @@ use Rattle.header_read.proofs.reader.read_words.Statement.{statement}
 use Rattle.header_read.proofs.reader.read_words.Tie as tie
 
 abbrev Inv-loop : tie.InvT-loop
-Inv-loop part₀ ids k₀ part k = (k ≤ lastStream) × (length part ≡ length part₀) × (take (2 * k) part ≡ wordBytes (take k (idsApart 4 lastStream ids)))
+Inv-loop part₀ ids streams k₀ part k = (k ≤ streams) × (length part ≡ length part₀) × (take (2 * k) part ≡ wordBytes (take k (idsApart 4 streams ids)))
 
 abbrev μ-loop : tie.MeasureT-loop
-μ-loop part₀ ids k₀ part k = lastStream - k
+μ-loop part₀ ids streams k₀ part k = streams - k
 
 loop-holds : tie.Need-loop-holds Inv-loop μ-loop
 unfolding wordBytes
@@ -65,13 +64,14 @@ loop-again c =
     let turn = known .before .before .loop in
     let start = known .before .before .before in
     let ids = start .args .ids .now in
-    let ws = idsApart 4 lastStream ids in
+    let n = start .args .streams in
+    let ws = idsApart 4 n ids in
     let k = turn .k in
     let low = fit-getD (fit-of 8 ids (λ i. known .shared-slice-known .given i .fits)) (4 * k + 1) in
-    let word = apart-at 4 lastStream k ids (omega arith) in
+    let word = apart-at 4 n k ids (omega arith) in
     let high-is : getD ws k 0 / 256 ≡ getD ids (4 * k) 0 = omega arith in
     let low-is : getD ws k 0 % 256 ≡ getD ids (4 * k + 1) 0 = omega arith in
-    let many = length-apart 4 lastStream ids in (
+    let many = length-apart 4 n ids in (
       omega arith,
       simp length-set (turn .inv .1),
       rw (high-is, low-is) at (word-written (turn .part) ws k (omega arith) (omega (arith, start .pre, turn .inv .1)) (turn .inv .2)),
@@ -85,9 +85,10 @@ returns c =
     let turn = c .before .loop in
     let start = c .before .before in
     let ids = start .args .ids .now in
-    let many = length-apart 4 lastStream ids in
+    let n = start .args .streams in
+    let many = length-apart 4 n ids in
     sym (take-all (2 * turn .k) (turn .part) (omega (arith, start .pre, turn .inv .1))) ∙ turn .inv .2
-    ∙ ap wordBytes (take-all (turn .k) (idsApart 4 lastStream ids) (omega arith))
+    ∙ ap wordBytes (take-all (turn .k) (idsApart 4 n ids) (omega arith))
 
 pub read-words-spec : {M : Type 1} → statement M
 read-words-spec =

@@ -72,7 +72,7 @@ same-length : tie.Need-same-length
 same-length c = search needs
 
 returns : tie.Need-returns
-returns c pid =
+returns c z pid =
     let filled = c .before .before in
     let bonded = filled .before .before .before .before in
     let copied = bonded .before .before .before .before in
@@ -80,11 +80,11 @@ returns c pid =
     let part = start .args .part .now in
     let b = start .args .setting .now in
     let auxiliaries = length-part auxiliaryAt auxiliaryBytes b (omega (arith, start .pre)) in
-    extended-parts pid (settingIn b) part _ _ _ (start .pre .0) auxiliaries
+    extended-parts z pid (settingIn b) part _ _ _ (start .pre .0) auxiliaries
     (copied .copy .ensures ∙ copied-all (take 28 part) (settingIn b .auxiliary) (length-take-le 28 part (omega (arith, start .pre)) ∙ sym auxiliaries))
     (bonded .write-bonding .ensures ∙ ap bondingBytes (setting-in b (start .pre .1)))
     (filled .fill .ensures)
-    ∙ ap (λ (s : Setting). lineBits pid s (privateTable Kind.Extended)) (sym (setting-in b (start .pre .1)))
+    ∙ ap (λ (s : Setting). lineBits z pid s (privateTable Kind.Extended)) (sym (setting-in b (start .pre .1)))
 
 pub write-extended-spec : {M : Type 1} → statement M
 write-extended-spec =

@@ -8,6 +8,7 @@ use lib.Seq.{take-all}
 use Rattle.bits.specs.Fields.{run}
 use Rattle.bits.proofs.Laws.{fit-of}
 use Rattle.counters.specs.Counters.{lastStream}
+use Rattle.setting.proofs.Sizes.{resized-take}
 use Rattle.setting_bytes.specs.Words.{wordsOf}
 use Rattle.setting_bytes.proofs.Numbers.{length-words, word-bytes}
 use Rattle.header_layout.specs.Header.{paired}
@@ -16,11 +17,11 @@ use Rattle.header_write.proofs.writer.write_identifiers.Statement.{stat
 use Rattle.header_write.proofs.writer.write_identifiers.Tie as tie
 
 abbrev Inv-loop : tie.InvT-loop
-Inv-loop part₀ ts os k₀ part k =
-    (k ≤ lastStream) × (length part ≡ length part₀) × (run 8 (take (4 * k) part) ≡ run 16 (paired (take k (wordsOf ts)) (take k (wordsOf os))))
+Inv-loop part₀ ts os streams k₀ part k =
+    (k ≤ streams) × (length part ≡ length part₀) × (run 8 (take (4 * k) part) ≡ run 16 (paired (take k (wordsOf ts)) (take k (wordsOf os))))
 
 abbrev μ-loop : tie.MeasureT-loop
-μ-loop part₀ ts os k₀ part k = lastStream - k
+μ-loop part₀ ts os streams k₀ part k = streams - k
 
 loop-holds : tie.Need-loop-holds Inv-loop μ-loop
 unfolding paired run wordsOf
@@ -105,7 +106,7 @@ loop-again c =
     let t = word-bytes (args .ts .now) k (fit-of 8 (args .ts .now) (λ i. c .before .before .before .shared-slice-known .given i .fits)) (omega (arith, pre)) in
     let o = word-bytes (args .os .now) k (fit-of 8 (args .os .now) (λ i. c .before .shared-slice-known3 .given i .fits)) (omega (arith, pre)) in
     let next = stream-written (loop .loop .part) (wordsOf (args .ts .now)) (wordsOf (args .os .now)) k (4 * k)
-    (omega (arith, length-words lastStream (args .ts .now) (pre .1))) (omega (arith, length-words lastStream (args .os .now) (pre .0 .1 ∙ pre .1)))
+    (omega (arith, pre, length-words lastStream (args .ts .now) (pre .1 .0))) (omega (arith, pre, length-words lastStream (args .os .now) (pre .1 .1)))
     (omega (arith, pre, loop .loop .inv)) (loop .loop .inv .2) in
     let four : 4 * (k + 1) ≡ 4 * k + 4 = omega arith in
     (omega arith, simp length-set (loop .loop .inv .1), rw four (rw (t .0, t .1, o .0, o .1) at next))
@@ -118,11 +119,13 @@ returns c =
     let at = c .before .loop in
     let args = c .before .before .args in
     let pre = c .before .before .pre in
-    let all : at .k ≡ lastStream = omega arith in
+    let n = args .streams in
+    let all : at .k ≡ n = omega arith in
     ap (run 8) (sym (take-all (4 * at .k) (at .part) (omega (arith, pre, at .inv)))) ∙ at .inv .2
+    ∙ ap (λ (k : ℕ). run 16 (paired (take k (wordsOf (args .ts .now))) (take k (wordsOf (args .os .now))))) all
     ∙ ap₂ (λ (x y : List ℕ). run 16 (paired x y))
-    (take-all (at .k) (wordsOf (args .ts .now)) (omega (arith, length-words lastStream (args .ts .now) (pre .1))))
-    (take-all (at .k) (wordsOf (args .os .now)) (omega (arith, length-words lastStream (args .os .now) (pre .0 .1 ∙ pre .1))))
+    (sym (resized-take n (wordsOf (args .ts .now)) (omega (arith, pre, length-words lastStream (args .ts .now) (pre .1 .0)))))
+    (sym (resized-take n (wordsOf (args .os .now)) (omega (arith, pre, length-words lastStream (args .os .now) (pre .1 .1)))))
 
 pub write-identifiers-spec : {M : Type 1} → statement M
 write-identifiers-spec =

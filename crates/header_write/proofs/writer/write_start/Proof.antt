@@ -1,6 +1,7 @@
--- `write_start` meets its contract: its nine bytes are the header's first. Assumes nothing.
+-- `write_start` meets its contract: its seven bytes are the header's first. Assumes nothing.
 use mathlib.Core.Path.{_≡_, sym, ap, _∙_}
 use native.Mathlib.Omega.{arith}
+use borrow.Author.Needs.{needs}
 use lib.ListN.{length-set}
 use Rattle.bits.specs.Fields.{run}
 use Rattle.setting.specs.declared.Setting.{Setting}
@@ -9,18 +10,8 @@ use Rattle.slices.proofs.Front.{stored}
 use Rattle.header_layout.specs.Layout.{startTable}
 use Rattle.header_layout.specs.Header.{lineBits}
 use Rattle.header_layout.proofs.Start.{startBytes, start-bits}
-use borrow.Author.Needs.{needs}
 use Rattle.header_write.proofs.writer.write_start.Statement.{statement}
 use Rattle.header_write.proofs.writer.write_start.Tie as tie
-
-shared-slice-read-word : tie.Need-shared-slice-read-word
-shared-slice-read-word c = search needs
-
-shared-slice-read-word-2 : tie.Need-shared-slice-read-word-2
-shared-slice-read-word-2 c = search needs
-
-word-requires : tie.Need-word-requires
-word-requires c κs = search needs
 
 slice-write-part : tie.Need-slice-write-part
 slice-write-part c = search needs
@@ -76,43 +67,21 @@ add-part-3 c = search needs
 slice-write-part-7 : tie.Need-slice-write-part-7
 slice-write-part-7 c = simp length-set (omega arith)
 
-cast-part-3 : tie.Need-cast-part-3
-cast-part-3 c = search needs
-
-slice-write-part-8 : tie.Need-slice-write-part-8
-slice-write-part-8 c = simp length-set (omega arith)
-
-mul-part-3 : tie.Need-mul-part-3
-mul-part-3 c = search needs
-
-add-part-4 : tie.Need-add-part-4
-add-part-4 c = search needs
-
-cast-part-4 : tie.Need-cast-part-4
-cast-part-4 c = search needs
-
-slice-write-part-9 : tie.Need-slice-write-part-9
-slice-write-part-9 c = simp length-set (omega arith)
-
 same-length : tie.Need-same-length
 same-length c = simp length-set (omega arith)
 
 returns : tie.Need-returns
-returns c =
-    let start = c .before .before .before .before .before .before .before .before .before in
+returns c z =
+    let start = c .before .before .before .before in
     let args = start .args in
     let b = args .setting .now in
-    ap (run 8) (rw (c .before .before .before .before .word .ensures) (stored (startBytes (args .pid) (settingIn b)) (args .part .now) (start .pre .0)))
-    ∙ start-bits (args .pid) (settingIn b)
-    ∙ ap (λ (s : Setting). lineBits (args .pid) s startTable) (sym (setting-in b (start .pre .1)))
+    ap (run 8) (stored (startBytes (args .pid) (settingIn b)) (args .part .now) (start .pre .0)) ∙ start-bits z (args .pid) (settingIn b)
+    ∙ ap (λ (s : Setting). lineBits z (args .pid) s startTable) (sym (setting-in b (start .pre .1)))
 
 pub write-start-spec : {M : Type 1} → statement M
 write-start-spec =
     tie.close
     (tie.spec
-    shared-slice-read-word
-    shared-slice-read-word-2
-    word-requires
     slice-write-part
     cast-part
     slice-write-part-2
@@ -131,11 +100,5 @@ write-start-spec =
     shared-slice-read-part-4
     add-part-3
     slice-write-part-7
-    cast-part-3
-    slice-write-part-8
-    mul-part-3
-    add-part-4
-    cast-part-4
-    slice-write-part-9
     same-length
     returns)

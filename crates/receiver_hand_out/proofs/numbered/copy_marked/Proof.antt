@@ -14,6 +14,7 @@ use Rattle.packet.specs.Packets.{packetLength}
 use Rattle.receiver_hand_out.specs.Halves.{halvesOf}
 use Rattle.receiver_hand_out.proofs.Handing.{HandingOut, handing-none, handing-one, handed, handing-all, room-for}
 use Rattle.receiver_hand_out.proofs.Joined.{joined, length-halves, joined-halves}
+use Rattle.receiver_hand_out.proofs.Packets.{has-at}
 use Rattle.receiver_hand_out.proofs.Marks.{Next, next, zeros, mark-in, unmarked, no-slot}
 use Rattle.receiver_hand_out.proofs.numbered.copy_marked.Statement.{statement}
 use Rattle.receiver_hand_out.proofs.numbered.copy_marked.Tie as tie
@@ -48,7 +49,16 @@ zeros-are c = zeros _ _ _ _ _ _ _ (found c)
 inside : (c : tie.In-loop Inv-loop μ-loop) → found c .place < 16
 inside c = found c .inside
 
--- for whose packet there is room
+-- whose packet is stored
+stored : (c : tie.In-loop Inv-loop μ-loop) → packetLength * (start (c .before) .args .first + found c .place + 1) ≤ length (start (c .before) .args .store .now)
+stored c =
+    let l = length-halves (start (c .before) .args .marks) in
+    let next = inside c in
+    let left = length-drop (packetLength * start (c .before) .args .first) (start (c .before) .args .store .now) in
+    let held = has-at (start (c .before) .pre .1) (found c .place) (omega arith) (found c .here) in
+    omega arith
+
+-- for which there is room
 room : (c : tie.In-loop Inv-loop μ-loop) → c .before .loop .at + packetLength ≤ length (start (c .before) .args .out .now)
 room c =
     let l = length-halves (start (c .before) .args .marks) in
@@ -65,7 +75,7 @@ copied c =
     let from = packetLength * (start k .args .first + leadingZeros 64 (k .loop .rest) / 4) in
     let store = start k .args .store .now in
     let left = room t in
-    let next = inside t in
+    let long = stored t in
     let z = zeros-are t in
     let there : k .loop .at + packetLength - k .loop .at ≡ packetLength = omega arith in
     let here : from + packetLength - from ≡ packetLength = omega arith in
@@ -81,24 +91,24 @@ copied c =
 loop-holds : tie.Need-loop-holds Inv-loop μ-loop
 loop-holds c =
     let l = length-halves (c .before .before .args .marks) in
-    (0, omega arith, refl, handing-none _ _ _ _ _ (rw length-drop (omega arith)) (omega arith), sym (joined-halves (c .before .before .args .marks) (omega arith)))
+    (0, omega arith, refl, handing-none _ _ _ _ _ (c .before .before .pre .1) (omega arith), sym (joined-halves (c .before .before .args .marks) (omega arith)))
 
 cast-start : tie.Need-cast-start Inv-loop μ-loop
 cast-start c =
     let z = zeros-are c in
-    let next = inside c in
+    let long = stored c in
     search needs
 
 add-start : tie.Need-add-start Inv-loop μ-loop
 add-start c =
     let z = zeros-are c in
-    let next = inside c in
+    let long = stored c in
     search needs
 
 mul-start : tie.Need-mul-start Inv-loop μ-loop
 mul-start c =
     let z = zeros-are c in
-    let next = inside c in
+    let long = stored c in
     search needs
 
 add-copy : tie.Need-add-copy Inv-loop μ-loop
@@ -120,7 +130,7 @@ part-copy-end c =
 add-copy-2 : tie.Need-add-copy-2 Inv-loop μ-loop
 add-copy-2 c =
     let z = zeros-are (c .before) in
-    let next = inside (c .before) in
+    let long = stored (c .before) in
     search needs
 
 sub-copy-2 : tie.Need-sub-copy-2 Inv-loop μ-loop
@@ -132,7 +142,7 @@ part-copy-start-2 c = search needs
 part-copy-end-2 : tie.Need-part-copy-end-2 Inv-loop μ-loop
 part-copy-end-2 c =
     let z = zeros-are (c .before) in
-    let next = inside (c .before) in
+    let long = stored (c .before) in
     search needs
 
 copy-requires : tie.Need-copy-requires Inv-loop μ-loop
@@ -174,7 +184,8 @@ loop-again c =
     let next = inside t in
     let left = room t in
     let long : k .loop .at + packetLength - k .loop .at ≡ packetLength = omega arith in
-    let more = handing-one _ _ _ _ _ (found t .handed) (omega arith) (found t .here) (k .loop .at + packetLength - k .loop .at) long (copy .copy .last .0) (copied copy) (rw length-drop (omega arith)) in
+    let more = handing-one _ _ _ _ _ (found t .handed) (omega arith) (found t .here) (k .loop .at + packetLength - k .loop .at) long (copy .copy .last .0) (copied copy)
+    (has-at (start k .pre .1) (found t .place) (omega arith) (found t .here)) in
     (found t .place + 1, omega arith, toward-length (more .front) (omega arith), more, unmarked _ _ _ _ _ _ _ (found t))
 
 same-length : tie.Need-same-length Inv-loop μ-loop

@@ -11,7 +11,7 @@ use Rattle.packet.specs.Packets.{packetLength}
 use Rattle.receiver.specs.Packed.{unpacked}
 use Rattle.receiver.proofs.Packing.{length-unpacked}
 use Rattle.receiver.specs.Store.{slotsFor}
-use Rattle.receiver_hand_out.proofs.Parts.{Says, says, says-last, slots-all, Gone, gone-none, gone-more, gone-room, gone-all}
+use Rattle.receiver_hand_out.proofs.Parts.{Says, says, says-last, slots-all, Gone, gone-none, gone-more, gone-held, gone-room, gone-all}
 use Rattle.receiver_hand_out.proofs.numbered.hand_out.Statement.{statement}
 use Rattle.receiver_hand_out.proofs.numbered.hand_out.Tie as tie
 
@@ -118,14 +118,14 @@ copy-marked-requires : tie.Need-copy-marked-requires
 copy-marked-requires c κs =
     let e = c .before in
     let k = e .before .before in
-    (says₁ k .are, omega (arith, start k .pre .1), gone-room _ _ _ _ _ _ (copied₀ k) _ 16 0 0 (says₁ k) (omega arith) (enough e))
+    (says₁ k .are, gone-held _ _ _ _ _ _ (copied₀ k) _ 16 0 0 (says₁ k) (omega arith) refl, gone-room _ _ _ _ _ _ (copied₀ k) _ 16 0 0 (says₁ k) (omega arith) (enough e))
 
 copy-marked-requires-2 : tie.Need-copy-marked-requires-2
 copy-marked-requires-2 c κs =
     let g = c .before .before .before in
     let k = words₁ g in
     let room = gone-room _ _ _ _ _ _ (copied₁ g) _ 16 0 16 (says₂ k) (omega arith) (enough (g .before .before)) in
-    (says₂ k .are, omega (arith, start k .pre .1), omega (arith, room, g .copy-marked .kept .0))
+    (says₂ k .are, gone-held _ _ _ _ _ _ (copied₁ g) _ 16 0 16 (says₂ k) (omega arith) refl, omega (arith, room, g .copy-marked .kept .0))
 
 copy-marked-requires-3 : tie.Need-copy-marked-requires-3
 copy-marked-requires-3 c κs =
@@ -133,7 +133,7 @@ copy-marked-requires-3 c κs =
     let f = g .before .before .before .before in
     let k = words₂ g in
     let room = gone-room _ _ _ _ _ _ (copied₂ g) _ 16 0 32 (says₃ k) (omega arith) (enough (f .before .before)) in
-    (says₃ k .are, omega (arith, start k .pre .1), omega (arith, room, g .copy-marked2 .kept .0, f .copy-marked .kept .0))
+    (says₃ k .are, gone-held _ _ _ _ _ _ (copied₂ g) _ 16 0 32 (says₃ k) (omega arith) refl, omega (arith, room, g .copy-marked2 .kept .0, f .copy-marked .kept .0))
 
 copy-marked-requires-4 : tie.Need-copy-marked-requires-4
 copy-marked-requires-4 c κs =
@@ -142,7 +142,7 @@ copy-marked-requires-4 c κs =
     let f = h .before .before .before .before in
     let k = words₃ g in
     let room = gone-room _ _ _ _ _ _ (copied₃ g) _ 4 12 36 (says₄ k) (omega arith) (enough (f .before .before)) in
-    (says₄ k .are, omega (arith, start k .pre .1), omega (arith, room, g .copy-marked3 .kept .0, h .copy-marked2 .kept .0, f .copy-marked .kept .0))
+    (says₄ k .are, gone-held _ _ _ _ _ _ (copied₃ g) _ 4 12 36 (says₄ k) (omega arith) refl, omega (arith, room, g .copy-marked3 .kept .0, h .copy-marked2 .kept .0, f .copy-marked .kept .0))
 
 same-length : tie.Need-same-length
 same-length c = search needs

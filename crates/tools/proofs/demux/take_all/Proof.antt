@@ -7,10 +7,10 @@ use Rattle.tools.proofs.demux.take_all.Statement.{statement}
 use Rattle.tools.proofs.demux.take_all.Tie as tie
 
 abbrev Inv-loop : tie.InvT-loop
-Inv-loop fd block₀ state₀ store₀ pid choice next₀ blocks₀ block state store next blocks = (length state ≡ length state₀) × (length store ≡ length store₀) × (length block ≡ 63920) × (length block ≡ length block₀)
+Inv-loop fd block₀ state₀ store₀ asked next₀ blocks₀ block state store next blocks = (length state ≡ length state₀) × (length store ≡ length store₀) × (length block ≡ 63920) × (length block ≡ length block₀)
 
 abbrev μ-loop : tie.MeasureT-loop
-μ-loop fd block₀ state₀ store₀ pid choice next₀ blocks₀ block state store next blocks = 2 ^ 64 - blocks
+μ-loop fd block₀ state₀ store₀ asked next₀ blocks₀ block state store next blocks = 2 ^ 64 - blocks
 
 loop-holds : tie.Need-loop-holds Inv-loop μ-loop
 loop-holds c = (refl, refl, search needs, refl)

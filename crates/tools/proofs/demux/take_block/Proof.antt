@@ -7,10 +7,10 @@ use Rattle.tools.proofs.demux.take_block.Statement.{statement}
 use Rattle.tools.proofs.demux.take_block.Tie as tie
 
 abbrev Inv-loop : tie.InvT-loop
-Inv-loop block state₀ store₀ pid choice packets next₀ i₀ state store next i = (length state ≡ length state₀) × (length store ≡ length store₀)
+Inv-loop block state₀ store₀ asked packets next₀ i₀ state store next i = (length state ≡ length state₀) × (length store ≡ length store₀)
 
 abbrev μ-loop : tie.MeasureT-loop
-μ-loop block state₀ store₀ pid choice packets next₀ i₀ state store next i = packets - i
+μ-loop block state₀ store₀ asked packets next₀ i₀ state store next i = packets - i
 
 loop-holds : tie.Need-loop-holds Inv-loop μ-loop
 loop-holds c = (refl, refl)

@@ -5,10 +5,10 @@ use Rattle.tools.proofs.mux.read_streams.Statement.{statement}
 use Rattle.tools.proofs.mux.read_streams.Tie as tie
 
 abbrev Inv-loop : tie.InvT-loop
-Inv-loop first streams given₀ k₀ given k = Unit {0}
+Inv-loop first streams all given₀ k₀ given k = Unit {0}
 
 abbrev μ-loop : tie.MeasureT-loop
-μ-loop first streams given₀ k₀ given k = streams - k
+μ-loop first streams all given₀ k₀ given k = streams - k
 
 blank-requires : tie.Need-blank-requires Inv-loop μ-loop
 blank-requires c κs = search needs

@@ -7,16 +7,19 @@ use Rattle.tools.proofs.plan.numbers.Statement.{statement}
 use Rattle.tools.proofs.plan.numbers.Tie as tie
 
 abbrev Inv-loop : tie.InvT-loop
-Inv-loop slots plan₀ credits₀ i₀ plan credits i = (length credits ≡ 16) × (length plan ≡ 52)
+Inv-loop slots all plan₀ credits₀ i₀ plan credits i = (length credits ≡ 16) × (length plan ≡ 52)
 
 abbrev μ-loop : tie.MeasureT-loop
-μ-loop slots plan₀ credits₀ i₀ plan credits i = 52 - i
+μ-loop slots all plan₀ credits₀ i₀ plan credits i = all - i
 
 loop-holds : tie.Need-loop-holds Inv-loop μ-loop
 loop-holds c = (search needs, search needs)
 
 slice-aggregate-next : tie.Need-slice-aggregate-next Inv-loop μ-loop
 slice-aggregate-next c = search needs
+
+cast-next : tie.Need-cast-next Inv-loop μ-loop
+cast-next c = search needs
 
 next-requires : tie.Need-next-requires Inv-loop μ-loop
 next-requires c κs = search needs
@@ -44,6 +47,7 @@ numbers-spec =
     μ-loop
     loop-holds
     slice-aggregate-next
+    cast-next
     next-requires
     array-write-plan
     add-i
