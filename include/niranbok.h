@@ -54,9 +54,9 @@ extern "C" {
 #define NIRANBOK_SHORT_PRIVATE_DATA_BYTES 131 /* short: the same, all of their place */
 
 /* The most stack that a call takes on x86-64, its return address counted: spreading and gathering. Header
- * writing and closing a frame take 200 bytes at most, reading a header 256, putting packets and receiving one
- * 384, reading the headers of a group 512. `make stack` measures them all. A compiler for another processor
- * takes more or less. */
+ * writing and closing a frame take 200 bytes at most, reading a header, putting packets and receiving one 256,
+ * reading the headers of a group 512. `make stack` measures them all. A compiler for another processor takes
+ * more or less. */
 #define NIRANBOK_STACK_BYTES 1536
 
 /* A setting: where each field starts. The places are the same in every kind. Every field may hold what its

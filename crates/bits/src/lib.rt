@@ -1,7 +1,9 @@
-// Packed fields: what bits, runs of fields and cut fields are, and their laws over the width; and numbers made from bytes.
+// Packed fields: what bits, runs of fields and cut fields are, and their laws over the width; numbers made from bytes; bytes packed
+// from values of 4 bits.
 ghost use mathlib.Core.Path.{_≡_};
 ghost use Prim.Native.Nat.{_+_, _*_, _%_, _^_, _≤_};
 ghost use Rattle.bits.specs.Fields.{number, run};
+ghost use Rattle.bits.specs.Halves.{halvesInto};
 
 // A byte as a wider number, of which it is known that it was a byte.
 pub fn wide(byte: u8) -> u64
@@ -29,4 +31,21 @@ pub fn long(bytes: &[u8]) -> u64
         i += 1;
     }
     r
+}
+
+// Packs the low 4 bits of each value, two values to a byte. If there are not two values for each byte of the part, it stays as it was.
+pub fn pack_halves(part: &mut [u8], values: &[u8])
+    ensures { λ _. ⌜ now (part .exit) ≡ halvesInto (now (part .entry)) (now (values .entry)) ⌝ }
+{
+    if values.len() / 2 != part.len() {
+        return;
+    }
+    if values.len() % 2 != 0 {
+        return;
+    }
+    let mut k = 0;
+    while k < part.len() {
+        part[k] = values[2 * k] % 16 * 16 + values[2 * k + 1] % 16;
+        k += 1;
+    }
 }

@@ -118,7 +118,8 @@ fn bonded_by(packet: &[u8], heard: Checked, b: Bond) -> Bonded
             marks: 0,
         };
     };
-    let numbers = heard.relative_ts_number;
+    let mut numbers = [0u8; SLOTS];
+    header_check::read_numbers(&mut numbers, packet, Kind::Extended);
     let marks = marks_of(&numbers, r);
     Bonded {
         is_carried: true,

@@ -9,6 +9,8 @@ use counters::RelativeNumber;
 use counters::RelativeNumberAnswer;
 use packet::PACKET_BYTES;
 ghost use mathlib.Core.Path.{_≡_};
+ghost use mathlib.Core.Bool.{cond};
+ghost use lib.Dec.{eqb};
 ghost use lib.ListN.{length};
 ghost use Rattle.setting.specs.Refusal.{firstOf};
 ghost use Rattle.composer.specs.Slots.{emptyFor};
@@ -19,7 +21,7 @@ ghost use Rattle.composer.specs.States.{planAt, filledAt, composerLength, compo
 ghost use Rattle.slot_bits.specs.Bits.{slotsAsBits};
 
 // 13 and 12: the checks of the stream, and of the packets that would be placed.
-fn stream_refusal(state: &[u8], stream: &[u8], r: RelativeNumber, empty: u64) -> u8
+pub(crate) fn stream_refusal(state: &[u8], stream: &[u8], r: RelativeNumber, empty: u64) -> u8
     requires { ⌜ length (now state) ≡ composerLength ⌝ }
     requires { ⌜ empty ≡ slotsAsBits (emptyFor (r .0) (part planAt lastSlot (now state)) (marksOf (part filledAt lastSlot (now state)))) ⌝ }
     ensures { λ t. ⌜ t ≡ firstOf (streamChecks (composerOf (now (state .entry))) (r .0) (now (stream .entry))) ⌝ }
@@ -35,17 +37,11 @@ fn stream_refusal(state: &[u8], stream: &[u8], r: RelativeNumber, empty: u64) ->
     0
 }
 
-// `empty` has the still empty slots planned for r, as bits.
-pub(crate) fn put_refusal(
-    state: &[u8],
-    stream: &[u8],
-    r: RelativeNumber,
-    empty: u64,
-    lent: usize,
-) -> u8
+// What is asked before the stream itself: 1, 2, 17, 16, and the checks of the open frame. Where this is 0, the put's refusal is what
+// `stream_refusal` answers.
+pub(crate) fn frame_refusal(state: &[u8], stream: &[u8], r: RelativeNumber, lent: usize) -> u8
     requires { ⌜ length (now state) ≡ composerLength ⌝ }
-    requires { ⌜ empty ≡ slotsAsBits (emptyFor (r .0) (part planAt lastSlot (now state)) (marksOf (part filledAt lastSlot (now state)))) ⌝ }
-    ensures { λ t. ⌜ t ≡ putRefusal (composerOf (now (state .entry))) (r .0) (now (stream .entry)) lent ⌝ }
+    ensures { λ t. ⌜ putRefusal (composerOf (now (state .entry))) (r .0) (now (stream .entry)) lent ≡ cond (eqb t 0) (firstOf (streamChecks (composerOf (now (state .entry))) (r .0) (now (stream .entry)))) t ⌝ }
 {
     let kind = setting_bytes::kind_of(state[KIND]);
     if lent != packet::frame_bytes(kind) {
@@ -65,9 +61,5 @@ pub(crate) fn put_refusal(
     if size.streams < number.0 {
         return 17;
     }
-    let not_open = composer_checks::open_refusal(state);
-    if not_open != 0 {
-        return not_open;
-    }
-    stream_refusal(state, stream, number, empty)
+    composer_checks::open_refusal(state)
 }

@@ -34,12 +34,17 @@ pub fn put<'a>(
         *refusal = 1;
         return stream;
     }
+    *refusal = checks::frame_refusal(state, stream, r, frame.len());
+    if *refusal != 0 {
+        return stream;
+    }
+    // Behind the checks, so that the set is not held while they run: that takes less stack.
     let empty = slots::empty_slots(
         &state[PLAN..PLAN + SLOTS],
         &state[FILLED..COMPOSER_BYTES],
         r,
     );
-    *refusal = checks::put_refusal(state, stream, r, empty, frame.len());
+    *refusal = checks::stream_refusal(state, stream, r, empty);
     if *refusal != 0 {
         return stream;
     }

@@ -17,7 +17,7 @@ use Rattle.setting.specs.Setting.{blank}
 use Rattle.setting.specs.Size.{sizeOf, streamsOf, resized}
 use Rattle.setting.proofs.Sizes.{sized, resized-same, resized-longer}
 use Rattle.header_layout.specs.Header.{headerLength, reading}
-use Rattle.header_layout.proofs.Cut.{wordAt}
+use Rattle.header_layout.proofs.Cut.{wordAt, length-part}
 use Rattle.header_layout.proofs.Said.{fields-are, streams-are, numbers-are}
 use Rattle.header_check.specs.declared.Checked.{Checked}
 use Rattle.header_check.specs.Checking.{readRefusal, partsOf, partsBeside, checkedOf}
@@ -50,6 +50,10 @@ over-zeros m n vs e h =
     let fits : length vs ≤ m = omega arith in
     ap (λ (l : List ℕ). vs ++ l) zeros ∙ ap (λ (k : ℕ). vs ++ replicate (m - k) 0) (sym e) ∙ sym (resized-longer m vs fits)
 
+-- how many numbers stand two to a byte
+pub long-numbers : (p : List ℕ) → length p ≡ headerLength → cut 4 (2 * length (take 26 (drop 73 p))) (run 8 (take 26 (drop 73 p))) ≡ cut 4 52 (run 8 (take 26 (drop 73 p)))
+long-numbers p h = ap (λ (n : ℕ). cut 4 (2 * n) (run 8 (take 26 (drop 73 p)))) (length-part p 73 26 (omega arith))
+
 -- the slots' numbers of each kind, as they are read: two from a byte, or three bits each into the front of zeros
 module _ (p : List ℕ) (f : Fit 8 p) (h : length p ≡ headerLength) where
   pub plain-numbers : cut 4 52 (run 8 (take 26 (drop 73 p))) ≡ reading Kind.Plain p .«relative_ts_number»
@@ -68,7 +72,6 @@ module _ (p : List ℕ) (f : Fit 8 p) (h : length p ≡ headerLength) where
 pub record Answers (kind : Kind) (p : List ℕ) (r : Checked) : Type 0 where
   pub counter : r .«continuity_counter» ≡ reading kind p .«continuity_counter»
   pub streams : r .availability ≡ reading kind p .availability
-  pub numbers : r .«relative_ts_number» ≡ reading kind p .«relative_ts_number»
   pub group : r .«group_id» ≡ reading kind p .«group_id»
   pub carriers : r .«number_of_carriers» ≡ reading kind p .«number_of_carriers»
   pub sequence : r .«carrier_sequence» ≡ reading kind p .«carrier_sequence»
@@ -99,7 +102,6 @@ module _ (kind : Kind) (p : List ℕ) {m n : ℕ} (e : n ≡ m) (r : Checked) wh
         refusal = s i;
         «continuity_counter» = a .counter i;
         availability = a .streams i;
-        «relative_ts_number» = a .numbers i;
         «group_id» = a .group i;
         «number_of_carriers» = a .carriers i;
         «carrier_sequence» = a .sequence i;

@@ -25,7 +25,6 @@ partsOf n s =
       refusal = n;
       «continuity_counter» = s .«continuity_counter»;
       availability = s .availability;
-      «relative_ts_number» = s .«relative_ts_number»;
       «group_id» = s .«group_id»;
       «number_of_carriers» = s .«number_of_carriers»;
       «carrier_sequence» = s .«carrier_sequence»;

@@ -10,12 +10,12 @@ ghost use Rattle.header_check.specs.Cutting.{cutInto};
 mod packed;
 mod parts;
 
-// Refusal 0 and the fields that receiving and gathering use, or the refusal's number and zeros.
+// Refusal 0 and the fields that receiving and gathering use, or the refusal's number and zeros. The slots' numbers are read apart, by
+// `read_numbers`.
 pub struct Checked {
     pub refusal: u8,
     pub continuity_counter: u8,
     pub availability: u16,
-    pub relative_ts_number: [u8; SLOTS],
     pub group_id: u8,
     pub number_of_carriers: u8,
     pub carrier_sequence: u8,

@@ -8,13 +8,13 @@ use counters::SLOTS;
 use counters::STREAMS;
 use setting::Kind;
 ghost use mathlib.Core.Path.{_≡_};
-ghost use Prim.Native.Nat.{_+_, _*_, _<_};
+ghost use Prim.Native.Nat.{_+_, _*_, _/_, _<_};
 ghost use lib.ListN.{length, getD, replicate};
 ghost use Rattle.bits.specs.Fields.{run, cut};
 ghost use Rattle.setting.specs.Setting.{blank};
 ghost use Rattle.setting.specs.Refusal.{firstOf};
 ghost use Rattle.counters.specs.Counters.{lastSlot};
-ghost use Rattle.setting.specs.Rules.{pairTwice, bondingChecks, ruleChecks};
+ghost use Rattle.setting.specs.Rules.{someUnavailable, pairTwice, bondingChecks, ruleChecks};
 ghost use Rattle.header_layout.specs.Header.{headerLength, packetChecks, reading};
 ghost use Rattle.header_check.specs.Checking.{partsOf, partsBeside};
 
@@ -75,30 +75,70 @@ fn availability_of(packet: &[u8], kind: Kind) -> u16
     own << ((RelativeNumber::LAST - size.streams) as u32)
 }
 
+// The bytes of the slots' numbers in a header with fifteen streams.
+const NUMBERS_BYTES: usize = header_layout::PRIVATE - header_layout::NUMBERS;
+
+// These bytes, copied one by one.
+fn hold(part: &[u8]) -> [u8; NUMBERS_BYTES]
+    requires { ⌜ length (now part) ≡ lastSlot / 2 ⌝ }
+    ensures { λ r. ⌜ r ≡ now (part .entry) ⌝ }
+{
+    let mut held = [0u8; NUMBERS_BYTES];
+    let mut i = 0;
+    while i < NUMBERS_BYTES {
+        held[i] = part[i];
+        i += 1;
+    }
+    held
+}
+
+// The numbers of a header with fifteen streams. They are read by way of an array of their bytes, since the compiler then need not ask whether
+// packet and numbers overlap, and reads many at a time.
+fn read_long(numbers: &mut [u8], packet: &[u8])
+    requires { ⌜ (length (now numbers) ≡ lastSlot) × (length (now packet) ≡ headerLength) ⌝ }
+    ensures { λ _. ⌜ now (numbers .exit) ≡ reading Kind.Plain (now (packet .entry)) .«relative_ts_number» ⌝ }
+    ensures { λ _. ⌜ now (numbers .exit) ≡ reading Kind.Extended (now (packet .entry)) .«relative_ts_number» ⌝ }
+{
+    let held = hold(&packet[header_layout::NUMBERS..header_layout::PRIVATE]);
+    read_halves(numbers, &held);
+}
+
 // The number of each slot that the kind has; those behind stay zeros.
 pub(crate) fn read_numbers(numbers: &mut [u8], packet: &[u8], kind: Kind)
     requires { ⌜ (now numbers ≡ replicate lastSlot 0) × (length (now packet) ≡ headerLength) ⌝ }
     ensures { λ _. ⌜ now (numbers .exit) ≡ reading kind (now (packet .entry)) .«relative_ts_number» ⌝ }
 {
     match kind {
-        Kind::Plain => {
-            read_halves(
-                numbers,
-                &packet[header_layout::NUMBERS..header_layout::PRIVATE],
-            );
-        }
-        Kind::Extended => {
-            read_halves(
-                numbers,
-                &packet[header_layout::NUMBERS..header_layout::PRIVATE],
-            );
-        }
+        Kind::Plain => read_long(numbers, packet),
+        Kind::Extended => read_long(numbers, packet),
         Kind::Short => {
             packed::read_run(
                 &mut numbers[0..SHORT_SLOTS],
                 &packet[header_layout::SHORT_NUMBERS..header_layout::SHORT_PRIVATE],
                 3,
             );
+        }
+    }
+}
+
+// Whether a slot has the number of an unavailable stream. Numbers that stand two to a byte are asked where they stand.
+fn has_unavailable(packet: &[u8], kind: Kind, availability: u16) -> bool
+    requires { ⌜ length (now packet) ≡ headerLength ⌝ }
+    ensures { λ r. ⌜ r ≡ someUnavailable availability (reading kind (now (packet .entry)) .«relative_ts_number») ⌝ }
+{
+    match kind {
+        Kind::Plain => setting_slots::has_unavailable_half(
+            availability,
+            &packet[header_layout::NUMBERS..header_layout::PRIVATE],
+        ),
+        Kind::Extended => setting_slots::has_unavailable_half(
+            availability,
+            &packet[header_layout::NUMBERS..header_layout::PRIVATE],
+        ),
+        Kind::Short => {
+            let mut numbers = [0u8; SLOTS];
+            read_numbers(&mut numbers, packet, Kind::Short);
+            setting_slots::has_unavailable(availability, &numbers)
         }
     }
 }
@@ -190,9 +230,7 @@ pub(crate) fn said_by(packet: &[u8], kind: Kind) -> Checked
         return refused(8);
     }
     let availability = availability_of(packet, kind);
-    let mut numbers = [0u8; SLOTS];
-    read_numbers(&mut numbers, packet, kind);
-    if setting_slots::has_unavailable(availability, &numbers) {
+    if has_unavailable(packet, kind, availability) {
         return refused(9);
     }
     if has_pair_twice(packet, kind, availability) {
@@ -207,7 +245,6 @@ pub(crate) fn said_by(packet: &[u8], kind: Kind) -> Checked
         refusal: 0,
         continuity_counter: packet[3] % 16,
         availability,
-        relative_ts_number: numbers,
         group_id: bonding.group_id,
         number_of_carriers: bonding.number_of_carriers,
         carrier_sequence: bonding.carrier_sequence,
@@ -224,7 +261,6 @@ pub(crate) fn refused(refusal: u8) -> Checked
         refusal,
         continuity_counter: 0,
         availability: 0,
-        relative_ts_number: [0u8; SLOTS],
         group_id: 0,
         number_of_carriers: 0,
         carrier_sequence: 0,

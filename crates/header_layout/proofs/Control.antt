@@ -1,12 +1,13 @@
 -- The control information, as byte-wise code writes it. Assumes nothing.
-use Prim.Native.Nat.{ℕ, zero, suc, _+_, _*_, _%_, _^_, _≤_}
+use Prim.Native.Nat.{ℕ, suc, _+_, _*_, _%_, _^_, _≤_, _<_}
 use mathlib.Core.Path.{_≡_, refl, sym, ap, _∙_}
 use mathlib.Core.List.{List, [], _∷_, _++_, append-assoc, append-nil}
 use native.Mathlib.Omega.{arith}
 use native.Mathlib.Numerals.{add-one, add-two, add-three}
-use lib.ListN.{length, take, drop, getD}
-use lib.Seq.{drop-cons}
+use lib.ListN.{length, take, drop, getD, set}
+use lib.Seq.{drop-cons, take-add, take-suc-set}
 use Rattle.bits.specs.Fields.{bitsOf, run}
+use Rattle.bits.proofs.Laws.{run-append}
 use Rattle.setting.specs.declared.Size.{Size}
 use Rattle.setting.specs.declared.Setting.{Setting}
 use Rattle.setting.specs.Size.{resized}
@@ -22,13 +23,6 @@ quarters-bits a b c d =
     let three = (a * 2 ^ 2 + b % 2 ^ 2) * 2 ^ 2 + c % 2 ^ 2 in
     byte (quarters a b c d) (three * 2 ^ 2 + d % 2 ^ 2) (omega arith)
     ∙ sym (joined 2 2 a b refl ∙ joined 4 2 (a * 2 ^ 2 + b % 2 ^ 2) c refl ∙ beside 6 2 three d)
-
--- so many bytes of control information: four statuses each from status k on, and in the last byte three, a reserved bit and the emergency bit
-abbrev pub controlBytes : ℕ → ℕ → List ℕ → ℕ → List ℕ
-controlBytes zero k r em = []
-controlBytes (suc zero) k r em = quarters (getD r k 0) (getD r (k + 1) 0) (getD r (k + 2) 0) (2 + em % 2) ∷ []
-controlBytes (suc (suc b)) k r em =
-    quarters (getD r k 0) (getD r (k + 1) 0) (getD r (k + 2) 0) (getD r (k + 3) 0) ∷ controlBytes (suc b) (k + 4) r em
 
 -- three and four values from value k on
 three-on : (k n : ℕ) (r : List ℕ) → k + 3 ≤ length r → take (3 + n) (drop k r) ≡ getD r k 0 ∷ getD r (k + 1) 0 ∷ getD r (k + 2) 0 ∷ take n (drop (k + 3) r)
@@ -50,23 +44,29 @@ four-on k n r h =
 abbrev behind : ℕ → List ℕ
 behind em = bitsOf 1 1 ++ bitsOf 1 em
 
-control-run : (b k : ℕ) (r : List ℕ) (em : ℕ) → k + (4 * b + 3) ≤ length r → run 8 (controlBytes (suc b) k r em) ≡ run 2 (take (4 * b + 3) (drop k r)) ++ behind em
+-- one byte more of four statuses
+pub control-next : (part r : List ℕ) (k : ℕ) → k < length part → 4 * k + 4 ≤ length r → run 8 (take k part) ≡ run 2 (take (4 * k) r)
+    → run 8 (take (k + 1) (set part k (quarters (getD r (4 * k) 0) (getD r (4 * k + 1) 0) (getD r (4 * k + 2) 0) (getD r (4 * k + 3) 0)))) ≡ run 2 (take (4 * (k + 1)) r)
 unfolding run
-control-run zero k r em h =
-    let last : bitsOf 2 (2 + em % 2) ≡ behind em = sym (beside 1 1 1 em) in
-    rw (three-on k 0 r (omega arith)) (simp (quarters-bits, last, append-assoc, append-nil) refl)
-control-run (suc b) k r em h =
-    let more : 4 * suc b + 3 ≡ 4 + (4 * b + 3) = omega arith in
-    rw (more, four-on k (4 * b + 3) r (omega arith))
-    (ap (λ (l : List ℕ). bitsOf 8 (quarters (getD r k 0) (getD r (k + 1) 0) (getD r (k + 2) 0) (getD r (k + 3) 0)) ++ l) (control-run b (k + 4) r em (omega arith))
-    ∙ simp (quarters-bits, append-assoc) refl)
+control-next part r k h room e =
+    let q = quarters (getD r (4 * k) 0) (getD r (4 * k + 1) 0) (getD r (4 * k + 2) 0) (getD r (4 * k + 3) 0) in
+    let more : 4 * (k + 1) ≡ 4 * k + 4 = omega arith in
+    rw (more, add-one k, take-suc-set part k q h, run-append 8 (take k part) (q ∷ []), e, take-add (4 * k) 4 r, run-append 2 (take (4 * k) r) (take 4 (drop (4 * k) r)), four-on (4 * k) 0 r room)
+    (simp (quarters-bits, append-assoc, append-nil) refl)
 
--- the control information of a size with so many bytes of it
-pub control-bits : (b : ℕ) (z : Size) (pid : ℕ) (s : Setting) → z .streams ≡ 4 * b + 3 → 4 * b + 3 ≤ length (s .«receive_status»)
-    → run 8 (controlBytes (suc b) 0 (s .«receive_status») (s .«emergency_indicator»)) ≡ lineBits z pid s (controlTable z)
+-- the last byte behind k of them
+pub control-last : (front r : List ℕ) (k em : ℕ) → 4 * k + 3 ≤ length r → run 8 front ≡ run 2 (take (4 * k) r)
+    → run 8 (front ++ (quarters (getD r (4 * k) 0) (getD r (4 * k + 1) 0) (getD r (4 * k + 2) 0) (2 + em % 2) ∷ [])) ≡ run 2 (take (4 * k + 3) r) ++ behind em
+unfolding run
+control-last front r k em room e =
+    let q = quarters (getD r (4 * k) 0) (getD r (4 * k + 1) 0) (getD r (4 * k + 2) 0) (2 + em % 2) in
+    let last : bitsOf 2 (2 + em % 2) ≡ behind em = sym (beside 1 1 1 em) in
+    rw (run-append 8 front (q ∷ []), e, take-add (4 * k) 3 r, run-append 2 (take (4 * k) r) (take 3 (drop (4 * k) r)), three-on (4 * k) 0 r room)
+    (simp (quarters-bits, last, append-assoc, append-nil) refl)
+
+-- the control information of a size with so many streams
+pub control-bits : (z : Size) (pid : ℕ) (s : Setting) → z .streams ≤ length (s .«receive_status»)
+    → run 2 (take (z .streams) (s .«receive_status»)) ++ behind (s .«emergency_indicator») ≡ lineBits z pid s (controlTable z)
 unfolding lineBits pack controlTable held run
-control-bits b z pid s n h =
-    let r = s .«receive_status» in
-    control-run b 0 r (s .«emergency_indicator») (omega arith)
-    ∙ ap (λ (l : List ℕ). run 2 l ++ behind (s .«emergency_indicator»)) (sym (ap (λ (m : ℕ). resized m r) n ∙ resized-take (4 * b + 3) r h))
-    ∙ simp append-nil refl
+control-bits z pid s h =
+    ap (λ (l : List ℕ). run 2 l ++ behind (s .«emergency_indicator»)) (sym (resized-take (z .streams) (s .«receive_status») h)) ∙ simp append-nil refl

@@ -1,4 +1,4 @@
--- Values of 4 bits, two a byte, a byte a turn: what the loops that write and read them need. Assumes nothing.
+-- Values of 4 bits, two a byte, a byte a turn: what the loop that reads them needs. Assumes nothing.
 use Prim.Native.Nat.{ℕ, zero, suc, _+_, _*_, _/_, _%_, _≤_, _<_, _^_}
 use mathlib.Core.Path.{_≡_, refl, sym, ap, ap₂, subst, _∙_}
 use mathlib.Core.List.{List, [], _∷_, _++_, append-nil}
@@ -17,35 +17,9 @@ halves a b =
     run-cons 4 a (b ∷ []) ∙ ap (λ (l : List ℕ). bitsOf 4 a ++ l) (run-one 4 b) ∙ beside 4 4 a b
     ∙ byte (a * 16 + b % 16) (a % 16 * 16 + b % 16) (omega arith) ∙ sym (run-one 8 (a % 16 * 16 + b % 16))
 
--- two values more
-two-more : (k : ℕ) (vs : List ℕ) → 2 * k + 2 ≤ length vs → take (2 * k + 2) vs ≡ take (2 * k) vs ++ (getD vs (2 * k) 0 ∷ getD vs (2 * k + 1) 0 ∷ [])
-two-more k [] h = absurd (omega arith)
-two-more k (x ∷ []) h = absurd (omega arith)
-two-more zero (x ∷ y ∷ vs) h = refl
-two-more (suc k) (x ∷ y ∷ vs) h =
-    let behind : 2 * suc k + 2 ≡ suc (suc (2 * k + 2)) = omega arith in
-    let second : 2 * suc k + 1 ≡ suc (suc (2 * k + 1)) = omega arith in
-    let first : 2 * suc k ≡ suc (suc (2 * k)) = omega arith in
-    rw (behind, second, first) (ap (λ (l : List ℕ). x ∷ y ∷ l) (two-more k vs (omega arith)))
-
 -- two stores, one behind the other
 two-stored : (l : List ℕ) (at a b : ℕ) → at + 2 ≤ length l → take (at + 2) (set (set l at a) (at + 1) b) ≡ take at l ++ (a ∷ b ∷ [])
 two-stored l at a b h = rw (add-one at) (stored-behind (a ∷ b ∷ []) l at h)
-
--- a turn of the loop that writes
-pub half-written : (part vs : List ℕ) (k : ℕ) → k < length part → length vs ≡ 2 * length part
-    → run 8 (take k part) ≡ run 4 (take (2 * k) vs)
-    → run 8 (take (k + 1) (set part k (getD vs (2 * k) 0 % 16 * 16 + getD vs (2 * k + 1) 0 % 16))) ≡ run 4 (take (2 * (k + 1)) vs)
-half-written part vs k h long e =
-    let a = getD vs (2 * k) 0 in
-    let b = getD vs (2 * k + 1) 0 in
-    let x = a % 16 * 16 + b % 16 in
-    let next : 2 * (k + 1) ≡ 2 * k + 2 = omega arith in
-    ap (run 8) (ap (λ (n : ℕ). take n (set part k x)) (add-one k) ∙ take-suc-set part k x h)
-    ∙ run-append 8 (take k part) (x ∷ [])
-    ∙ ap₂ (λ (x y : List ℕ). x ++ y) e (sym (halves a b))
-    ∙ sym (run-append 4 (take (2 * k) vs) (a ∷ b ∷ []))
-    ∙ ap (run 4) (sym (two-more k vs (omega arith)) ∙ ap (λ (n : ℕ). take n vs) (sym next))
 
 -- after k turns of the loop that reads
 pub record Halved (vs part : List ℕ) (k : ℕ) : Type 0 where

@@ -60,12 +60,24 @@ fn read_ids(part: &mut [u8], ids: &[u8], streams: usize)
 }
 
 // The status of each stream, with zeros for those that the header does not have.
-fn read_statuses(part: &mut [u8], control: &[u8], streams: usize)
+fn cut_statuses(part: &mut [u8], control: &[u8], streams: usize)
     requires { ⌜ (length (now part) ≡ lastStream) × (streams ≤ lastStream) × (streams * 2 ≤ length (now control) * 8) ⌝ }
     ensures { λ _. ⌜ now (part .exit) ≡ resized lastStream (cut 2 streams (run 8 (now (control .entry)))) ⌝ }
 {
     header_check::cut_run(&mut part[0..streams], control, 2);
     slices::fill(&mut part[streams..STREAMS], 0);
+}
+
+// The same. The compiler makes code of its own for fifteen streams, since it knows their number: that is faster.
+fn read_statuses(part: &mut [u8], control: &[u8], streams: usize)
+    requires { ⌜ (length (now part) ≡ lastStream) × (streams ≤ lastStream) × (streams * 2 ≤ length (now control) * 8) ⌝ }
+    ensures { λ _. ⌜ now (part .exit) ≡ resized lastStream (cut 2 streams (run 8 (now (control .entry)))) ⌝ }
+{
+    if streams == STREAMS {
+        cut_statuses(part, control, STREAMS);
+        return;
+    }
+    cut_statuses(part, control, streams);
 }
 
 // What the header announces. The check has already read the availability.

@@ -37,15 +37,3 @@ pub(crate) fn write_run(part: &mut [u8], values: &[u8], width: u32) -> u32
     }
     held
 }
-
-// Packs the low 4 bits of each value, two values to a byte: what `write_run` does for this width, many bytes at a time.
-pub(crate) fn write_halves(part: &mut [u8], values: &[u8])
-    requires { ⌜ length (now values) ≡ 2 * length (now part) ⌝ }
-    ensures { λ _. ⌜ run 8 (now (part .exit)) ≡ run 4 (now (values .entry)) ⌝ }
-{
-    let mut k = 0;
-    while k < part.len() {
-        part[k] = values[2 * k] % 16 * 16 + values[2 * k + 1] % 16;
-        k += 1;
-    }
-}

@@ -3,6 +3,7 @@ use crate::packed;
 use counters::SHORT_SLOTS;
 use setting::AUXILIARY_BYTES;
 use setting::Kind;
+use setting::PRIVATE_BYTES;
 use setting_bytes::ANNOUNCED;
 use setting_bytes::AUXILIARY;
 use setting_bytes::BONDING;
@@ -48,6 +49,14 @@ const EMERGENCY: usize = ANNOUNCED + setting_bytes::EMERGENCY;
 const EXTENDED_BYTES: usize = AUXILIARY_BYTES
     + header_layout::BONDING_BYTES
     + header_layout::RESERVED_BYTES;
+
+// The bytes of the slots' numbers, and of a plain header's private data. A part is cut to its length where it is written, so that the
+// compiler knows it.
+const LONG_NUMBERS_BYTES: usize = header_layout::PRIVATE - header_layout::NUMBERS;
+
+const SHORT_NUMBERS_BYTES: usize = header_layout::SHORT_PRIVATE - header_layout::SHORT_NUMBERS;
+
+const LONG_PRIVATE_BYTES: usize = header_layout::CRC - header_layout::PRIVATE;
 
 // Bytes 0 to 6, which are the same for every size: packet header, sync, version and types.
 fn write_start(part: &mut [u8], pid: u16, setting: &[u8])
@@ -112,39 +121,23 @@ fn write_identifiers(part: &mut [u8], ts: &[u8], os: &[u8], streams: usize)
     }
 }
 
-// The statuses of fifteen streams, and in the last byte behind them a reserved bit and the emergency bit.
-fn write_fifteen_statuses(part: &mut [u8], setting: &[u8])
-    requires { ⌜ (length (now part) ≡ 4) × (length (now setting) ≡ settingLength) ⌝ }
-    ensures { λ _. ⌜ ((z : Size) (pid : ℕ) → z .streams ≡ lastStream → run 8 (now (part .exit)) ≡ lineBits z pid (settingOf (now (setting .entry))) (controlTable z)) ⌝ }
+// The control information: four statuses to a byte, and in the last byte three, a reserved bit and the emergency bit. As many statuses as there is
+// room for.
+fn write_control(part: &mut [u8], setting: &[u8])
+    requires { ⌜ (1 ≤ length (now part)) × (4 * length (now part) ≤ lastStream + 1) × (length (now setting) ≡ settingLength) ⌝ }
+    ensures { λ _. ⌜ ((z : Size) (pid : ℕ) → z .streams + 1 ≡ 4 * length (now (part .entry)) → run 8 (now (part .exit)) ≡ lineBits z pid (settingOf (now (setting .entry))) (controlTable z)) ⌝ }
 {
     let r = &setting[STATUSES..EMERGENCY];
-    part[0] = packed::four(r[0], r[1], r[2], r[3]);
-    part[1] = packed::four(r[4], r[5], r[6], r[7]);
-    part[2] = packed::four(r[8], r[9], r[10], r[11]);
-    // The last value is the reserved bit, a one, and the emergency bit.
-    part[3] = packed::four(r[12], r[13], r[14], 2 + setting[EMERGENCY] % 2);
-}
-
-// The same of seven streams.
-fn write_seven_statuses(part: &mut [u8], setting: &[u8])
-    requires { ⌜ (length (now part) ≡ 2) × (length (now setting) ≡ settingLength) ⌝ }
-    ensures { λ _. ⌜ ((z : Size) (pid : ℕ) → z .streams ≡ lastShortStream → run 8 (now (part .exit)) ≡ lineBits z pid (settingOf (now (setting .entry))) (controlTable z)) ⌝ }
-{
-    let r = &setting[STATUSES..EMERGENCY];
-    part[0] = packed::four(r[0], r[1], r[2], r[3]);
-    part[1] = packed::four(r[4], r[5], r[6], 2 + setting[EMERGENCY] % 2);
-}
-
-// The control information of the kind.
-fn write_control(part: &mut [u8], kind: Kind, setting: &[u8])
-    requires { ⌜ (length (now part) ≡ (streamsOf kind + 1) / 4) × (length (now setting) ≡ settingLength) ⌝ }
-    ensures { λ _. ⌜ ((pid : ℕ) → run 8 (now (part .exit)) ≡ lineBits (sizeOf kind) pid (settingOf (now (setting .entry))) (controlTable (sizeOf kind))) ⌝ }
-{
-    match kind {
-        Kind::Plain => write_fifteen_statuses(part, setting),
-        Kind::Extended => write_fifteen_statuses(part, setting),
-        Kind::Short => write_seven_statuses(part, setting),
+    let last = part.len() - 1;
+    let mut k = 0;
+    while k < last {
+        let at = 4 * k;
+        part[k] = packed::four(r[at], r[at + 1], r[at + 2], r[at + 3]);
+        k += 1;
     }
+    // The last value is the reserved bit, a one, and the emergency bit.
+    let at = 4 * last;
+    part[last] = packed::four(r[at], r[at + 1], r[at + 2], 2 + setting[EMERGENCY] % 2);
 }
 
 // The number of each slot of the kind.
@@ -153,10 +146,14 @@ fn write_numbers(part: &mut [u8], kind: Kind, numbers: &[u8])
     ensures { λ _. ⌜ run 8 (now (part .exit)) ≡ run (sizeOf kind .«number_bits») (resized (slotsOf kind) (now (numbers .entry))) ⌝ }
 {
     match kind {
-        Kind::Plain => packed::write_halves(part, numbers),
-        Kind::Extended => packed::write_halves(part, numbers),
+        Kind::Plain => bits::pack_halves(&mut part[0..LONG_NUMBERS_BYTES], numbers),
+        Kind::Extended => bits::pack_halves(&mut part[0..LONG_NUMBERS_BYTES], numbers),
         Kind::Short => {
-            packed::write_run(part, &numbers[0..SHORT_SLOTS], 3);
+            packed::write_run(
+                &mut part[0..SHORT_NUMBERS_BYTES],
+                &numbers[0..SHORT_SLOTS],
+                3,
+            );
         }
     }
 }
@@ -194,8 +191,11 @@ fn write_private(part: &mut [u8], kind: Kind, setting: &[u8])
     ensures { λ _. ⌜ ((pid : ℕ) → run 8 (now (part .exit)) ≡ lineBits (sizeOf kind) pid (settingOf (now (setting .entry))) (privateTable kind)) ⌝ }
 {
     match kind {
-        Kind::Plain => slices::copy(part, &setting[PRIVATE..AUXILIARY]),
-        Kind::Short => slices::copy(part, &setting[PRIVATE..AUXILIARY]),
+        Kind::Plain => slices::copy(
+            &mut part[0..LONG_PRIVATE_BYTES],
+            &setting[PRIVATE..PRIVATE + LONG_PRIVATE_BYTES],
+        ),
+        Kind::Short => slices::copy(&mut part[0..PRIVATE_BYTES], &setting[PRIVATE..AUXILIARY]),
         Kind::Extended => write_extended(part, setting),
     }
 }
@@ -224,7 +224,7 @@ pub(crate) fn write_body(part: &mut [u8], pid: u16, kind: Kind, setting: &[u8])
         &setting[NETWORK_IDS..STATUSES],
         streams,
     );
-    write_control(&mut part[control..numbers], kind, setting);
+    write_control(&mut part[control..numbers], setting);
     write_numbers(
         &mut part[numbers..private],
         kind,

@@ -2,12 +2,12 @@
 use Prim.Native.Nat.{ℕ, _+_, _*_, _≤_, _^_}
 use mathlib.Core.Path.{_≡_, sym, ap, ap₂, _∙_}
 use mathlib.Core.Bool.{false}
-use mathlib.Core.List.{List, [], _++_, append-nil}
+use mathlib.Core.List.{List, [], _++_}
 use native.Mathlib.Omega.{arith}
 use lib.ListN.{length, take, drop, replicate, length-drop, length-replicate}
 use lib.Seq.{length-take-le}
-use Rattle.bits.specs.Fields.{run, cut}
-use Rattle.bits.proofs.Laws.{length-run, length-cut, cut-run}
+use Rattle.bits.specs.Fields.{run}
+use Rattle.bits.proofs.Laws.{length-cut}
 use Rattle.slices.specs.Slices.{copied, someAtLeast}
 use Rattle.slices.proofs.Front.{put, front-none, front-part, front-length, front-all, copied-over}
 use Rattle.counters.specs.Counters.{lastSlot}
@@ -62,13 +62,3 @@ long-said extended p l = part-row p start packedLength 4 lastSlot (omega (arith,
 pub long-own : {kind : Kind} → Long kind → (p : List ℕ) → length p ≡ packetLength → someAtLeast (2 ^ 8) (ownOf p) ≡ false
     → ownOf p ≡ packed (reading kind p .«relative_ts_number»)
 long-own long p l b = sym (ap packed (sym (long-said long p l)) ∙ packed-unpacked (ownOf p) (length-own p l, fit-some 8 (ownOf p) b))
-
--- bytes that were packed from numbers
-pub packed-own : (own ns : List ℕ) → length ns ≡ lastSlot → someAtLeast (2 ^ 8) own ≡ false → run 8 own ≡ run 4 ns → own ≡ packed ns
-unfolding packed
-packed-own own ns l b e =
-    let bits : length own * 8 ≡ length ns * 4 = sym (length-run 8 own) ∙ ap length e ∙ length-run 4 ns in
-    let long : length own ≡ packedLength = omega (arith, bits, l) in
-    sym (cut-run (fit-some 8 own b) [])
-    ∙ ap (λ (n : ℕ). cut 8 n (run 8 own ++ [])) long
-    ∙ ap (cut 8 packedLength) (append-nil (run 8 own) ∙ e)

@@ -19,7 +19,6 @@ ghost use mathlib.Core.Bool.{true, false};
 ghost use mathlib.Core.List.{_++_};
 ghost use Prim.Native.Nat.{_+_, _*_, _^_, _<_, _≤_};
 ghost use lib.ListN.{length, getD, set, take};
-ghost use Rattle.bits.specs.Fields.{run};
 ghost use Rattle.slices.specs.Slices.{over, someAtLeast};
 ghost use Rattle.counters.specs.Counters.{lastSlot};
 ghost use Rattle.setting.specs.Size.{slotsOf};
@@ -114,18 +113,6 @@ fn renew(numbers: &mut [u8], own: &[u8])
     );
 }
 
-// Packs numbers of four bits, two a byte.
-fn pack(part: &mut [u8], values: &[u8])
-    requires { ⌜ length (now values) ≡ 2 * length (now part) ⌝ }
-    ensures { λ _. ⌜ run 8 (now (part .exit)) ≡ run 4 (now (values .entry)) ⌝ }
-{
-    let mut k = 0;
-    while k < part.len() {
-        part[k] = values[2 * k] % 16 * 16 + values[2 * k + 1] % 16;
-        k += 1;
-    }
-}
-
 // Writes the slots' numbers after a good header of this kind, which says `said`. A plain or an extended header has them in the state's form;
 // those of a short one are packed.
 fn renumber(numbers: &mut [u8], packet: &[u8], kind: Kind)
@@ -149,7 +136,7 @@ fn renumber(numbers: &mut [u8], packet: &[u8], kind: Kind)
             let mut said = [0u8; SLOTS];
             header_check::read_numbers(&mut said, packet, Kind::Short);
             let mut own = [0u8; PACKED_BYTES];
-            pack(&mut own, &said);
+            bits::pack_halves(&mut own, &said);
             renew(numbers, &own);
         }
     }

@@ -6,7 +6,6 @@ use receiver::BEFORE;
 use receiver::COUNTER;
 use receiver::KIND;
 use receiver::NUMBERS;
-use receiver::PACKED_BYTES;
 use receiver::PID;
 use receiver::PID_LOW;
 use receiver::RECEIVER_BYTES;
@@ -19,7 +18,7 @@ use setting_bytes::LAST_KIND;
 ghost use mathlib.Core.Path.{_≡_};
 ghost use mathlib.Core.Bool.{cond};
 ghost use mathlib.Core.List.{_++_};
-ghost use Prim.Native.Nat.{_*_, _<_};
+ghost use Prim.Native.Nat.{_*_};
 ghost use lib.Dec.{eqb};
 ghost use lib.ListN.{length};
 ghost use Rattle.bits.specs.Fields.{run, cut};
@@ -27,7 +26,6 @@ ghost use Rattle.slices.specs.Slices.{copied, someAtLeast};
 ghost use Rattle.setting.specs.Refusal.{firstOf};
 ghost use Rattle.setting.specs.Rules.{numberChecks};
 ghost use Rattle.setting.specs.Size.{sizeOf, slotsOf};
-ghost use Rattle.receiver.specs.Packed.{packedLength, unpacked};
 ghost use Rattle.receiver.specs.Store.{storeLength};
 ghost use Rattle.receiver.specs.Table.{stageChecks};
 ghost use Rattle.receiver.specs.Bytes.{receiverLength, stageBytes, noStage, stageOf, stageIn, receiverOf};
@@ -131,41 +129,22 @@ pub fn store_bytes(kind: Kind) -> usize
     PACKET_BYTES * (size.slots as usize)
 }
 
-// Whether some half of a byte is `limit` or more. Looks for the largest and does not stop early, so that many bytes are compared at a time.
+// Whether some half of a byte is `limit` or more. The loop does not stop early, so that many bytes are compared at a time.
 fn some_half_at_least(bytes: &[u8], limit: u8) -> bool
-    requires { ⌜ 0 < limit ⌝ }
     ensures { λ r. ⌜ r ≡ someAtLeast limit (cut 4 (2 * length (now (bytes .entry))) (run 8 (now (bytes .entry)))) ⌝ }
 {
-    let mut most = 0;
+    let mut found = false;
     let mut i = 0;
     while i < bytes.len() {
-        if most < bytes[i] / 16 {
-            most = bytes[i] / 16;
-        }
-        if most < bytes[i] % 16 {
-            most = bytes[i] % 16;
-        }
+        found = found | (limit <= bytes[i] / 16) | (limit <= bytes[i] % 16);
         i += 1;
     }
-    limit <= most
-}
-
-// 17: a number that a short frame does not have, or one behind its last slot.
-fn short_refusal(numbers: &[u8]) -> u8
-    requires { ⌜ length (now numbers) ≡ packedLength ⌝ }
-    ensures { λ r. ⌜ r ≡ firstOf (numberChecks (sizeOf Kind.Short) (unpacked (now (numbers .entry)))) ⌝ }
-{
-    if some_half_at_least(numbers, RelativeNumber::LAST_SHORT + 1) {
-        return 17;
-    }
-    if some_half_at_least(&numbers[SHORT_SLOTS / 2..PACKED_BYTES], 1) {
-        return 17;
-    }
-    0
+    found
 }
 
 // 17: the slots' numbers, by the open frame's header and by the header before it. Those of a plain or an extended frame are not looked at,
-// since every number of four bits is in range.
+// since every number of four bits is in range. Both lists of a short frame are asked at once for numbers that it does not have, and each for
+// numbers behind its last slot.
 fn numbers_refusal(kind: Kind, state: &[u8]) -> u8
     requires { ⌜ length (now state) ≡ receiverLength ⌝ }
     ensures { λ r. ⌜ r ≡ firstOf (numberChecks (sizeOf kind) (receiverOf (now (state .entry)) .numbers) ++ numberChecks (sizeOf kind) (receiverOf (now (state .entry)) .before)) ⌝ }
@@ -174,11 +153,19 @@ fn numbers_refusal(kind: Kind, state: &[u8]) -> u8
         Kind::Plain => 0,
         Kind::Extended => 0,
         Kind::Short => {
-            let refusal = short_refusal(&state[NUMBERS..BEFORE]);
-            if refusal != 0 {
-                return refusal;
+            if some_half_at_least(
+                &state[NUMBERS..RECEIVER_BYTES],
+                RelativeNumber::LAST_SHORT + 1,
+            ) {
+                return 17;
             }
-            short_refusal(&state[BEFORE..RECEIVER_BYTES])
+            if some_half_at_least(&state[NUMBERS + SHORT_SLOTS / 2..BEFORE], 1) {
+                return 17;
+            }
+            if some_half_at_least(&state[BEFORE + SHORT_SLOTS / 2..RECEIVER_BYTES], 1) {
+                return 17;
+            }
+            0
         }
     }
 }

@@ -23,7 +23,7 @@ ghost use Prim.Native.Nat.{_≤_};
 ghost use mathlib.Core.Path.{_≡_};
 ghost use lib.ListN.{length};
 ghost use Rattle.setting.specs.Refusal.{firstOf, ofLength};
-ghost use Rattle.setting.specs.Rules.{behindChecks, widthChecks, ruleChecks};
+ghost use Rattle.setting.specs.Rules.{someBehind, behindChecks, widthChecks, ruleChecks};
 ghost use Rattle.setting.specs.Announcing.{announcedChecks};
 ghost use Rattle.counters.specs.Counters.{lastStream};
 ghost use Rattle.setting_bytes.specs.Settings.{privateAt, auxiliaryAt, announcedLength, settingLength, settingFrom, announcedOf, settingOf};
@@ -45,28 +45,52 @@ const STATUSES: usize = ANNOUNCED + RECEIVE_STATUS;
 // An identifier is two bytes, and the next one stands directly behind it.
 const ID_BYTES: u8 = 2;
 
-// 17 of what a header announced, and 1 where it is not 80 bytes.
+// 17 of what a header announced, and 1 where it is not 80 bytes. The statuses and the emergency bit behind them are sixteen bytes, which the
+// compiler compares at once: an emergency bit that is too large for a status is too large for itself too.
 pub fn announced_refusal(kind: Kind, bytes: &[u8]) -> u8
     ensures { λ r. ⌜ r ≡ ofLength announcedLength (length (now (bytes .entry))) (firstOf (announcedChecks kind (announcedOf (now (bytes .entry))))) ⌝ }
 {
     if bytes.len() != ANNOUNCED_BYTES {
         return 1;
     }
-    let information = setting_widths::information_refusal(
-        bytes[setting_bytes::SLOT_ALLOCATION_TYPE],
-        bytes[setting_bytes::FRAME_TYPE],
-        bits::word(
-            bytes[setting_bytes::AVAILABILITY],
-            bytes[setting_bytes::AVAILABILITY_LOW],
-        ),
-        &bytes[RECEIVE_STATUS..EMERGENCY],
-        bytes[EMERGENCY],
-    );
-    if information != 0 {
-        return information;
+    if limits::SLOT_ALLOCATION_TYPES <= bytes[setting_bytes::SLOT_ALLOCATION_TYPE] {
+        return 17;
     }
+    if limits::FRAME_TYPES <= bytes[setting_bytes::FRAME_TYPE] {
+        return 17;
+    }
+    let availability = bits::word(
+        bytes[setting_bytes::AVAILABILITY],
+        bytes[setting_bytes::AVAILABILITY_LOW],
+    );
+    if limits::AVAILABILITIES <= availability {
+        return 17;
+    }
+    if slices::some_at_least(
+        &bytes[RECEIVE_STATUS..ANNOUNCED_BYTES],
+        limits::RECEIVE_STATUSES,
+    ) {
+        return 17;
+    }
+    if limits::EMERGENCY_INDICATORS <= bytes[EMERGENCY] {
+        return 17;
+    }
+    // A header with fifteen streams has none behind the last one.
     let size = setting::size_of(kind);
+    if size.streams == RelativeNumber::LAST {
+        return 0;
+    }
     behind_refusal(size.streams, bytes)
+}
+
+// Whether a part has more than zeros behind its first n bytes.
+fn some_behind(part: &[u8], n: usize) -> bool
+    ensures { λ r. ⌜ r ≡ someBehind n (now (part .entry)) ⌝ }
+{
+    if part.len() <= n {
+        return false;
+    }
+    slices::some_at_least(&part[n..], 1)
 }
 
 // 17 of streams behind the last one that the header knows: their bits, identifiers and statuses are zeros.
@@ -82,13 +106,13 @@ fn behind_refusal(streams: u8, bytes: &[u8]) -> u8
         return 17;
     }
     let known = streams as usize;
-    if setting_widths::some_behind(&bytes[TS_ID..ORIGINAL_NETWORK_ID], 2 * known) {
+    if some_behind(&bytes[TS_ID..ORIGINAL_NETWORK_ID], 2 * known) {
         return 17;
     }
-    if setting_widths::some_behind(&bytes[ORIGINAL_NETWORK_ID..RECEIVE_STATUS], 2 * known) {
+    if some_behind(&bytes[ORIGINAL_NETWORK_ID..RECEIVE_STATUS], 2 * known) {
         return 17;
     }
-    if setting_widths::some_behind(&bytes[RECEIVE_STATUS..EMERGENCY], known) {
+    if some_behind(&bytes[RECEIVE_STATUS..EMERGENCY], known) {
         return 17;
     }
     0
@@ -111,7 +135,7 @@ fn absent_refusal(kind: Kind, rest: &[u8]) -> u8
     ensures { λ r. ⌜ r ≡ firstOf (absentIn kind (now (rest .entry))) ⌝ }
 {
     let size = setting::size_of(kind);
-    if setting_widths::some_behind(&rest[0..PRIVATE_BYTES], size.private_bytes as usize) {
+    if some_behind(&rest[0..PRIVATE_BYTES], size.private_bytes as usize) {
         return 17;
     }
     match kind {
@@ -142,7 +166,7 @@ pub fn width_refusal(kind: Kind, bytes: &[u8]) -> u8
     if slices::some_at_least(&bytes[NUMBERS..PRIVATE], size.streams + 1) {
         return 17;
     }
-    if setting_widths::some_behind(&bytes[NUMBERS..PRIVATE], size.slots as usize) {
+    if some_behind(&bytes[NUMBERS..PRIVATE], size.slots as usize) {
         return 17;
     }
     absent_refusal(kind, &bytes[PRIVATE..SETTING_BYTES])

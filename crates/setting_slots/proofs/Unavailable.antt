@@ -18,7 +18,7 @@ use Rattle.counters.proofs.Within.{past, between}
 -- ---- a number's bit
 
 -- the bits of the streams, and a one above them, which is that of 0
-abbrev pub allowed : ℕ → ℕ
+abbrev allowed : ℕ → ℕ
 allowed availability = 2 ^ lastStream + availability % 2 ^ lastStream
 
 -- a bit above the k lowest is one of the low bits
@@ -35,15 +35,18 @@ module _ (availability : ℕ) where
   lows : availability % 2 ^ lastStream < 2 ^ lastStream
   lows = mod-lt availability (pow-pos lastStream)
 
-  pub its-bit : (n : ℕ) → n ≤ lastStream → eqb (allowed availability / 2 ^ (lastStream - n) % 2) 0 ≡ unavailable availability n
+  in-allowed : (n : ℕ) → n ≤ lastStream → eqb (allowed availability / 2 ^ (lastStream - n) % 2) 0 ≡ unavailable availability n
   unfolding available
-  its-bit zero h = ap (λ (b : ℕ). eqb (b % 2) 0) (high 1 lastStream lows)
-  its-bit (suc m) h =
+  in-allowed zero h = ap (λ (b : ℕ). eqb (b % 2) 0) (high 1 lastStream lows)
+  in-allowed (suc m) h =
       let k = lastStream - suc m in
       let e : m + 1 + k ≡ lastStream = omega arith in
       let same : allowed availability / 2 ^ k % 2 ≡ availability / 2 ^ k % 2
       = low-bit (allowed availability) m k e ∙ ap (λ (x : ℕ). x / 2 ^ k % 2) (low 1 lastStream lows) ∙ sym (low-bit availability m k e) in
       rw (same, ne-eqb (suc m) 0 (λ z. omega arith), between firstStream lastStream (suc m) (omega arith) h) (bit (availability / 2 ^ k % 2) (mod-lt (availability / 2 ^ k) (lit< tt)))
+
+  pub its-bit : {a : ℕ} → a ≡ allowed availability → (n : ℕ) → n ≤ lastStream → eqb (a / 2 ^ (lastStream - n) % 2) 0 ≡ unavailable availability n
+  its-bit e n h = ap (λ (a : ℕ). eqb (a / 2 ^ (lastStream - n) % 2) 0) e ∙ in-allowed n h
 
 -- ---- all slots
 

@@ -1,7 +1,7 @@
 -- Laws of `anyBelow`: what a loop that tests every index needs. Assumes nothing.
 use Prim.Native.Nat.{ℕ, zero, suc, _+_, _<_}
 use mathlib.Core.Path.{_≡_, refl, sym, ap, _∙_}
-use mathlib.Core.Bool.{Bool, true, false, _&&_, _||_, or-true, or-false, true-or, true≢false, false≢true}
+use mathlib.Core.Bool.{Bool, true, false, _&&_, _||_, or-true, or-false, or-assoc, true-or, true≢false, false≢true}
 use native.Mathlib.Numerals.{add-one}
 use native.Mathlib.Decide.{ℕ-discrete}
 use native.Mathlib.Omega.{arith}
@@ -17,16 +17,10 @@ module _ (test : ℕ → Bool) where
   unfolding anyBelow
   any-more n a t = rw (add-one, a, t)
 
-  -- of a loop that does not stop: with a number that passes it one is found, with one that fails it nothing changes
+  -- of a loop that does not stop: one was found before, or here
   pub any-next : (n : ℕ) → anyBelow (n + 1) test ≡ anyBelow n test || test n
   unfolding anyBelow
   any-next n = rw add-one refl
-
-  pub any-here : (n : ℕ) {found : Bool} → test n ≡ true → found ≡ true → anyBelow (n + 1) test ≡ found
-  any-here n t f = any-next n ∙ ap (λ (b : Bool). anyBelow n test || b) t ∙ or-true (anyBelow n test) ∙ sym f
-
-  pub any-same : (n : ℕ) {found found′ : Bool} → anyBelow n test ≡ found → test n ≡ false → found′ ≡ found → anyBelow (n + 1) test ≡ found′
-  any-same n e t f = any-next n ∙ ap (λ (b : Bool). anyBelow n test || b) t ∙ or-false (anyBelow n test) ∙ e ∙ sym f
 
   -- every number fails it
   pub any-no : (n : ℕ) → ((i : ℕ) → i < n → test i ≡ false) → anyBelow n test ≡ false
@@ -51,6 +45,12 @@ module _ (test : ℕ → Bool) where
       fails : (b : Bool) → test i ≡ b → b ≡ false
       fails false e = refl
       fails true e = absurd (true≢false (sym (any-found n i h e) ∙ a))
+
+-- the test holds of the first number, or of one behind it
+pub any-first : (n : ℕ) (test : ℕ → Bool) → anyBelow (suc n) test ≡ test 0 || anyBelow n (λ i. test (suc i))
+unfolding anyBelow
+any-first zero test = sym (or-false (test 0))
+any-first (suc n) test = ap (λ (b : Bool). b || test (suc n)) (any-first n test) ∙ or-assoc (test 0) (anyBelow n (λ i. test (suc i))) (test (suc n))
 
 -- of two tests that hold together each holds
 pub both : (a b : Bool) → a && b ≡ true → (a ≡ true) × (b ≡ true)

@@ -6,6 +6,7 @@ use Rattle.unique.specs.Outcomes.{Outcome, Allows, OneOutcome}
 use Rattle.bits.proofs.wide as bitsWide
 use Rattle.bits.proofs.word as bitsWord
 use Rattle.bits.proofs.long as bitsLong
+use Rattle.bits.proofs.pack_halves as bitsPackHalves
 use Rattle.slices.proofs.copy as slicesCopy
 use Rattle.slices.proofs.fill as slicesFill
 use Rattle.slices.proofs.some_at_least as slicesSomeAtLeast
@@ -22,9 +23,8 @@ use Rattle.setting.proofs.Setting.blank as settingSettingBlank
 use Rattle.setting.proofs.pid_allowed as settingPidAllowed
 use Rattle.setting.proofs.announce as settingAnnounce
 use Rattle.setting.proofs.size_of as settingSizeOf
-use Rattle.setting_widths.proofs.information_refusal as settingWidthsInformationRefusal
-use Rattle.setting_widths.proofs.some_behind as settingWidthsSomeBehind
 use Rattle.setting_slots.proofs.has_unavailable as settingSlotsHasUnavailable
+use Rattle.setting_slots.proofs.has_unavailable_half as settingSlotsHasUnavailableHalf
 use Rattle.setting_pairs.proofs.has_pair_twice as settingPairsHasPairTwice
 use Rattle.setting_rules.proofs.bonding_refusal as settingRulesBondingRefusal
 use Rattle.setting_rules.proofs.frame_type_allowed as settingRulesFrameTypeAllowed
@@ -74,6 +74,7 @@ pub record Functions : Type 0 where
   pub bits-wide : OneOutcome bitsWide.ended bitsWide.Reads.Learnt
   pub bits-word : OneOutcome bitsWord.ended bitsWord.Reads.Learnt
   pub bits-long : OneOutcome bitsLong.ended bitsLong.Reads.Learnt
+  pub bits-pack-halves : OneOutcome bitsPackHalves.ended bitsPackHalves.Reads.Learnt
   pub slices-copy : OneOutcome slicesCopy.ended slicesCopy.Reads.Learnt
   pub slices-fill : OneOutcome slicesFill.ended slicesFill.Reads.Learnt
   pub slices-some-at-least : OneOutcome slicesSomeAtLeast.ended slicesSomeAtLeast.Reads.Learnt
@@ -91,9 +92,8 @@ pub record Functions : Type 0 where
   pub setting-pid-allowed : OneOutcome settingPidAllowed.ended settingPidAllowed.Reads.Learnt
   pub setting-announce : OneOutcome settingAnnounce.ended settingAnnounce.Reads.Learnt
   pub setting-size-of : OneOutcome settingSizeOf.ended settingSizeOf.Reads.Learnt
-  pub setting-widths-information-refusal : OneOutcome settingWidthsInformationRefusal.ended settingWidthsInformationRefusal.Reads.Learnt
-  pub setting-widths-some-behind : OneOutcome settingWidthsSomeBehind.ended settingWidthsSomeBehind.Reads.Learnt
   pub setting-slots-has-unavailable : OneOutcome settingSlotsHasUnavailable.ended settingSlotsHasUnavailable.Reads.Learnt
+  pub setting-slots-has-unavailable-half : OneOutcome settingSlotsHasUnavailableHalf.ended settingSlotsHasUnavailableHalf.Reads.Learnt
   pub setting-pairs-has-pair-twice : OneOutcome settingPairsHasPairTwice.ended settingPairsHasPairTwice.Reads.Learnt
   pub setting-rules-bonding-refusal : OneOutcome settingRulesBondingRefusal.ended settingRulesBondingRefusal.Reads.Learnt
   pub setting-rules-frame-type-allowed : OneOutcome settingRulesFrameTypeAllowed.ended settingRulesFrameTypeAllowed.Reads.Learnt

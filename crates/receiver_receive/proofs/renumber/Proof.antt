@@ -2,11 +2,11 @@
 use Prim.Native.Nat.{ℕ}
 use mathlib.Core.Path.{_≡_, refl, sym, ap, subst, _∙_}
 use mathlib.Core.List.{List, _++_}
-use native.Mathlib.Omega.{arith}
 use borrow.Author.Needs.{needs}
 use borrow.Author.Tests.{eq-eqb}
 use lib.ListN.{length, take}
-use Rattle.bits.specs.Fields.{run}
+use Rattle.bits.specs.Halves.{halvesInto}
+use Rattle.bits.proofs.Halves.{halves-packed}
 use Rattle.setting.specs.declared.Kind.{Kind}
 use Rattle.setting.proofs.Sizes.{length-resized}
 use Rattle.counters.specs.Counters.{lastSlot}
@@ -15,7 +15,7 @@ use Rattle.packet.specs.Packets.{packetLength}
 use Rattle.header_check.specs.Checking.{numbersInto}
 use Rattle.receiver.specs.Packed.{packedLength, packed}
 use Rattle.receiver.proofs.Packing.{Long, plain, extended}
-use Rattle.receiver_receive.proofs.Joined.{long-own, packed-own}
+use Rattle.receiver_receive.proofs.Joined.{long-own}
 use Rattle.receiver_receive.proofs.renumber.Statement.{statement}
 use Rattle.receiver_receive.proofs.renumber.Tie as tie
 
@@ -58,14 +58,14 @@ slice-aggregate-read-numbers c = search needs
 read-numbers-requires : tie.Need-read-numbers-requires
 read-numbers-requires c κs = search needs
 
-slice-aggregate-pack : tie.Need-slice-aggregate-pack
-slice-aggregate-pack c = search needs
+slice-aggregate-pack-halves : tie.Need-slice-aggregate-pack-halves
+slice-aggregate-pack-halves c = search needs
 
-slice-aggregate-pack-2 : tie.Need-slice-aggregate-pack-2
-slice-aggregate-pack-2 c = search needs
+slice-aggregate-pack-halves-2 : tie.Need-slice-aggregate-pack-halves-2
+slice-aggregate-pack-halves-2 c = search needs
 
-pack-requires : tie.Need-pack-requires
-pack-requires c κs = search needs
+pack-halves-requires : tie.Need-pack-halves-requires
+pack-halves-requires c κs = search needs
 
 slice-aggregate-renew : tie.Need-slice-aggregate-renew
 slice-aggregate-renew c = search needs
@@ -101,7 +101,7 @@ same-length-3 : tie.Need-same-length-3
 same-length-3 c = search needs
 
 returns-3 : tie.Need-returns-3
-unfolding numbersInto reading
+unfolding numbersInto reading packed
 returns-3 c =
     let renew = c .before .before in
     let pack = renew .before .before .before .before in
@@ -112,7 +112,7 @@ returns-3 c =
     let said : read .read-numbers .last .0 ≡ reading Kind.Short p .«relative_ts_number» = read .read-numbers .ensures ∙ rw (eq-eqb (length p) packetLength (s .pre .1)) refl in
     renew .renew3 .ensures .0
     ∙ ap (λ (own : List ℕ). own ++ take packedLength (s .args .numbers .now))
-    (packed-own _ _ (length-resized lastSlot _) (renew .renew3 .ensures .1) (pack .pack .ensures ∙ ap (run 4) said))
+    (pack .pack-halves .ensures ∙ ap (halvesInto _) said ∙ halves-packed _ _ (length-resized lastSlot _))
     ∙ sym (ap (λ (k : Kind). packed (reading k p .«relative_ts_number») ++ take packedLength (s .args .numbers .now)) (told .enum-told3 .given .1))
 
 pub renumber-spec : {M : Type 1} → statement M
@@ -132,9 +132,9 @@ renumber-spec =
     enum-told-3
     slice-aggregate-read-numbers
     read-numbers-requires
-    slice-aggregate-pack
-    slice-aggregate-pack-2
-    pack-requires
+    slice-aggregate-pack-halves
+    slice-aggregate-pack-halves-2
+    pack-halves-requires
     slice-aggregate-renew
     renew-requires-3
     same-length

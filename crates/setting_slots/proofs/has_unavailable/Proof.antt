@@ -1,13 +1,12 @@
 -- `has_unavailable` meets its contract: it has found what is among the slots before slot i. Assumes nothing.
 use Prim.Native.Nat.{_-_, _≤_}
-use mathlib.Core.Path.{_≡_, sym, _∙_}
-use mathlib.Core.Logic.{⊎-elim}
+use mathlib.Core.Path.{_≡_, sym, ap₂, _∙_}
+use mathlib.Core.Bool.{_||_}
 use native.Mathlib.Omega.{arith}
 use borrow.Author.Needs.{needs}
-use borrow.Author.Tests.{eq-eqb, ne-eqb}
 use lib.ListN.{length, getD}
 use Rattle.slices.specs.Slices.{anyBelow}
-use Rattle.slices.proofs.Any.{any-none, any-here, any-same}
+use Rattle.slices.proofs.Any.{any-none, any-next}
 use Rattle.counters.specs.Counters.{lastStream}
 use Rattle.setting.specs.Rules.{unavailable, someUnavailable}
 use Rattle.setting_slots.proofs.Unavailable.{its-bit, beyond, at-most-last}
@@ -22,9 +21,9 @@ abbrev μ-loop : tie.MeasureT-loop
 μ-loop availability numbers allowed found₀ i₀ found i = length numbers - i
 
 -- the slot's number is at most the last
-number : (c : tie.After-shared-slice-known2 Inv-loop μ-loop) → getD (c .before .before .before .before .before .before .args .numbers .now) (c .before .before .loop .i) 0 ≤ lastStream
+number : (c : tie.After-shared-slice-known2 Inv-loop μ-loop) → getD (c .before .before .before .before .before .before .before .args .numbers .now) (c .before .before .loop .i) 0 ≤ lastStream
 number c =
-    at-most-last _ (sym (c .before .before .before .before .some-at-least .ensures) ∙ c .before .before .before .if1 .left) (c .before .before .loop .i) (omega arith)
+    at-most-last _ (sym (c .before .before .before .before .before .some-at-least .ensures) ∙ c .before .before .before .before .if1 .left) (c .before .before .loop .i) (omega arith)
 
 some-at-least-requires : tie.Need-some-at-least-requires Inv-loop μ-loop
 some-at-least-requires c κs = search needs
@@ -34,26 +33,17 @@ returns c =
     let args = c .before .before .before .args in
     sym (beyond (args .numbers .now) (args .availability) (sym (c .before .some-at-least .ensures) ∙ c .if1 .taken))
 
-add-allowed : tie.Need-add-allowed Inv-loop μ-loop
-add-allowed c = search needs
+allowed-by-requires : tie.Need-allowed-by-requires Inv-loop μ-loop
+allowed-by-requires c κs = search needs
 
 loop-holds : tie.Need-loop-holds Inv-loop μ-loop
 loop-holds c = (omega arith, any-none _)
 
-shared-slice-read-if2 : tie.Need-shared-slice-read-if2 Inv-loop μ-loop
-shared-slice-read-if2 c = search needs
+shared-slice-read-is-barred : tie.Need-shared-slice-read-is-barred Inv-loop μ-loop
+shared-slice-read-is-barred c = search needs
 
-sub-if2 : tie.Need-sub-if2 Inv-loop μ-loop
-sub-if2 c = number c
-
-cast-if2 : tie.Need-cast-if2 Inv-loop μ-loop
-cast-if2 c = search needs
-
-cast-if2-2 : tie.Need-cast-if2-2 Inv-loop μ-loop
-cast-if2-2 c = search needs
-
-shr-if2 : tie.Need-shr-if2 Inv-loop μ-loop
-shr-if2 c = search needs
+is-barred-requires : tie.Need-is-barred-requires Inv-loop μ-loop
+is-barred-requires c κs = number c
 
 add-i : tie.Need-add-i Inv-loop μ-loop
 add-i c = search needs
@@ -63,20 +53,16 @@ loop-less c = search needs
 
 loop-again : tie.Need-loop-again Inv-loop μ-loop
 loop-again c =
-    let args = c .before .before .before .before .before .before .before .args in
+    let behind = c .before .before .before .before in
+    let args = behind .before .before .before .before .args in
     let turn = c .before .before .before .loop in
-    let bit = its-bit (args .availability) (getD (args .numbers .now) (turn .i) 0) (number (c .before)) in (
-      omega arith,
-      ⊎-elim
-          (λ w. any-here _ (turn .i) (sym bit ∙ eq-eqb _ _ (w .0 .taken)) (w .1))
-          (λ w. any-same _ (turn .i) (turn .inv .1) (sym bit ∙ ne-eqb _ _ (w .0 .left)) (w .1))
-          (c .if2 .came),
-    )
+    let bit = its-bit (args .availability) (behind .allowed-by .ensures) (getD (args .numbers .now) (turn .i) 0) (number (c .before)) in
+    (omega arith, any-next _ (turn .i) ∙ ap₂ _||_ (turn .inv .1) (sym (c .is-barred .ensures ∙ bit)))
 
 returns-2 : tie.Need-returns-2 Inv-loop μ-loop
 unfolding someUnavailable
 returns-2 c =
-    let all : c .before .loop .i ≡ length (c .before .before .before .before .before .args .numbers .now) = omega arith in
+    let all : c .before .loop .i ≡ length (c .before .before .before .before .before .before .args .numbers .now) = omega arith in
     sym (rw all at (c .before .loop .inv .1))
 
 pub has-unavailable-spec : {M : Type 1} → statement M
@@ -87,13 +73,10 @@ has-unavailable-spec =
     μ-loop
     some-at-least-requires
     returns
-    add-allowed
+    allowed-by-requires
     loop-holds
-    shared-slice-read-if2
-    sub-if2
-    cast-if2
-    cast-if2-2
-    shr-if2
+    shared-slice-read-is-barred
+    is-barred-requires
     add-i
     loop-less
     loop-again

@@ -4,7 +4,7 @@ use mathlib.Core.Path.{_≡_, refl, sym, ap, ap₂, _∙_}
 use mathlib.Core.Bool.{true, false, not, true≢false}
 use mathlib.Core.List.{List}
 use native.Mathlib.Omega.{arith}
-use borrow.Author.Tests.{ne-eqb}
+use borrow.Author.Tests.{eq-eqb, ne-eqb}
 use lib.Count.{ones}
 use lib.Dec.{eqb}
 use lib.ListN.{length, take, drop}
@@ -24,7 +24,7 @@ use Rattle.bits.proofs.Laws.{fit-of}
 use Rattle.slices.proofs.Front.{drop-take}
 use Rattle.header_layout.specs.Header.{headerLength, reading}
 use Rattle.header_check.specs.declared.Checked.{Checked}
-use Rattle.header_check.specs.Checking.{partsOf}
+use Rattle.header_check.specs.Checking.{partsOf, numbersInto}
 use Rattle.header_check.proofs.Identifiers.{ts-ids-in, network-ids-in}
 use Rattle.bond_places.specs.Order.{framePackets}
 use Rattle.bond_group.specs.declared.Bond.{Bond}
@@ -35,11 +35,10 @@ use borrow.Author.Needs.{needs}
 use Rattle.bond_group.proofs.headers.bonded_by.Statement.{statement}
 use Rattle.bond_group.proofs.headers.bonded_by.Tie as tie
 
--- the parts are those of the setting that the packet says
-marked : (b : Bond) (h : Checked) (s : Setting) {n : ℕ} → h ≡ partsOf 0 s → n ≡ numberOf b s → slotsAsBits (passing (hasNumber (h .«relative_ts_number») n) firstSlot lastSlot) ≡ marks b s
-unfolding marks bondedSlot partsOf
-marked b h s same number =
-    ap₂ (λ (ns : List ℕ) (n : ℕ). slotsAsBits (passing (hasNumber ns n) firstSlot lastSlot)) (ap (λ (x : Checked). x .«relative_ts_number») same) number
+-- the numbers and the stream's are those of the setting that the packet says
+marked : (b : Bond) (s : Setting) {ns : List ℕ} {n : ℕ} → ns ≡ s .«relative_ts_number» → n ≡ numberOf b s → slotsAsBits (passing (hasNumber ns n) firstSlot lastSlot) ≡ marks b s
+unfolding marks bondedSlot
+marked b s same number = ap₂ (λ (ns : List ℕ) (n : ℕ). slotsAsBits (passing (hasNumber ns n) firstSlot lastSlot)) same number
 
 -- the identifiers stand where an extended header has them
 module _ (p : List ℕ) (f : Fit 8 p) (h : length p ≡ headerLength) where
@@ -124,16 +123,22 @@ returns c =
     let told = c .before .before in
     let number = told .before in
     let start = number .before .before .before .before in
-    let h = start .args .heard in
+    let s = reading Kind.Extended (start .args .packet .now) in
     let outside = relative-outside firstStream lastStream _ (sym (c .enum-told .given .1) ∙ told .new .ensures) in
     let few : ones 0 ≤ framePackets = omega (arith, no-ones) in
     let zero-is = sym (none _ (number .number-of .ensures .1) (outside .0)) ∙ numbered number in (
       (
         ap (λ (n : ℕ). not (eqb n 0)) zero-is,
-        sym (no-marks (h .«relative_ts_number»)) ∙ marked (start .args .b) h (reading Kind.Extended (start .args .packet .now)) (start .pre .1) zero-is,
+        sym (no-marks (s .«relative_ts_number»)) ∙ marked (start .args .b) s refl zero-is,
       ),
       few,
     )
+
+slice-aggregate-read-numbers : tie.Need-slice-aggregate-read-numbers
+slice-aggregate-read-numbers c = search needs
+
+read-numbers-requires : tie.Need-read-numbers-requires
+read-numbers-requires c κs = search needs
 
 slice-aggregate-marks-of : tie.Need-slice-aggregate-marks-of
 slice-aggregate-marks-of c = search needs
@@ -142,16 +147,19 @@ marks-of-requires : tie.Need-marks-of-requires
 marks-of-requires c κs = search needs
 
 returns-2 : tie.Need-returns-2
-unfolding carries
+unfolding carries numbersInto
 returns-2 c =
-    let bound = c .before .before .before .before in
+    let read = c .before .before .before in
+    let bound = read .before .before .before in
     let told = bound .before .before in
     let number = told .before in
     let start = number .before .before .before .before in
+    let p = start .args .packet .now in
+    let numbers : read .read-numbers .last .0 ≡ reading Kind.Extended p .«relative_ts_number» = rw (eq-eqb (length p) headerLength (start .pre .0)) at (read .read-numbers .ensures) in
     let inside = relative-inside firstStream lastStream _ (sym (bound .r .given .1) ∙ told .new .ensures) in (
       (
         sym (some (number .number-of .result) (inside .0)) ∙ ap (λ (n : ℕ). not (eqb n 0)) (numbered number),
-        c .marks-of .ensures ∙ marked (start .args .b) (start .args .heard) (reading Kind.Extended (start .args .packet .now)) (start .pre .1) (inside .1 ∙ numbered number),
+        c .marks-of .ensures ∙ marked (start .args .b) (reading Kind.Extended p) numbers (inside .1 ∙ numbered number),
       ),
       rw (c .marks-of .ensures, marks-ones _ refl) (picked-few _ 0 framePackets),
     )
@@ -172,6 +180,8 @@ bonded-by-spec =
     enum-known-r
     enum-told
     returns
+    slice-aggregate-read-numbers
+    read-numbers-requires
     slice-aggregate-marks-of
     marks-of-requires
     returns-2)

@@ -1,6 +1,6 @@
 -- `read_numbers` meets its contract, by the kind. Assumes nothing.
-use Prim.Native.Nat.{ℕ, _*_}
-use mathlib.Core.Path.{_≡_, refl, sym, ap, _∙_}
+use Prim.Native.Nat.{ℕ}
+use mathlib.Core.Path.{_≡_, sym, ap, _∙_}
 use mathlib.Core.List.{List}
 use native.Mathlib.Omega.{arith}
 use borrow.Author.Needs.{needs}
@@ -10,44 +10,25 @@ use Rattle.bits.proofs.Laws.{fit-of}
 use Rattle.slices.proofs.Front.{put}
 use Rattle.setting.specs.declared.Kind.{Kind}
 use Rattle.header_layout.specs.Header.{reading}
-use Rattle.header_layout.proofs.Cut.{length-part}
-use Rattle.header_check.proofs.Asked.{plain-numbers, extended-numbers, short-numbers}
+use Rattle.header_check.proofs.Asked.{short-numbers}
 use Rattle.header_check.proofs.parts.read_numbers.Statement.{statement}
 use Rattle.header_check.proofs.parts.read_numbers.Tie as tie
 
 enum-told : tie.Need-enum-told
 enum-told c = search needs
 
-sub-read-halves : tie.Need-sub-read-halves
-sub-read-halves c = search needs
-
-part-read-halves-start : tie.Need-part-read-halves-start
-part-read-halves-start c = search needs
-
-part-read-halves-end : tie.Need-part-read-halves-end
-part-read-halves-end c = search needs
-
-read-halves-requires : tie.Need-read-halves-requires
-read-halves-requires c κs =
-    let start = c .before .before .before .before .before .before in
-    rw (length-part (start .args .packet .now) 73 26 (omega (arith, start .pre .1))) (ap length (start .pre .0))
+read-long-requires : tie.Need-read-long-requires
+read-long-requires c κs =
+    let start = c .before .before .before .before .before in
+    (ap length (start .pre .0), start .pre .1)
 
 enum-told-2 : tie.Need-enum-told-2
 enum-told-2 c = search needs
 
-sub-read-halves-2 : tie.Need-sub-read-halves-2
-sub-read-halves-2 c = search needs
-
-part-read-halves-start-2 : tie.Need-part-read-halves-start-2
-part-read-halves-start-2 c = search needs
-
-part-read-halves-end-2 : tie.Need-part-read-halves-end-2
-part-read-halves-end-2 c = search needs
-
-read-halves-requires-2 : tie.Need-read-halves-requires-2
-read-halves-requires-2 c κs =
-    let start = c .before .before .before .before .before .before in
-    rw (length-part (start .args .packet .now) 73 26 (omega (arith, start .pre .1))) (ap length (start .pre .0))
+read-long-requires-2 : tie.Need-read-long-requires-2
+read-long-requires-2 c κs =
+    let start = c .before .before .before .before .before in
+    (ap length (start .pre .0), start .pre .1)
 
 enum-told-3 : tie.Need-enum-told-3
 enum-told-3 c = search needs
@@ -78,24 +59,16 @@ same-length c = search needs
 
 returns : tie.Need-returns
 returns c =
-    let start = c .before .before .before .before .before .before .before .before .before in
-    let p = start .args .packet .now in
-    let bytes = fit-of 8 p (λ i. c .before .before .before .before .before .before .before .shared-slice-known .given i .fits) in
-    c .before .before .read-halves .ensures
-    ∙ ap (λ (n : ℕ). cut 4 n (run 8 (take 26 (drop 73 p)))) (ap length (start .pre .0)) ∙ plain-numbers p bytes (start .pre .1)
-    ∙ sym (ap (λ (k : Kind). reading k p .«relative_ts_number») (c .before .before .before .before .before .enum-told .given .1))
+    let p = c .before .before .before .before .before .before .before .before .args .packet .now in
+    c .before .before .read-long .ensures .0 ∙ sym (ap (λ (k : Kind). reading k p .«relative_ts_number») (c .before .before .before .before .enum-told .given .1))
 
 same-length-2 : tie.Need-same-length-2
 same-length-2 c = search needs
 
 returns-2 : tie.Need-returns-2
 returns-2 c =
-    let start = c .before .before .before .before .before .before .before .before .before in
-    let p = start .args .packet .now in
-    let bytes = fit-of 8 p (λ i. c .before .before .before .before .before .before .before .shared-slice-known .given i .fits) in
-    c .before .before .read-halves2 .ensures
-    ∙ ap (λ (n : ℕ). cut 4 n (run 8 (take 26 (drop 73 p)))) (ap length (start .pre .0)) ∙ extended-numbers p bytes (start .pre .1)
-    ∙ sym (ap (λ (k : Kind). reading k p .«relative_ts_number») (c .before .before .before .before .before .enum-told2 .given .1))
+    let p = c .before .before .before .before .before .before .before .before .args .packet .now in
+    c .before .before .read-long2 .ensures .1 ∙ sym (ap (λ (k : Kind). reading k p .«relative_ts_number») (c .before .before .before .before .enum-told2 .given .1))
 
 same-length-3 : tie.Need-same-length-3
 same-length-3 c = search needs
@@ -115,15 +88,9 @@ read-numbers-spec =
     tie.close
     (tie.spec
     enum-told
-    sub-read-halves
-    part-read-halves-start
-    part-read-halves-end
-    read-halves-requires
+    read-long-requires
     enum-told-2
-    sub-read-halves-2
-    part-read-halves-start-2
-    part-read-halves-end-2
-    read-halves-requires-2
+    read-long-requires-2
     enum-told-3
     sub-read-run
     part-read-run-start

@@ -1,6 +1,6 @@
 -- `said_by` meets its contract, check by check. Assumes nothing.
 use Prim.Native.Nat.{ℕ}
-use mathlib.Core.Path.{_≡_, refl, sym, ap, ap₂, _∙_}
+use mathlib.Core.Path.{_≡_, refl, sym, ap, _∙_}
 use mathlib.Core.Bool.{not}
 use mathlib.Core.List.{List}
 use native.Mathlib.Omega.{arith}
@@ -35,7 +35,7 @@ bytes c = fit-of 8 (packet c) (λ i. c .before .before .shared-slice-known .give
 
 -- from each place to the first check
 abbrev from₂ : tie.After-has-unavailable → tie.After-frame-type-allowed
-from₂ c = c .before .before .before .before .before .before .before
+from₂ c = c .before .before .before
 
 abbrev from₃ : tie.After-has-pair-twice → tie.After-frame-type-allowed
 from₃ c = from₂ (c .before .before)
@@ -46,14 +46,13 @@ allowed c = c .frame-type-allowed .ensures ∙ ap (typeAllowed (kind c)) (type-i
 
 unavailable : (c : tie.After-has-unavailable) → c .has-unavailable .result ≡ someUnavailable (said (from₂ c) .availability) (said (from₂ c) .«relative_ts_number»)
 unavailable c =
-    let read = c .before .before .before in
-    c .has-unavailable .ensures ∙ ap₂ someUnavailable (read .before .before .availability-of .ensures) (read .read-numbers .ensures)
+    c .has-unavailable .ensures ∙ ap (λ (n : ℕ). someUnavailable n (said (from₂ c) .«relative_ts_number»)) (c .before .availability-of .ensures)
 
 twice : (c : tie.After-has-pair-twice)
     → c .has-pair-twice .result ≡ pairTwice (said (from₃ c) .availability) (said (from₃ c) .«ts_id») (said (from₃ c) .«original_network_id»)
 twice c =
     let t = from₃ c in
-    let streams = c .before .before .before .before .before .before .before .availability-of .ensures in
+    let streams = c .before .before .before .availability-of .ensures in
     c .has-pair-twice .ensures ∙ ap (λ (n : ℕ). pairTwice n (said t .«ts_id») (said t .«original_network_id»)) streams
 
 -- the bonding fields are those that the packet says
@@ -71,7 +70,7 @@ past-1 c = passed _ _ (ap not (sym (allowed (c .before))) ∙ c .if1 .left)
 
 past-2 : (c : tie.Else2) → Past 2 (rows (from₂ (c .before)))
 unfolding ruleChecks
-past-2 c = past-1 (c .before .before .before .before .before .before .before) ∙ passed _ _ (sym (unavailable (c .before)) ∙ c .if2 .left)
+past-2 c = past-1 (c .before .before .before) ∙ passed _ _ (sym (unavailable (c .before)) ∙ c .if2 .left)
 
 past-3 : (c : tie.Else3) → Past 3 (rows (from₃ (c .before)))
 unfolding ruleChecks
@@ -100,15 +99,6 @@ returns c =
 availability-of-requires : tie.Need-availability-of-requires
 availability-of-requires c κs = search needs
 
-slice-aggregate-read-numbers : tie.Need-slice-aggregate-read-numbers
-slice-aggregate-read-numbers c = search needs
-
-read-numbers-requires : tie.Need-read-numbers-requires
-read-numbers-requires c κs = search needs
-
-slice-aggregate-has-unavailable : tie.Need-slice-aggregate-has-unavailable
-slice-aggregate-has-unavailable c = search needs
-
 has-unavailable-requires : tie.Need-has-unavailable-requires
 has-unavailable-requires c κs = search needs
 
@@ -121,7 +111,7 @@ returns-2 c =
     let u = c .before .before in
     let t = from₂ u in
     refused (kind t) (packet t)
-    (past-1 (u .before .before .before .before .before .before) ∙ answers 9 _ (sym (unavailable u) ∙ c .before .if2 .taken)) _ (omega arith) (c .refused2 .ensures)
+    (past-1 (u .before .before) ∙ answers 9 _ (sym (unavailable u) ∙ c .before .if2 .taken)) _ (omega arith) (c .refused2 .ensures)
 
 has-pair-twice-requires : tie.Need-has-pair-twice-requires
 has-pair-twice-requires c κs = search needs
@@ -152,22 +142,20 @@ returns-4 c =
     let t = from₃ (u .before .before .before) in
     refused (kind t) (packet t) (bonded u) _ (c .before .if4 .taken) (c .refused4 .ensures)
 
-shared-slice-read-t9 : tie.Need-shared-slice-read-t9
-shared-slice-read-t9 c = search needs
+shared-slice-read-t8 : tie.Need-shared-slice-read-t8
+shared-slice-read-t8 c = search needs
 
 returns-5 : tie.Need-returns-5
 returns-5 c =
     let u = c .before .before in
     let b = u .before .bonding-of .ensures in
     let pair = u .before .before .before in
-    let read = pair .before .before .before .before .before in
     let t = from₃ pair in
     let long = t .before .before .before .pre in
     accepted (kind t) (packet t) (bonded u) _ (c .before .if4 .left) refl
     (record {
       counter = counter-is (kind t) (packet t) (bytes t) long;
-      streams = read .before .before .availability-of .ensures;
-      numbers = read .read-numbers .ensures;
+      streams = pair .before .before .before .availability-of .ensures;
       group = b .0;
       carriers = b .1 .0;
       sequence = b .1 .1 .0;
@@ -184,9 +172,6 @@ said-by-spec =
     refused-requires
     returns
     availability-of-requires
-    slice-aggregate-read-numbers
-    read-numbers-requires
-    slice-aggregate-has-unavailable
     has-unavailable-requires
     refused-requires-2
     returns-2
@@ -197,5 +182,5 @@ said-by-spec =
     bonding-refusal-requires
     refused-requires-4
     returns-4
-    shared-slice-read-t9
+    shared-slice-read-t8
     returns-5)

@@ -1,72 +1,42 @@
--- `read_statuses` meets its contract. Assumes nothing.
-use Prim.Native.Nat.{ℕ, _-_, _*_, _≤_}
-use mathlib.Core.Path.{_≡_, refl, ap, _∙_}
-use native.Mathlib.Omega.{arith}
-use native.Mathlib.Nat.{sub-zero}
+-- `read_statuses` meets its contract, with the number written out and without. Assumes nothing.
+use Prim.Native.Nat.{ℕ}
+use mathlib.Core.Path.{_≡_, sym, ap, _∙_}
 use borrow.Author.Needs.{needs}
-use borrow.Author.Tests.{le-leb}
-use lib.ListN.{length, take}
-use lib.Seq.{length-take-le}
 use Rattle.bits.specs.Fields.{run, cut}
-use Rattle.bits.proofs.Laws.{length-cut}
 use Rattle.counters.specs.Counters.{lastStream}
 use Rattle.setting.specs.Size.{resized}
-use Rattle.header_check.specs.Cutting.{cutInto}
-use Rattle.header_read.proofs.Parts.{resized-part}
 use Rattle.header_read.proofs.reader.read_statuses.Statement.{statement}
 use Rattle.header_read.proofs.reader.read_statuses.Tie as tie
 
-sub-cut-run : tie.Need-sub-cut-run
-sub-cut-run c = search needs
-
-part-cut-run-start : tie.Need-part-cut-run-start
-part-cut-run-start c = search needs
-
-part-cut-run-end : tie.Need-part-cut-run-end
-part-cut-run-end c = search needs
-
-cut-run-requires : tie.Need-cut-run-requires
-cut-run-requires c κs = search needs
-
-sub-fill : tie.Need-sub-fill
-sub-fill c = search needs
-
-part-fill-start : tie.Need-part-fill-start
-part-fill-start c = search needs
-
-part-fill-end : tie.Need-part-fill-end
-part-fill-end c = search needs
-
-fill-requires : tie.Need-fill-requires
-fill-requires c κs = search needs
+cut-statuses-requires : tie.Need-cut-statuses-requires
+cut-statuses-requires c κs = search needs
 
 same-length : tie.Need-same-length
 same-length c = search needs
 
 returns : tie.Need-returns
-unfolding cutInto
 returns c =
-    let read = c .before .before .before .before .before .before in
-    let start = read .before .before .before .before in
-    let n = start .args .streams in
-    let own : length (take (n - 0) (start .args .part .now)) ≡ n = ap (λ (k : ℕ). length (take k (start .args .part .now))) (sub-zero n) ∙ length-take-le n (start .args .part .now) (omega (arith, start .pre)) in
-    let few : n ≤ 255 = omega (arith, start .pre) in
-    let cuts : read .cut-run .last .0 ≡ cut 2 n (run 8 (start .args .control .now)) =
-    read .cut-run .ensures ∙ rw (own, le-leb n 255 few, le-leb (n * 2) (length (start .args .control .now) * 8) (start .pre .2)) refl in
-    resized-part (start .args .part .now) (read .cut-run .last .0) (c .before .before .fill .last .0) n lastStream (start .pre .0) (ap length cuts ∙ length-cut 2 n (run 8 (start .args .control .now))) (start .pre .1) (c .before .before .fill .ensures)
-    ∙ ap (resized lastStream) cuts
+    let told = c .before .before .before .before in
+    let start = told .before .before .before in
+    c .before .before .cut-statuses .ensures
+    ∙ ap (λ (n : ℕ). resized lastStream (cut 2 n (run 8 (start .args .control .now)))) (sym (told .if1 .taken))
+
+cut-statuses-requires-2 : tie.Need-cut-statuses-requires-2
+cut-statuses-requires-2 c κs = search needs
+
+same-length-2 : tie.Need-same-length-2
+same-length-2 c = search needs
+
+returns-2 : tie.Need-returns-2
+returns-2 c = search needs
 
 pub read-statuses-spec : {M : Type 1} → statement M
 read-statuses-spec =
     tie.close
     (tie.spec
-    sub-cut-run
-    part-cut-run-start
-    part-cut-run-end
-    cut-run-requires
-    sub-fill
-    part-fill-start
-    part-fill-end
-    fill-requires
+    cut-statuses-requires
     same-length
-    returns)
+    returns
+    cut-statuses-requires-2
+    same-length-2
+    returns-2)

@@ -5,7 +5,7 @@ use mathlib.Core.List.{List}
 use native.Mathlib.Omega.{arith}
 use borrow.Author.Needs.{needs}
 use borrow.Rule.Slice.PartMut.{same-len-mid, mid-len}
-use lib.ListN.{length}
+use lib.ListN.{length, take, drop}
 use Rattle.bits.specs.Fields.{run}
 use Rattle.slices.proofs.Front.{put}
 use Rattle.counters.specs.Counters.{lastSlot, lastStream}
@@ -112,6 +112,18 @@ whole₅ c =
     let r = at (placed (started (streamed (identified (controlled c))))) in
     same-len-mid (r .numbers) (r .private - r .numbers) (after₄ (controlled c)) (c .write-numbers .last .0) (c .write-numbers .kept .0) ∙ whole₄ (controlled c)
 
+-- the control information has four streams a byte, the last of which is none
+control-room : (c : tie.After-write-identifiers) → let p = placed (started (streamed c)) in
+    size p .streams + 1 ≡ 4 * length (take (at p .numbers - at p .control) (drop (at p .control) (after₃ c)))
+control-room c =
+    let p = placed (started (streamed c)) in
+    let up = rising p in
+    let j = control-is p in
+    let k = numbers-is p in
+    let eights = sized (begun p .args .kind) .stream-bytes in
+    let bytes = mid-len (at p .control) (at p .numbers) (after₃ c) (omega (arith, whole₃ c)) in
+    omega (arith, bytes)
+
 -- the identifiers that start at a place are those of fifteen streams
 ids-long : (b : List ℕ) → length b ≡ settingLength → (from : ℕ) → from + 2 * lastStream ≤ settingLength → length (part from (2 * lastStream) b) ≡ 2 * lastStream
 ids-long b h from room = length-part from (2 * lastStream) b (omega arith)
@@ -208,10 +220,9 @@ write-control-requires : tie.Need-write-control-requires
 write-control-requires c κs =
     let s = c .before .before .before in
     let p = placed (started (streamed s)) in
-    let up = rising p in
-    let j = control-is p in
-    let k = numbers-is p in
-    (mid-len (at p .control) (at p .numbers) (after₃ s) (omega (arith, whole₃ s)) ∙ omega arith, begun p .pre .1)
+    let room = control-room s in
+    let few = sized (begun p .args .kind) .streams in
+    (omega (arith, room), omega (arith, room, few), begun p .pre .1)
 
 sub-write-numbers : tie.Need-sub-write-numbers
 sub-write-numbers c = search needs
@@ -292,7 +303,7 @@ returns c =
     (identifiers .write-identifiers .ensures
     ∙ (λ t. run 16 (paired (resized (streams-is p t) (settingIn bytes .«ts_id»)) (resized (streams-is p t) (settingIn bytes .«original_network_id»))))
     ∙ ap (λ (t : Setting). run 16 (paired (resized (sizeOf kind .streams) (t .«ts_id»)) (resized (sizeOf kind .streams) (t .«original_network_id»)))) said)
-    (control .write-control .ensures (s .args .pid))
+    (control .write-control .ensures (sizeOf kind) (s .args .pid) (control-room identifiers))
     (numbers .write-numbers .ensures ∙ ap (λ (t : Setting). run (sizeOf kind .«number_bits») (resized (sizeOf kind .slots) (t .«relative_ts_number»))) said)
     (private .write-private .ensures (s .args .pid))
 

@@ -1,29 +1,28 @@
 use Prim.Native.Nat.{ℕ, _≤_, _<_}
 use mathlib.Core.Path.{_≡_, sym, ap, _∙_}
-use mathlib.Core.Bool.{true, not}
+use mathlib.Core.Bool.{true, cond, not}
 use mathlib.Core.List.{List, _∷_, _++_}
+use native.Mathlib.Decide.{ℕ-discrete}
 use native.Mathlib.Omega.{arith}
 use borrow.Author.Needs.{needs}
 use borrow.Author.Tests.{eq-eqb, ne-eqb}
-use Rattle.counters.specs.Counters.{firstStream, lastStream, lastSlot, within}
+use lib.Dec.{eqb}
+use Rattle.counters.specs.Counters.{firstStream, lastStream, within}
 use Rattle.counters.proofs.Within.{past, between}
 use Rattle.counters.proofs.Numbers.{relative-inside, relative-outside}
 use Rattle.setting.specs.declared.Size.{Size}
 use Rattle.setting.specs.Size.{slotsOf, streamsOf}
-use Rattle.setting.specs.Refusal.{Check, firstOf}
+use Rattle.setting.specs.Refusal.{Check, firstOf, NoneHolds}
 use Rattle.setting.proofs.Sizes.{sized}
 use Rattle.setting.proofs.Refusals.{at-length, answers, passed, onward, at-once}
-use Rattle.setting_bytes.specs.Settings.{part}
 use Rattle.packet.specs.Packets.{frameLength}
-use Rattle.composer.specs.Slots.{emptyFor}
 use Rattle.composer.specs.Composing.{stateChecks, openChecks, streamChecks, putRefusal}
 use Rattle.composer.proofs.Refusals.{state-none, open-none}
-use Rattle.composer.specs.States.{composerOf, marksOf, filledAt, planAt}
+use Rattle.composer.specs.States.{composerOf}
 use Rattle.composer.proofs.There.{kind-there, frame-there}
-use Rattle.slot_bits.specs.Bits.{slotsAsBits}
 use Rattle.composer_put.proofs.Streams.{at-least, outside}
-use Rattle.composer_put.proofs.checks.put_refusal.Statement.{statement}
-use Rattle.composer_put.proofs.checks.put_refusal.Tie as tie
+use Rattle.composer_put.proofs.checks.frame_refusal.Statement.{statement}
+use Rattle.composer_put.proofs.checks.frame_refusal.Tie as tie
 
 -- from the place where the kind was told to the function's start
 abbrev kind-start : tie.After-kind-of → tie.Start
@@ -49,9 +48,6 @@ answered c = c .before .before .before .before
 abbrev start₄ : tie.Else4 → tie.Start
 start₄ c = number-start (answered c)
 
-abbrev start₅ : tie.Else5 → tie.Start
-start₅ c = start₄ (c .before .before)
-
 -- the refusal of the whole, and its parts behind the lengths
 abbrev all : tie.Start → ℕ
 all c = putRefusal (composerOf (c .args .state .now)) (c .args .r .0) (c .args .stream .now) (c .args .lent)
@@ -68,6 +64,14 @@ streams c = streamChecks (composerOf (c .args .state .now)) (c .args .r .0) (c .
 abbrev numbers : tie.Start → List Check
 numbers c = (17, not (within firstStream (streamsOf (composerOf (c .args .state .now) .kind)) (c .args .r .0))) ∷ (opens c ++ streams c)
 
+-- checks in two parts: the second answers where the first does not
+in-parts : (cs ds : List Check) → (firstOf cs ≡ 0 → NoneHolds cs) → firstOf (cs ++ ds) ≡ cond (eqb (firstOf cs) 0) (firstOf ds) (firstOf cs)
+in-parts cs ds none = either (ℕ-discrete (firstOf cs) 0)
+  where
+    either : Dec (firstOf cs ≡ 0) → firstOf (cs ++ ds) ≡ cond (eqb (firstOf cs) 0) (firstOf ds) (firstOf cs)
+    either (yes z) = rw z (onward ds (none z))
+    either (no h) = rw (ne-eqb _ 0 h) (at-once cs ds h)
+
 -- how long the frame is, and how many streams there are
 frame-told : (c : tie.After-frame-bytes) → c .frame-bytes .result ≡ frameLength (slotsOf (composerOf (kind-start (c .before) .args .state .now) .kind))
 frame-told c = frame-there _ (c .before .kind-of .ensures) (c .frame-bytes .ensures)
@@ -81,11 +85,11 @@ streams-told c = ap (λ (z : Size). z .streams) (c .size-of .ensures) ∙ ap str
 -- what is asked of the state's bytes
 state-told : (c : tie.After-state-refusal) → c .state-refusal .result ≡ firstOf (states (start₂ (c .before)))
 state-told c =
-    c .state-refusal .ensures ∙ at-length _ _ _ (start₂ (c .before) .pre .0)
+    c .state-refusal .ensures ∙ at-length _ _ _ (start₂ (c .before) .pre)
 
 open-told : (c : tie.After-open-refusal) → c .open-refusal .result ≡ firstOf (opens (start₄ (c .before)))
 open-told c =
-    c .open-refusal .ensures ∙ at-length _ _ _ (start₄ (c .before) .pre .0)
+    c .open-refusal .ensures ∙ at-length _ _ _ (start₄ (c .before) .pre)
 
 -- the number that was answered: it lies inside, and is the one that was given
 number-told : (c : tie.After-known-told)
@@ -110,11 +114,6 @@ past₄ c =
     omega (arith, n .1, streams-told (c .before .before .before), c .if4 .left) in
     past₃ (told .before .before .before .before) ∙ passed _ _ (ap not (between firstStream _ _ (at-least firstStream lastStream _ (n .0)) low))
 
-past₅ : (c : tie.Else5) → all (start₅ c) ≡ firstOf (streams (start₅ c))
-past₅ c =
-    past₄ (c .before .before)
-    ∙ onward (streams (start₅ c)) (open-none (composerOf (start₅ c .args .state .now)) (sym (open-told (c .before)) ∙ c .if5 .left))
-
 shared-slice-read-kind-of : tie.Need-shared-slice-read-kind-of
 shared-slice-read-kind-of c = search needs
 
@@ -126,12 +125,12 @@ frame-bytes-requires c κs = search needs
 
 returns : tie.Need-returns
 unfolding putRefusal
-returns c = sym (answers _ _ (ap not (ne-eqb _ _ (λ e. c .if1 .taken (e ∙ sym (frame-told (c .before)))))))
+returns c = answers _ _ (ap not (ne-eqb _ _ (λ e. c .if1 .taken (e ∙ sym (frame-told (c .before))))))
 
 returns-2 : tie.Need-returns-2
 unfolding putRefusal
 returns-2 c =
-    sym (passed _ _ (ap not (eq-eqb _ _ (c .before .if1 .left ∙ frame-told (c .before .before)))) ∙ answers _ _ (ap not (ne-eqb _ _ (c .if2 .taken))))
+    passed _ _ (ap not (eq-eqb _ _ (c .before .if1 .left ∙ frame-told (c .before .before)))) ∙ answers _ _ (ap not (ne-eqb _ _ (c .if2 .taken)))
 
 state-refusal-requires : tie.Need-state-refusal-requires
 state-refusal-requires c κs = search needs
@@ -140,7 +139,7 @@ returns-3 : tie.Need-returns-3
 returns-3 c =
     let start = start₂ (c .before .before) in
     let n = state-told (c .before) in
-    n ∙ sym (past₂ (c .before .before) ∙ at-once (states start) (numbers start) (λ z. c .if3 .taken (n ∙ z)))
+    rw (ne-eqb _ 0 (c .if3 .taken)) (past₂ (c .before .before) ∙ at-once (states start) (numbers start) (λ z. c .if3 .taken (n ∙ z)) ∙ sym n)
 
 new-requires : tie.Need-new-requires
 new-requires c κs = search needs
@@ -157,7 +156,7 @@ returns-4 c =
     let a = start₃ (told .before) .args in
     let kind = composerOf (a .state .now) .kind in
     let out = relative-outside firstStream lastStream (a .r .0) (sym (c .enum-told .given .1) ∙ told .new .ensures) in
-    sym (past₃ (told .before) ∙ answers _ _ (ap not (outside firstStream lastStream (streamsOf kind) (a .r .0) (sized kind .streams) (out .0))))
+    past₃ (told .before) ∙ answers _ _ (ap not (outside firstStream lastStream (streamsOf kind) (a .r .0) (sized kind .streams) (out .0)))
 
 size-of-requires : tie.Need-size-of-requires
 size-of-requires c κs = search needs
@@ -168,34 +167,18 @@ returns-5 c =
     let n = number-told told in
     let high : streamsOf (composerOf (number-start told .args .state .now) .kind) < number-start told .args .r .0 =
     omega (arith, n .1, streams-told (c .before .before .before), c .if4 .taken) in
-    sym (past₃ (told .before .before .before .before) ∙ answers _ _ (ap not (past firstStream _ _ (at-least firstStream lastStream _ (n .0)) high)))
+    past₃ (told .before .before .before .before) ∙ answers _ _ (ap not (past firstStream _ _ (at-least firstStream lastStream _ (n .0)) high))
 
 open-refusal-requires : tie.Need-open-refusal-requires
 open-refusal-requires c κs = search needs
 
 returns-6 : tie.Need-returns-6
 returns-6 c =
-    let start = start₄ (c .before .before) in
-    let n = open-told (c .before) in
-    n ∙ sym (past₄ (c .before .before) ∙ at-once (opens start) (streams start) (λ z. c .if5 .taken (n ∙ z)))
+    let start = start₄ (c .before) in
+    rw (open-told c) (past₄ (c .before) ∙ in-parts (opens start) (streams start) (open-none (composerOf (start .args .state .now))))
 
-stream-refusal-requires : tie.Need-stream-refusal-requires
-stream-refusal-requires c κs =
-    let a = start₅ c .args in (
-      start₅ c .pre .0,
-      start₅ c .pre .1
-          ∙ ap (λ (n : ℕ). slotsAsBits (emptyFor n (part planAt lastSlot (a .state .now)) (marksOf (part filledAt lastSlot (a .state .now))))) (sym (number-told (answered (c .before .before)) .1)),
-    )
-
-returns-7 : tie.Need-returns-7
-returns-7 c =
-    let a = start₅ (c .before) .args in
-    c .stream-refusal .ensures
-    ∙ ap (λ (n : ℕ). firstOf (streamChecks (composerOf (a .state .now)) n (a .stream .now))) (number-told (answered (c .before .before .before)) .1)
-    ∙ sym (past₅ (c .before))
-
-pub put-refusal-spec : {M : Type 1} → statement M
-put-refusal-spec =
+pub frame-refusal-spec : {M : Type 1} → statement M
+frame-refusal-spec =
     tie.close
     (tie.spec
     shared-slice-read-kind-of
@@ -212,6 +195,4 @@ put-refusal-spec =
     size-of-requires
     returns-5
     open-refusal-requires
-    returns-6
-    stream-refusal-requires
-    returns-7)
+    returns-6)

@@ -1,23 +1,28 @@
--- `write_halves` meets its contract: after k turns the first k bytes hold the first 2 * k values. Assumes nothing.
-use Prim.Native.Nat.{_-_, _*_, _≤_}
+-- `pack_halves` meets its contract: after k turns the first k bytes are packed. Assumes nothing.
+use Prim.Native.Nat.{_-_, _≤_}
 use mathlib.Core.Path.{_≡_, refl, sym, ap, _∙_}
 use native.Mathlib.Omega.{arith}
 use lib.ListN.{length, take, length-set}
 use lib.Seq.{take-all}
-use Rattle.bits.specs.Fields.{run}
-use Rattle.header_layout.proofs.Halves.{half-written}
-use Rattle.header_write.proofs.packed.write_halves.Statement.{statement}
-use Rattle.header_write.proofs.packed.write_halves.Tie as tie
+use Rattle.bits.specs.Fields.{run, cut}
+use Rattle.bits.proofs.Halves.{halves-packed, halves-left, half-packed}
+use Rattle.bits.proofs.pack_halves.Statement.{statement}
+use Rattle.bits.proofs.pack_halves.Tie as tie
 
 abbrev Inv-loop : tie.InvT-loop
-Inv-loop part₀ values k₀ part k =
-    (k ≤ length part₀) × (length part ≡ length part₀) × (run 8 (take k part) ≡ run 4 (take (2 * k) values))
+Inv-loop part₀ values k₀ part k = (k ≤ length part₀) × (length part ≡ length part₀) × (take k part ≡ cut 8 k (run 4 values))
 
 abbrev μ-loop : tie.MeasureT-loop
 μ-loop part₀ values k₀ part k = length part₀ - k
 
+returns : tie.Need-returns Inv-loop μ-loop
+returns c = halves-left _ _ (λ pairs. omega arith)
+
+returns-2 : tie.Need-returns-2 Inv-loop μ-loop
+returns-2 c = halves-left _ _ (λ pairs. omega arith)
+
 loop-holds : tie.Need-loop-holds Inv-loop μ-loop
-unfolding run
+unfolding cut
 loop-holds c = (omega arith, refl, refl)
 
 mul-part : tie.Need-mul-part Inv-loop μ-loop
@@ -52,30 +57,31 @@ loop-less c = omega arith
 
 loop-again : tie.Need-loop-again Inv-loop μ-loop
 loop-again c =
-    let turn = c .before .before .before .loop in
-    let start = c .before .before .before .before in
-    let args = start .args in (
+    let turn = c .before .before .before in
+    let values = turn .before .before .before .args .values .now in (
       omega arith,
-      simp length-set (turn .inv .1),
-      half-written (turn .part) (args .values .now) (turn .k) (omega arith) (omega (arith, start .pre)) (turn .inv .2),
+      simp length-set (turn .loop .inv .1),
+      half-packed (turn .loop .part) values (omega arith) (turn .loop .k) (omega arith) (turn .loop .inv .2),
     )
 
 same-length : tie.Need-same-length Inv-loop μ-loop
 same-length c = omega arith
 
-returns : tie.Need-returns Inv-loop μ-loop
-returns c =
-    let turn = c .before .loop in
-    let start = c .before .before in
-    let args = start .args in
-    ap (run 8) (sym (take-all (turn .k) (turn .part) (omega arith))) ∙ turn .inv .2 ∙ ap (run 4) (take-all (2 * turn .k) (args .values .now) (omega (arith, start .pre)))
+returns-3 : tie.Need-returns-3 Inv-loop μ-loop
+returns-3 c =
+    let turn = c .before in
+    let args = turn .before .before .before .args in
+    sym (take-all (turn .loop .k) (turn .loop .part) (omega arith)) ∙ turn .loop .inv .2
+    ∙ ap (λ n. cut 8 n (run 4 (args .values .now))) (omega arith) ∙ sym (halves-packed (args .part .now) (args .values .now) (omega arith))
 
-pub write-halves-spec : {M : Type 1} → statement M
-write-halves-spec =
+pub pack-halves-spec : {M : Type 1} → statement M
+pack-halves-spec =
     tie.close
     (tie.spec
     Inv-loop
     μ-loop
+    returns
+    returns-2
     loop-holds
     mul-part
     shared-slice-read-part
@@ -89,4 +95,4 @@ write-halves-spec =
     loop-less
     loop-again
     same-length
-    returns)
+    returns-3)

@@ -6,8 +6,8 @@ use lib.ListN.{length, drop, drop-of-length-le, length-drop}
 use lib.Seq.{take-all}
 use native.Mathlib.Omega.{arith}
 use Rattle.slices.specs.Slices.{anyBelow, someAtLeast}
-use Rattle.setting_widths.proofs.some_behind.Statement.{statement}
-use Rattle.setting_widths.proofs.some_behind.Tie as tie
+use Rattle.setting_checks.proofs.some_behind.Statement.{statement}
+use Rattle.setting_checks.proofs.some_behind.Tie as tie
 
 returns : tie.Need-returns
 unfolding someAtLeast anyBelow
