@@ -10,7 +10,6 @@ use Rattle.bits.specs.Fields.{bitsOf, run}
 use Rattle.bits.proofs.Laws.{run-append}
 use Rattle.setting.specs.declared.Size.{Size}
 use Rattle.setting.specs.declared.Setting.{Setting}
-use Rattle.setting.specs.Size.{resized}
 use Rattle.setting.proofs.Sizes.{resized-take}
 use Rattle.header_layout.specs.Rows.{pack}
 use Rattle.header_layout.specs.Layout.{controlTable}

@@ -1,11 +1,11 @@
 -- Values of 4 bits, two a byte, a byte a turn: what the loop that reads them needs. Assumes nothing.
-use Prim.Native.Nat.{ℕ, zero, suc, _+_, _*_, _/_, _%_, _≤_, _<_, _^_}
+use Prim.Native.Nat.{ℕ, _+_, _*_, _/_, _%_, _≤_, _<_, _^_}
 use mathlib.Core.Path.{_≡_, refl, sym, ap, ap₂, subst, _∙_}
 use mathlib.Core.List.{List, [], _∷_, _++_, append-nil}
 use native.Mathlib.Omega.{arith}
 use native.Mathlib.Numerals.{add-one}
 use lib.ListN.{length, take, getD, set}
-use lib.Seq.{take-all, take-suc, take-suc-set}
+use lib.Seq.{take-all, take-suc}
 use Rattle.slices.proofs.Front.{stored-behind}
 use Rattle.bits.specs.Fields.{Fit, none, more, bitsOf, run, cut}
 use Rattle.bits.proofs.Laws.{run-append, run-one, run-cons, fit-append, cut-run}

@@ -23,7 +23,7 @@ use Rattle.composer.specs.Slots.{placedBy}
 use Rattle.composer.proofs.Slots.{placed-within}
 use Rattle.composer.specs.Composing.{Composer, closed, closedWith, answer, beginRefusal, beginOf, begunFrame, putOf, closeOf, closedFrame, versionBehind}
 use Rattle.composer.specs.States.{composerLength, composerBytes, OfItsTypes as StateOfItsTypes}
-use Rattle.composer.specs.Calls.{beginRefused, beginState, beginMemory, putRefused, putPlaced, putState, putMemory, closeRefused, closeState, closeMemory}
+use Rattle.composer.specs.Calls.{beginRefused, beginState, beginMemory, putPlaced, putState, putMemory, closeRefused, closeState, closeMemory}
 use Rattle.composer.proofs.OnBytes.{calls-on-bytes}
 use Rattle.receiver.specs.Store.{numbered, slotsFor}
 use Rattle.runs.specs.Runs.{begin, put, close, Each, none, more, OfTypes, Run, refusalOf, after, closedBy, framesOf}
@@ -146,11 +146,6 @@ module _ (kind : Kind) (pid : ℕ) (m : Multiplexer) (w : Run) (k : Work) (a : A
 module _ (kind : Kind) (pid : ℕ) (m : Multiplexer) (w : Run) (k : Work) (a : Alike kind pid m w k) (stream : List ℕ) (r : ℕ) where
   abbrev plan : List ℕ
   plan = w .state .setting .«relative_ts_number»
-
-  put-answered : answered m (puts stream r) ≡ refusalOf w (put stream r)
-  unfolding answered refusalOf putOf
-  put-answered =
-      ap₂ (λ (x y : List ℕ). putRefused x r stream y) (a .state-is) (a .frame-is) ∙ calls-on-bytes (w .state) (a .typed) .0 .puts r stream (w .frame) .0
 
   -- the number that it answers
   put-count : putPlaced (m .state) r stream (m .frame) ≡ cond (eqb (refusalOf w (put stream r)) 0) (placedBy r plan (w .state .filled) stream) 0

@@ -1,5 +1,5 @@
 -- `has_unavailable` meets its contract, by the kind. Assumes nothing.
-use mathlib.Core.Path.{_≡_, sym, ap, _∙_}
+use mathlib.Core.Path.{sym, ap, _∙_}
 use borrow.Author.Needs.{needs}
 use Rattle.bits.proofs.Laws.{fit-of}
 use Rattle.setting.specs.declared.Kind.{Kind}

@@ -1,9 +1,8 @@
 -- `read_long` meets its contract: what the array holds are the bytes of the numbers. Assumes nothing.
 use Prim.Native.Nat.{ℕ}
-use mathlib.Core.Path.{_≡_, ap, ap₂, _∙_}
+use mathlib.Core.Path.{ap₂, _∙_}
 use mathlib.Core.List.{List}
 use borrow.Author.Needs.{needs}
-use lib.ListN.{take, drop}
 use Rattle.bits.specs.Fields.{run, cut}
 use Rattle.bits.proofs.Laws.{fit-of}
 use Rattle.header_check.proofs.Asked.{plain-numbers, extended-numbers}

@@ -1,6 +1,6 @@
 -- `read_statuses` meets its contract, with the number written out and without. Assumes nothing.
 use Prim.Native.Nat.{ℕ}
-use mathlib.Core.Path.{_≡_, sym, ap, _∙_}
+use mathlib.Core.Path.{sym, ap, _∙_}
 use borrow.Author.Needs.{needs}
 use Rattle.bits.specs.Fields.{run, cut}
 use Rattle.counters.specs.Counters.{lastStream}
