@@ -10,8 +10,8 @@ use Rattle.setting.specs.declared.Setting.{Setting}
 use Rattle.counters.specs.Counters.{firstPosition, within, lastSlot, lastCarrier}
 use Rattle.setting.specs.Setting.{blank}
 use Rattle.setting.specs.Refusal.{Check}
-use Rattle.setting.specs.Rules.{pidAllowed, ruleChecks}
-use Rattle.header_layout.specs.Header.{packetChecks}
+use Rattle.setting.specs.Rules.{pidAllowed}
+use Rattle.header_check.specs.Checking.{readChecks}
 use Rattle.packet.specs.Packets.{frameLength, slot}
 use Rattle.bond_group.specs.declared.Bond.{Bond}
 use Rattle.bond_group.specs.declared.headers.Shown.{Shown}
@@ -73,12 +73,11 @@ callChecks b group =
     ∷ (17, not (within 1 lastCarrier (b .carriers)))
     ∷ []
 
--- 3 to 11, then 14: the checks of the header of frame j
+-- the checks of the header of frame j: those of a read, then 14
 unfoldable pub headerChecks : Bond → List ℕ → ℕ → List Check
 headerChecks b group j =
-    packetChecks (b .pid) (slot (framePackets * j) group)
-    ++ (ruleChecks Kind.Extended (said group j)
-    ++ standingChecks (b .carriers) (said group 0 .«group_id») (before group j) (shownBy (said group j)))
+    readChecks Kind.Extended (b .pid) (slot (framePackets * j) group)
+    ++ standingChecks (b .carriers) (said group 0 .«group_id») (before group j) (shownBy (said group j))
 
 -- those of n headers from frame j on, one after another
 unfoldable pub headersChecks : Bond → List ℕ → ℕ → ℕ → List Check

@@ -19,25 +19,26 @@ use Rattle.counters.specs.Counters.{lastStream}
 use Rattle.setting.specs.Setting.{privateBytes, auxiliaryBytes}
 use Rattle.setting.specs.Size.{sizeOf, streamsOf, resized}
 use Rattle.setting.specs.Refusal.{NoneHolds, none, more}
-use Rattle.setting.specs.Rules.{pidAllowed, someBehind, bondingAbsent, absentChecks, widthChecks, bondingChecks, bondingOf, ruleChecks}
+use Rattle.setting.specs.Rules.{pidAllowed, someBehind, bondingAbsent, absentChecks, widthChecks, bondingChecks, ruleChecks}
 use Rattle.setting.proofs.Fields.{some-fit}
 use Rattle.setting.proofs.Sizes.{sized, fit-resized, none-behind-resized}
-use Rattle.setting.proofs.Refusals.{none-before, numbered, none-first, none-at, none-append, none-behind}
+use Rattle.setting.proofs.Refusals.{none-before, numbered, numbered-append, none-first, none-at, none-append, none-behind}
 use Rattle.header_layout.specs.Rows.{place, rowAt}
 use Rattle.header_layout.specs.Layout.{syncByte, tsmfSync, Field, table, layout, rowWith}
-use Rattle.header_layout.specs.Header.{headerLength, firsts, seconds, streamsBeyond, row, values, value, reading, callChecks, packetChecks}
-use Rattle.header_check.specs.Checking.{readRefusal}
+use Rattle.header_layout.specs.Header.{headerLength, firsts, seconds, streamsBeyond, row, values, value, reading, callChecks, packetChecks, reservedChecks}
+use Rattle.header_check.specs.Checking.{readChecks, readRefusal}
 use Rattle.header_layout.specs.Meets.{MeetsRules}
 use Rattle.header_layout.proofs.Rows.{size, rowOf, Fills, row-fills}
 use Rattle.header_layout.proofs.LaidOut.{laid-out, size-layout}
 use Rattle.header_layout.proofs.Content.{fills-replicate}
 use Rattle.header_layout.proofs.Numbers.{numbers-said}
+use Rattle.header_layout.proofs.Reserved.{numbered-reserved}
 
-numbered-bonding : (kind : Kind) (s : Setting) → numbered (bondingOf kind s) ≡ true
-unfolding bondingChecks
-numbered-bonding Kind.Plain s = refl
-numbered-bonding Kind.Extended s = refl
-numbered-bonding Kind.Short s = refl
+numbered-rules : (kind : Kind) (s : Setting) → numbered (ruleChecks kind s) ≡ true
+unfolding ruleChecks bondingChecks
+numbered-rules Kind.Plain s = refl
+numbered-rules Kind.Extended s = refl
+numbered-rules Kind.Short s = refl
 
 -- what the checks of a read leave of an accepted packet
 pub record Shown (kind : Kind) (pid : ℕ) (p : List ℕ) : Type 0 where
@@ -49,11 +50,12 @@ pub record Shown (kind : Kind) (pid : ℕ) (p : List ℕ) : Type 0 where
   pub payload : value kind p Field.payload ≡ 1
   pub tsmf : value kind p Field.tsmf-sync ≡ tsmfSync
   pub register : registerOf (drop 4 p) ≡ 0
-  pub packet : NoneHolds (packetChecks pid p)
+  pub checks : NoneHolds (readChecks kind pid p)
+  pub reserved : NoneHolds (reservedChecks kind p)
   pub rules : NoneHolds (ruleChecks kind (reading kind p))
 
 pub shown : (kind : Kind) (pid : ℕ) (p : List ℕ) → readRefusal kind pid p ≡ 0 → Shown kind pid p
-unfolding laid-out readRefusal packetChecks ruleChecks rowAt place
+unfolding laid-out readRefusal readChecks packetChecks rowAt place
 shown kind pid p e =
     let marks = both (eqb (value kind p Field.zeros) 0) (eqb (value kind p Field.payload) 1) (not-false _ (none-at h 4)) in
     record {
@@ -65,12 +67,16 @@ shown kind pid p e =
       payload = eqb-true _ _ (marks .1);
       tsmf = eqb-true _ _ (not-false _ (none-at h 5));
       register = eqb-true _ _ (not-false _ (none-at h 6));
-      packet = none-before (packetChecks pid p) (ruleChecks kind (reading kind p)) (none-behind (callChecks pid (length p)) h);
-      rules = none-behind (packetChecks pid p) (none-behind (callChecks pid (length p)) h);
+      checks = none-behind (callChecks pid (length p)) h;
+      reserved = none-before (reservedChecks kind p) (ruleChecks kind (reading kind p)) behind;
+      rules = none-behind (reservedChecks kind p) behind;
     }
   where
-    h : NoneHolds (callChecks pid (length p) ++ (packetChecks pid p ++ ruleChecks kind (reading kind p)))
-    h = none-first (callChecks pid (length p) ++ (packetChecks pid p ++ ruleChecks kind (reading kind p))) (numbered-bonding kind (reading kind p)) e
+    h : NoneHolds (callChecks pid (length p) ++ readChecks kind pid p)
+    h = none-first (callChecks pid (length p) ++ readChecks kind pid p) (numbered-append (reservedChecks kind p) (ruleChecks kind (reading kind p)) (numbered-reserved kind p) (numbered-rules kind (reading kind p))) e
+
+    behind : NoneHolds (reservedChecks kind p ++ ruleChecks kind (reading kind p))
+    behind = none-behind (packetChecks pid p) (none-behind (callChecks pid (length p)) h)
 
 -- of pairs, one half
 pub length-firsts : (xs : List ℕ) (n : ℕ) → length xs ≡ n + n → length (firsts xs) ≡ n

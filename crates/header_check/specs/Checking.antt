@@ -8,15 +8,18 @@ use Rattle.counters.specs.Counters.{lastSlot}
 use Rattle.setting.specs.declared.Kind.{Kind}
 use Rattle.setting.specs.declared.Setting.{Setting}
 use Rattle.setting.specs.Setting.{blank}
-use Rattle.setting.specs.Refusal.{firstOf}
+use Rattle.setting.specs.Refusal.{Check, firstOf}
 use Rattle.setting.specs.Rules.{ruleChecks}
-use Rattle.header_layout.specs.Header.{headerLength, reading, callChecks, packetChecks}
+use Rattle.header_layout.specs.Header.{headerLength, reading, callChecks, packetChecks, reservedChecks}
 use Rattle.header_check.specs.declared.Checked.{Checked}
+
+-- 3 to 7, then 20, then 8 to 11: what is checked of a packet of 188 bytes
+unfoldable pub readChecks : Kind → ℕ → List ℕ → List Check
+readChecks kind pid p = packetChecks pid p ++ (reservedChecks kind p ++ ruleChecks kind (reading kind p))
 
 -- the refusal of a read, or 0
 unfoldable pub readRefusal : Kind → ℕ → List ℕ → ℕ
-readRefusal kind pid p =
-    firstOf (callChecks pid (length p) ++ (packetChecks pid p ++ ruleChecks kind (reading kind p)))
+readRefusal kind pid p = firstOf (callChecks pid (length p) ++ readChecks kind pid p)
 
 -- a refusal's number, and the parts of a setting that receiving and gathering use
 unfoldable pub partsOf : ℕ → Setting → Checked

@@ -9,6 +9,7 @@ ghost use Rattle.header_check.specs.Cutting.{cutInto};
 
 mod packed;
 mod parts;
+mod reserved;
 
 // Refusal 0 and the fields that receiving and gathering use, or the refusal's number and zeros. The slots' numbers are read apart, by
 // `read_numbers`.
@@ -23,7 +24,7 @@ pub struct Checked {
     pub frame_position: FramePosition,
 }
 
-// Checks the packet as a header, for refusals 1 to 11.
+// Checks the packet as a header, for refusals 1 to 7, then 20, then 8 to 11.
 pub fn check(packet: &[u8], pid: u16, kind: Kind) -> Checked
     ensures { λ r. ⌜ r ≡ checkedOf kind pid (now (packet .entry)) ⌝ }
 {
@@ -36,6 +37,10 @@ pub fn check(packet: &[u8], pid: u16, kind: Kind) -> Checked
     let shown = parts::packet_refusal(packet, pid);
     if shown != 0 {
         return parts::refused(shown);
+    }
+    let reserved = reserved::refusal(packet, kind);
+    if reserved != 0 {
+        return parts::refused(reserved);
     }
     parts::said_by(packet, kind)
 }

@@ -26,8 +26,12 @@ unfolding place
 first-place [] = refl
 first-place (r ∷ rs) = refl
 
--- where the rows of the identifiers, the statuses, the emergency bit, the slots' numbers and the private data start
+-- where the rows of the identifiers, the statuses, the emergency bit, the slots' numbers and the private data start, and the two reserved bits
 module _ (z : Size) (ps : List Line) (s : Sized z) where
+  pub stream-bit-place : place (rowsOf (tableOf z ps)) 11 ≡ (identifiersStart z - 1) * 8 + 7
+  unfolding laid-out place
+  stream-bit-place = let b = s .stream-bytes in omega arith
+
   pub identifiers-place : place (rowsOf (tableOf z ps)) 12 ≡ identifiersStart z * 8
   unfolding laid-out place
   identifiers-place = let b = s .stream-bytes in omega arith
@@ -35,6 +39,10 @@ module _ (z : Size) (ps : List Line) (s : Sized z) where
   pub statuses-place : place (rowsOf (tableOf z ps)) 13 ≡ controlStart z * 8
   unfolding laid-out place
   statuses-place = let b = s .stream-bytes in omega arith
+
+  pub control-bit-place : place (rowsOf (tableOf z ps)) 14 ≡ (numbersStart z - 1) * 8 + 6
+  unfolding laid-out place
+  control-bit-place = let b = s .stream-bytes in omega arith
 
   pub emergency-place : place (rowsOf (tableOf z ps)) 15 ≡ (numbersStart z - 1) * 8 + 7
   unfolding laid-out place

@@ -10,6 +10,7 @@ pub mod LaidOut
 pub mod Numbers
 pub mod Packet
 pub mod Private
+pub mod Reserved
 pub mod Rows
 pub mod Runs
 pub mod Said

@@ -6,6 +6,7 @@ use lib.Dec.{eqb}
 use lib.ListN.{getD, drop, replicate}
 use Rattle.bits.specs.Fields.{bitsOf, run, cut}
 use Rattle.crc.specs.Crc.{registerFrom, registerOf}
+use Rattle.slices.specs.Slices.{someDiffer}
 use Rattle.setting.specs.declared.Kind.{Kind}
 use Rattle.setting.specs.declared.Size.{Size}
 use Rattle.setting.specs.declared.Setting.{Setting}
@@ -15,7 +16,7 @@ use Rattle.counters.specs.Counters.{lastSlot, lastStream}
 use Rattle.setting.specs.Refusal.{Check}
 use Rattle.setting.specs.Rules.{byKind, pidAllowed}
 use Rattle.header_layout.specs.Rows.{Row, pack, rowAt}
-use Rattle.header_layout.specs.Layout.{syncByte, tsmfSync, Field, Line, startTable, table, rowsOf, layout, rowWith}
+use Rattle.header_layout.specs.Layout.{syncByte, tsmfSync, Field, Line, startTable, table, rowsOf, layout, rowWith, reservedRows}
 
 -- a header is 188 bytes
 abbrev pub headerLength : ℕ
@@ -143,3 +144,7 @@ packetChecks pid p =
     ∷ (6, not (eqb (startValue p Field.tsmf-sync) tsmfSync))
     ∷ (7, not (eqb (registerOf (drop 4 p)) 0))
     ∷ []
+
+-- 20: for each reserved row, whether one of its bits is 0
+unfoldable pub reservedChecks : Kind → List ℕ → List Check
+reservedChecks kind p = map (λ (k : ℕ). (20, someDiffer (row kind p k) (allOnes (getD (layout kind) k (0, 0))))) (reservedRows kind)

@@ -87,6 +87,15 @@ unfoldable pub rowWith : Field → List Line → ℕ
 rowWith f [] = 0
 rowWith f (l ∷ ls) = cond (decide (Field-discrete f (l .0))) 0 (suc (rowWith f ls))
 
+-- the numbers of the reserved rows, where the first line's row has the number k
+unfoldable pub reservedFrom : ℕ → List Line → List ℕ
+reservedFrom k [] = []
+reservedFrom k (l ∷ ls) = cond (decide (Field-discrete reserved (l .0))) (k ∷ reservedFrom (suc k) ls) (reservedFrom (suc k) ls)
+
+-- the numbers of all reserved rows
+abbrev pub reservedRows : Kind → List ℕ
+reservedRows kind = reservedFrom 0 (table kind)
+
 -- ---- the bytes at which the parts behind the start begin, each behind the part before it
 
 abbrev pub streamsStart : ℕ

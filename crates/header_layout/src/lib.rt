@@ -45,10 +45,12 @@ pub const CRC: usize = HEADER_LENGTH - 4;
 // The reserved bytes of an extended header, before the CRC.
 pub const RESERVED_BYTES: usize = 53;
 
+pub const RESERVED: usize = CRC - RESERVED_BYTES;
+
 // Before them: group_id, number_of_carriers, carrier_sequence, then number_of_frames and frame_position.
 pub const BONDING_BYTES: usize = 4;
 
-pub const BONDING: usize = CRC - RESERVED_BYTES - BONDING_BYTES;
+pub const BONDING: usize = RESERVED - BONDING_BYTES;
 
 // The bytes at which the parts start whose place depends on the size.
 pub struct Places {

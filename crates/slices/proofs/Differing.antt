@@ -1,14 +1,14 @@
 -- Two lists that differ somewhere or nowhere. Assumes nothing.
 use Prim.Native.Nat.{ℕ, zero, suc, _+_, _≤_, _<_}
 use mathlib.Core.Path.{_≡_, refl, ap, ap₂, sym, _∙_}
-use mathlib.Core.Bool.{Bool, true, false, not}
+use mathlib.Core.Bool.{Bool, true, false, not, or-false}
 use mathlib.Core.List.{List, [], _∷_}
 use native.Mathlib.Omega.{arith}
 use borrow.Author.Tests.{eq-eqb, ne-eqb, eqb-true, not-false}
 use lib.Dec.{eqb}
-use lib.ListN.{length, getD}
+use lib.ListN.{length, getD, replicate, getD-replicate}
 use Rattle.slices.specs.Slices.{anyBelow, someDiffer, unlike}
-use Rattle.slices.proofs.Any.{any-none, any-more, any-no, any-found, any-each}
+use Rattle.slices.proofs.Any.{any-none, any-more, any-next, any-no, any-found, any-each}
 
 -- the lists do not differ before place i
 pub record SoFar (xs ys : List ℕ) (i : ℕ) : Type 0 where
@@ -16,7 +16,7 @@ pub record SoFar (xs ys : List ℕ) (i : ℕ) : Type 0 where
   pub same : anyBelow i (λ k. not (eqb (getD xs k 0) (getD ys k 0))) ≡ false
 
 module _ (xs ys : List ℕ) where
-  abbrev unequal : ℕ → Bool
+  abbrev pub unequal : ℕ → Bool
   unequal k = not (eqb (getD xs k 0) (getD ys k 0))
 
   pub so-far-none : SoFar xs ys 0
@@ -44,6 +44,20 @@ module _ (xs ys : List ℕ) where
     pub found : (i : ℕ) → i < length xs → (getD xs i 0 ≡ getD ys i 0 → ⊥) → unlike xs ys ≡ true
     unfolding someDiffer
     found i h d = by-elements ∙ any-found unequal (length xs) i h (ap not (ne-eqb (getD xs i 0) (getD ys i 0) d))
+
+-- of a loop that looks for an element other than v and does not stop: one is here, or it is as before
+module _ (xs : List ℕ) (v i : ℕ) (h : i < length xs) where
+  abbrev others : ℕ → Bool
+  others = unequal xs (replicate (length xs) v)
+
+  is-v : getD (replicate (length xs) v) i 0 ≡ v
+  is-v = getD-replicate (length xs) i v 0 h
+
+  pub other-here : (getD xs i 0 ≡ v → ⊥) → anyBelow (i + 1) others ≡ true
+  other-here d = any-found others (i + 1) i (omega arith) (ap not (ne-eqb (getD xs i 0) _ (λ e. d (e ∙ is-v))))
+
+  pub same-here : getD xs i 0 ≡ v → anyBelow (i + 1) others ≡ anyBelow i others
+  same-here e = any-next others i ∙ rw (eq-eqb (getD xs i 0) _ (e ∙ sym is-v)) (or-false (anyBelow i others))
 
 -- a list does not differ from itself
 pub differs-nowhere : (xs : List ℕ) → someDiffer xs xs ≡ false

@@ -3,7 +3,7 @@ ghost use mathlib.Core.Path.{_≡_};
 ghost use mathlib.Core.Bool.{false};
 ghost use Prim.Native.Nat.{_≤_, _<_};
 ghost use lib.ListN.{length, replicate};
-ghost use Rattle.slices.specs.Slices.{copied, someAtLeast, unlike};
+ghost use Rattle.slices.specs.Slices.{copied, someAtLeast, someDiffer, unlike};
 
 // How many bytes are copied at a time.
 const AT_A_TIME: usize = 16;
@@ -90,6 +90,21 @@ pub fn some_at_least(xs: &[u8], limit: u8) -> bool
         i += 1;
     }
     limit <= most
+}
+
+// Whether some element of xs is not v. Does not stop early, so that many elements are compared at a time.
+pub fn some_other(xs: &[u8], v: u8) -> bool
+    ensures { λ r. ⌜ r ≡ someDiffer (now (xs .entry)) (replicate (length (now (xs .entry))) v) ⌝ }
+{
+    let mut other = false;
+    let mut i = 0;
+    while i < xs.len() {
+        if xs[i] != v {
+            other = true;
+        }
+        i += 1;
+    }
+    other
 }
 
 // Whether two slices differ, in their lengths or somewhere.

@@ -7,10 +7,11 @@ use borrow.Author.Tests.{not-true, not-false}
 use Rattle.setting.specs.Refusal.{Check, firstOf}
 use Rattle.setting.proofs.Refusals.{onward, at-once}
 use Rattle.setting.specs.Rules.{ruleChecks}
-use Rattle.header_layout.specs.Header.{reading, packetChecks}
+use Rattle.header_layout.specs.Header.{reading, packetChecks, reservedChecks}
 use Rattle.header_layout.proofs.Calls.{wrong-length, wrong-pid, right-call}
 use Rattle.header_layout.proofs.Packet.{packet-none}
-use Rattle.header_check.specs.Checking.{readRefusal, partsBeside, checkedOf}
+use Rattle.header_layout.proofs.Reserved.{reserved-none}
+use Rattle.header_check.specs.Checking.{readChecks, readRefusal, partsBeside, checkedOf}
 use Rattle.header_check.proofs.Asked.{refused}
 use Rattle.header_check.proofs.check.Statement.{statement}
 use Rattle.header_check.proofs.check.Tie as tie
@@ -25,25 +26,36 @@ start₂ c = start₁ (c .before .before)
 abbrev start₃ : tie.Else3 → tie.Start
 start₃ c = start₂ (c .before .before)
 
--- the refusal of the whole, and the checks of its last two parts
+abbrev start₄ : tie.Else4 → tie.Start
+start₄ c = start₃ (c .before .before)
+
+-- the refusal of the whole, and the checks of its last three parts
 abbrev all : tie.Start → ℕ
 all c = readRefusal (c .args .kind) (c .args .pid) (c .args .packet .now)
 
 abbrev packets : tie.Start → List Check
 packets c = packetChecks (c .args .pid) (c .args .packet .now)
 
+abbrev reserved : tie.Start → List Check
+reserved c = reservedChecks (c .args .kind) (c .args .packet .now)
+
 abbrev rules : tie.Start → List Check
 rules c = ruleChecks (c .args .kind) (reading (c .args .kind) (c .args .packet .now))
 
-past₂ : (c : tie.Else2) → all (start₂ c) ≡ firstOf (packets (start₂ c) ++ rules (start₂ c))
-unfolding readRefusal
+past₂ : (c : tie.Else2) → all (start₂ c) ≡ firstOf (packets (start₂ c) ++ (reserved (start₂ c) ++ rules (start₂ c)))
+unfolding readRefusal readChecks
 past₂ c =
     right-call (start₂ c .args .pid) _ _ (c .before .before .if1 .left) (sym (c .before .pid-allowed .ensures) ∙ not-false _ (c .if2 .left))
 
-past₃ : (c : tie.Else3) → all (start₃ c) ≡ firstOf (rules (start₃ c))
+past₃ : (c : tie.Else3) → all (start₃ c) ≡ firstOf (reserved (start₃ c) ++ rules (start₃ c))
 past₃ c =
     let s = start₃ c in
-    past₂ (c .before .before) ∙ onward (rules s) (packet-none (s .args .pid) (s .args .packet .now) (sym (c .before .packet-refusal .ensures) ∙ c .if3 .left))
+    past₂ (c .before .before) ∙ onward _ (packet-none (s .args .pid) (s .args .packet .now) (sym (c .before .packet-refusal .ensures) ∙ c .if3 .left))
+
+past₄ : (c : tie.Else4) → all (start₄ c) ≡ firstOf (rules (start₄ c))
+past₄ c =
+    let s = start₄ c in
+    past₃ (c .before .before) ∙ onward (rules s) (reserved-none (s .args .kind) (s .args .packet .now) (sym (c .before .refusal .ensures) ∙ c .if4 .left))
 
 refused-requires : tie.Need-refused-requires
 refused-requires c κs = omega arith
@@ -52,7 +64,7 @@ returns : tie.Need-returns
 unfolding readRefusal checkedOf
 returns c =
     let s = c .before .before .before in
-    refused (s .args .kind) (s .args .packet .now) (wrong-length (s .args .pid) _ (packets s ++ rules s) (c .before .if1 .taken)) (c .refused .result) (omega arith)
+    refused (s .args .kind) (s .args .packet .now) (wrong-length (s .args .pid) _ (readChecks (s .args .kind) (s .args .pid) (s .args .packet .now)) (c .before .if1 .taken)) (c .refused .result) (omega arith)
     (c .refused .ensures)
 
 pid-allowed-requires : tie.Need-pid-allowed-requires
@@ -66,7 +78,7 @@ unfolding readRefusal checkedOf
 returns-2 c =
     let s = start₁ (c .before .before .before) in
     refused (s .args .kind) (s .args .packet .now)
-    (wrong-pid (s .args .pid) _ (packets s ++ rules s) (c .before .before .before .if1 .left) (sym (c .before .before .pid-allowed .ensures) ∙ not-true _ (c .before .if2 .taken)))
+    (wrong-pid (s .args .pid) _ (readChecks (s .args .kind) (s .args .pid) (s .args .packet .now)) (c .before .before .before .if1 .left) (sym (c .before .before .pid-allowed .ensures) ∙ not-true _ (c .before .if2 .taken)))
     (c .refused2 .result) (omega arith) (c .refused2 .ensures)
 
 packet-refusal-requires : tie.Need-packet-refusal-requires
@@ -81,17 +93,32 @@ returns-3 c =
     let s = start₂ (c .before .before .before) in
     let n = c .before .before .packet-refusal .ensures in
     let no = c .before .if3 .taken in
-    refused (s .args .kind) (s .args .packet .now) (past₂ (c .before .before .before) ∙ at-once (packets s) (rules s) (λ z. no (n ∙ z)) ∙ sym n) (c .refused3 .result) no
+    refused (s .args .kind) (s .args .packet .now) (past₂ (c .before .before .before) ∙ at-once (packets s) _ (λ z. no (n ∙ z)) ∙ sym n) (c .refused3 .result) no
     (c .refused3 .ensures)
 
-said-by-requires : tie.Need-said-by-requires
-said-by-requires c κs = omega arith
+refusal-requires : tie.Need-refusal-requires
+refusal-requires c κs = omega arith
+
+refused-requires-4 : tie.Need-refused-requires-4
+refused-requires-4 c κs = omega arith
 
 returns-4 : tie.Need-returns-4
 unfolding checkedOf
 returns-4 c =
-    let s = start₃ (c .before) in
-    c .said-by .ensures ∙ ap (λ (n : ℕ). partsBeside n (s .args .kind) (s .args .packet .now)) (sym (past₃ (c .before)))
+    let s = start₃ (c .before .before .before) in
+    let n = c .before .before .refusal .ensures in
+    let no = c .before .if4 .taken in
+    refused (s .args .kind) (s .args .packet .now) (past₃ (c .before .before .before) ∙ at-once (reserved s) (rules s) (λ z. no (n ∙ z)) ∙ sym n) (c .refused4 .result) no
+    (c .refused4 .ensures)
+
+said-by-requires : tie.Need-said-by-requires
+said-by-requires c κs = omega arith
+
+returns-5 : tie.Need-returns-5
+unfolding checkedOf
+returns-5 c =
+    let s = start₄ (c .before) in
+    c .said-by .ensures ∙ ap (λ (n : ℕ). partsBeside n (s .args .kind) (s .args .packet .now)) (sym (past₄ (c .before)))
 
 pub check-spec : {M : Type 1} → statement M
 check-spec =
@@ -105,5 +132,8 @@ check-spec =
     packet-refusal-requires
     refused-requires-3
     returns-3
+    refusal-requires
+    refused-requires-4
+    returns-4
     said-by-requires
-    returns-4)
+    returns-5)
