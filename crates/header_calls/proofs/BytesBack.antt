@@ -1,13 +1,10 @@
 -- A setting's bytes, written as a header and read back, are the same. Assumes nothing.
 use Prim.Native.Nat.{ℕ}
 use mathlib.Core.Path.{_≡_, refl, sym, ap, ap₂, _∙_}
-use mathlib.Core.Bool.{not}
 use mathlib.Core.List.{List, _∷_}
-use borrow.Author.Tests.{eq-eqb}
 use lib.ListN.{length}
 use Rattle.setting.specs.declared.Setting.{Setting}
-use Rattle.setting.specs.Refusal.{none, more, leaves}
-use Rattle.setting.proofs.Refusals.{first-none}
+use Rattle.setting.specs.Refusal.{leaves}
 use Rattle.header_layout.specs.Header.{headerLength, header}
 use Rattle.header_layout.proofs.Whole.{length-header}
 use Rattle.header_write.specs.Writing.{written}
@@ -17,25 +14,19 @@ use Rattle.setting_bytes.specs.Kinds.{kindOf}
 use Rattle.setting_bytes.specs.Settings.{settingLength, settingBytes, settingOf}
 use Rattle.setting_bytes.proofs.Same.{setting-same}
 use Rattle.setting_bytes.proofs.Typed.{setting-typed}
-use Rattle.header_calls.specs.Calls.{callRefused, thenRefused, writeRefused, writeMemory, readRefused, readMemory}
-use Rattle.header_calls.specs.Demands.{Meets, BytesBack}
-
--- a call with the right lengths is not refused for them
-right-call : (pid kind packet lent : ℕ) (setting : List ℕ) → Meets pid kind setting → packet ≡ headerLength → lent ≡ settingLength → callRefused packet lent pid kind ≡ 0
-unfolding callRefused
-right-call pid kind packet lent setting m p l =
-    first-none
-    (more (ap not (eq-eqb packet headerLength p)) (more (ap not (eq-eqb lent settingLength l)) (more (ap not (m .rules .pid-allowed)) (more (ap not (m .is-kind)) none))))
+use Rattle.header_calls.specs.Calls.{thenRefused, writeRefused, writeMemory, readRefused, readMemory}
+use Rattle.header_calls.specs.Demands.{BytesBack}
+use Rattle.header_calls.proofs.Called.{right-call}
 
 pub bytes-back : BytesBack
 unfolding writeRefused writeMemory readRefused readMemory thenRefused leaves written
 bytes-back pid kind setting packet buffer m p l =
     let s = settingOf setting in
     let w = written-and-read-back (kindOf kind) pid s packet (setting-typed setting (m .bytes)) (m .rules) p in
-    let call = right-call pid kind (length packet) (length setting) setting m p (m .long) in
+    let call = right-call (length packet) (length setting) pid kind (record { packet-long = p; setting-long = m .long; pid-allowed = m .rules .pid-allowed; is-kind = m .is-kind }) in
     let is : writeMemory packet pid kind setting ≡ written (kindOf kind) pid s packet = rw call in
     let long : length (written (kindOf kind) pid s packet) ≡ headerLength = rw (w .0) (length-header (kindOf kind) pid s) in
-    let again = right-call pid kind (length (written (kindOf kind) pid s packet)) (length buffer) setting m long l in
+    let again = right-call (length (written (kindOf kind) pid s packet)) (length buffer) pid kind (record { packet-long = long; setting-long = l; pid-allowed = m .rules .pid-allowed; is-kind = m .is-kind }) in
     let refusal : readRefused (written (kindOf kind) pid s packet) pid kind buffer ≡ 0 = rw (again, w .1) in (
       rw (call, w .0) refl,
       (

@@ -1,2 +1,3 @@
-pub mod Settled
+pub mod Called
 pub mod BytesBack
+pub mod BytesAgain

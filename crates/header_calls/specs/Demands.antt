@@ -1,4 +1,4 @@
--- What demand 2 says of headers, over the calls of the C header. The proof stands apart.
+-- What demand 2 says of headers, over the calls of the C header. The proofs stand apart.
 use Prim.Native.Nat.{ℕ}
 use mathlib.Core.Path.{_≡_}
 use mathlib.Core.Bool.{true}
@@ -26,3 +26,11 @@ BytesBack =
     → (writeRefused packet pid kind setting ≡ 0)
     × ((readRefused (writeMemory packet pid kind setting) pid kind buffer ≡ 0)
     × (readMemory (writeMemory packet pid kind setting) pid kind buffer ≡ setting))
+
+-- 'The bytes of an accepted header are those that writing it again gives': what `niranbok_header_read` leaves in 298 bytes,
+-- `niranbok_header_write` does not refuse, and it leaves the 188 bytes that were read
+abbrev pub BytesAgain : Type 0
+BytesAgain =
+    (pid kind : ℕ) (packet setting buffer : List ℕ) → Fit 8 packet → readRefused packet pid kind setting ≡ 0 → length buffer ≡ headerLength
+    → (writeRefused buffer pid kind (readMemory packet pid kind setting) ≡ 0)
+    × (writeMemory buffer pid kind (readMemory packet pid kind setting) ≡ packet)

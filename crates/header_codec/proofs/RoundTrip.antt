@@ -11,7 +11,8 @@ use lib.ListN.{length, getD, drop, replicate}
 use lib.Pow.{split}
 use borrow.Author.Tests.{leb-false, eq-eqb}
 use Rattle.bits.specs.Fields.{Fit}
-use Rattle.slices.specs.Slices.{someAtLeast}
+use Rattle.slices.specs.Slices.{someAtLeast, someDiffer}
+use Rattle.slices.proofs.Differing.{differs-nowhere}
 use Rattle.crc.specs.Crc.{registerOf}
 use Rattle.setting.specs.declared.Kind.{Kind}
 use Rattle.setting.specs.declared.Setting.{Setting}
@@ -25,13 +26,14 @@ use Rattle.setting.proofs.Sizes.{sized, length-resized, resized-back}
 use Rattle.setting.proofs.Refusals.{first-none, none-at, none-append, none-before, none-behind}
 use Rattle.header_read.specs.declared.Reading.{Reading}
 use Rattle.header_layout.specs.Rows.{place, rowAt}
-use Rattle.header_layout.specs.Layout.{Field, table, layout, rowWith}
-use Rattle.header_layout.specs.Header.{paired, firsts, seconds, streamsBeyond, content, headerLength, header, values, value, reading, packetChecks}
+use Rattle.header_layout.specs.Layout.{Field, table, layout, rowWith, reservedFrom}
+use Rattle.header_layout.specs.Header.{paired, firsts, seconds, allOnes, streamsBeyond, content, headerLength, header, row, values, value, reading, packetChecks, reservedChecks}
 use Rattle.header_write.specs.Writing.{written}
-use Rattle.header_check.specs.Checking.{readRefusal}
+use Rattle.header_check.specs.Checking.{readChecks, readRefusal}
 use Rattle.header_read.specs.Reader.{readOf}
 use Rattle.header_layout.specs.Meets.{MeetsRules}
 use Rattle.header_codec.specs.Demands.{WrittenAndReadBack}
+use Rattle.header_layout.proofs.Rows.{rowOf}
 use Rattle.header_layout.proofs.LaidOut.{laid-out}
 use Rattle.header_write.proofs.Calls.{not-refused}
 use Rattle.header_layout.proofs.Content.{suits}
@@ -181,11 +183,30 @@ module _ (kind : Kind) (pid : ℕ) (s : Setting) (t : OfItsTypes s) (m : MeetsRu
           → eqb (value kind (header kind pid s) f) (getD (getD (content kind pid s) (rowWith f (table kind)) []) 0 0) ≡ true
       shown f h = eq-eqb (value kind (header kind pid s) f) (getD (getD (content kind pid s) (rowWith f (table kind)) []) 0 0) (value-back kind pid s t m f h)
 
+  -- a reserved row is written as ones
+  ones : (k : ℕ) → k < length (layout kind) → getD (content kind pid s) k [] ≡ allOnes (rowOf (layout kind) k)
+      → someDiffer (row kind (header kind pid s) k) (allOnes (rowOf (layout kind) k)) ≡ false
+  ones k h e = rw (row-header kind pid s (suits kind pid s t m) k h ∙ e) (differs-nowhere (allOnes (rowOf (layout kind) k)))
+
+  reserved-none : NoneHolds (drop 3 (reservedChecks kind (header kind pid s))) → NoneHolds (reservedChecks kind (header kind pid s))
+  unfolding laid-out reservedChecks reservedFrom
+  reserved-none behind = more (ones 5 (omega arith) refl) (more (ones 11 (omega arith) refl) (more (ones 14 (omega arith) refl) behind))
+
+reserved-bytes-none : (kind : Kind) (pid : ℕ) (s : Setting) → OfItsTypes s → MeetsRules kind pid s → NoneHolds (drop 3 (reservedChecks kind (header kind pid s)))
+unfolding laid-out reservedChecks reservedFrom
+reserved-bytes-none Kind.Plain pid s t m = none
+reserved-bytes-none Kind.Short pid s t m = none
+reserved-bytes-none Kind.Extended pid s t m = more (ones Kind.Extended pid s t m 23 (lit< tt) refl) none
+
+module _ (kind : Kind) (pid : ℕ) (s : Setting) (t : OfItsTypes s) (m : MeetsRules kind pid s) where
   read-back : readRefusal kind pid (header kind pid s) ≡ 0
-  unfolding readRefusal
+  unfolding readRefusal readChecks
   read-back =
       first-none (more (ap not (eq-eqb (length (header kind pid s)) headerLength (length-header kind pid s)))
-      (more (ap not (m .pid-allowed)) (none-append packet-none (subst (λ (r : Setting). NoneHolds (ruleChecks kind r)) (sym same) (none-behind (widthChecks kind s) (m .fields))))))
+      (more (ap not (m .pid-allowed))
+      (none-append (packet-none kind pid s t m)
+      (none-append (reserved-none kind pid s t m (reserved-bytes-none kind pid s t m))
+      (subst (λ (r : Setting). NoneHolds (ruleChecks kind r)) (sym (same kind pid s t m)) (none-behind (widthChecks kind s) (m .fields)))))))
 
 pub written-and-read-back : WrittenAndReadBack
 unfolding written readOf

@@ -1,17 +1,15 @@
 -- What demand 2 says of headers, as statements over what the calls answer and leave. The proofs stand apart.
-use Prim.Native.Nat.{ℕ, _<_}
+use Prim.Native.Nat.{ℕ}
 use mathlib.Core.Path.{_≡_}
 use mathlib.Core.List.{List}
-use lib.ListN.{length, getD}
+use lib.ListN.{length}
 use Rattle.bits.specs.Fields.{Fit}
 use Rattle.setting.specs.declared.Kind.{Kind}
 use Rattle.setting.specs.declared.Setting.{Setting}
 use Rattle.setting.specs.Setting.{OfItsTypes}
-use Rattle.header_layout.specs.Layout.{Field, table, layout}
-use Rattle.header_layout.specs.Header.{headerLength, allOnes, header, row, reading}
+use Rattle.header_layout.specs.Header.{headerLength}
 use Rattle.header_layout.specs.Meets.{MeetsRules}
 use Rattle.header_write.specs.Writing.{writeRefusal, written}
-use Rattle.header_check.specs.Checking.{readRefusal}
 use Rattle.header_read.specs.Reader.{readOf}
 
 -- 'Every setting that meets the rules is written, and read back equal.'
@@ -22,25 +20,11 @@ WrittenAndReadBack =
     → (writeRefusal kind pid s (length buffer) ≡ 0)
     × (readOf kind pid (written kind pid s buffer) ≡ record { refusal = 0; setting = s })
 
--- what row k holds
-abbrev pub fieldAt : Kind → ℕ → Field
-fieldAt kind k = getD (table kind) k (Field.reserved, (0, 0)) .0
-
--- two headers say the same in every row that is not reserved
-abbrev pub SameButReserved : Kind → List ℕ → List ℕ → Type 0
-SameButReserved kind p q =
-    (k : ℕ) → k < length (layout kind) → (fieldAt kind k ≡ Field.reserved → ⊥) → row kind p k ≡ row kind q k
-
--- the reserved bits of a header are ones
-abbrev pub ReservedOnes : Kind → List ℕ → Type 0
-ReservedOnes kind p =
-    (k : ℕ) → k < length (layout kind) → fieldAt kind k ≡ Field.reserved → row kind p k ≡ allOnes (getD (layout kind) k (0, 0))
-
--- 'A header that the reader accepts, written again, gives the same bytes but for reserved bits': it is written, it says the same
--- in every row that is not reserved, and if the reserved bits were ones it is the same header, with the same CRC
+-- 'The bytes of an accepted header are those that writing it again gives': what a read answers is not refused by a write with the same kind
+-- and PID, and the write leaves the 188 bytes that were read
 abbrev pub WrittenAgain : Type 0
 WrittenAgain =
-    (kind : Kind) (pid : ℕ) (p : List ℕ) → Fit 8 p → readRefusal kind pid p ≡ 0
-    → (writeRefusal kind pid (reading kind p) headerLength ≡ 0)
-    × SameButReserved kind (header kind pid (reading kind p)) p
-    × (ReservedOnes kind p → header kind pid (reading kind p) ≡ p)
+    (kind : Kind) (pid : ℕ) (p buffer : List ℕ)
+    → Fit 8 p → readOf kind pid p .refusal ≡ 0 → length buffer ≡ headerLength
+    → (writeRefusal kind pid (readOf kind pid p .setting) (length buffer) ≡ 0)
+    × (written kind pid (readOf kind pid p .setting) buffer ≡ p)

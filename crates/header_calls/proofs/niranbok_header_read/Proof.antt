@@ -8,7 +8,7 @@ use Rattle.setting_bytes.specs.Kinds.{kindOf}
 use Rattle.setting_bytes.specs.Settings.{settingLength}
 use Rattle.header_read.specs.Reader.{intoRefused, intoMemory}
 use Rattle.header_calls.specs.Calls.{thenRefused, readRefused, readMemory}
-use Rattle.header_calls.proofs.Settled.{settled}
+use Rattle.header_calls.proofs.Called.{called}
 use Rattle.header_calls.proofs.niranbok_header_read.Statement.{statement}
 use Rattle.header_calls.proofs.niranbok_header_read.Tie as tie
 
@@ -42,7 +42,7 @@ returns-2 c =
     let none = sym (call .call-refusal .ensures) ∙ kind .before .if1 .left in
     let same : kindOf (start .args .kind) ≡ kind .kind-of .result = sym (kind .kind-of .ensures) in
     rw (none, same)
-    (rw (eq-eqb (length (start .args .setting .now)) settingLength (settled _ _ _ _ none)) at (read .read-into .ensures))
+    (rw (eq-eqb (length (start .args .setting .now)) settingLength (called _ _ _ _ none .setting-long)) at (read .read-into .ensures))
 
 pub niranbok-header-read-spec : {M : Type 1} → statement M
 niranbok-header-read-spec =

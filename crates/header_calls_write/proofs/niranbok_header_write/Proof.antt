@@ -7,7 +7,7 @@ use Rattle.setting.specs.Refusal.{ofLength, leaves}
 use Rattle.setting_bytes.specs.Kinds.{kindOf}
 use Rattle.setting_bytes.specs.Settings.{settingLength}
 use Rattle.header_calls.specs.Calls.{thenRefused, writeRefused, writeMemory}
-use Rattle.header_calls.proofs.Settled.{settled}
+use Rattle.header_calls.proofs.Called.{called}
 use Rattle.header_calls_write.proofs.niranbok_header_write.Statement.{statement}
 use Rattle.header_calls_write.proofs.niranbok_header_write.Tie as tie
 
@@ -40,7 +40,7 @@ returns-2 c =
     let none = sym (call .call-refusal .ensures) ∙ kind .before .before .if1 .left in
     let same : kindOf (start .args .kind) ≡ kind .kind-of .result = sym (kind .kind-of .ensures) in
     rw (none, same)
-    (rw (eq-eqb (length (start .args .setting .now)) settingLength (settled _ _ _ _ none)) at (wrote .write .ensures))
+    (rw (eq-eqb (length (start .args .setting .now)) settingLength (called _ _ _ _ none .setting-long)) at (wrote .write .ensures))
 
 pub niranbok-header-write-spec : {M : Type 1} → statement M
 niranbok-header-write-spec =
