@@ -14,9 +14,9 @@ use Rattle.setting.specs.declared.Kind.{Kind}
 use Rattle.setting.specs.declared.Setting.{Setting}
 use Rattle.counters.specs.Counters.{lastSlot, firstPosition}
 use Rattle.setting.specs.Refusal.{Check, NoneHolds, none, more, firstOf}
-use Rattle.setting.specs.Rules.{ruleChecks}
 use Rattle.setting.proofs.Refusals.{first-none, none-at, none-append, none-before, none-behind}
-use Rattle.header_layout.specs.Header.{reading, packetChecks}
+use Rattle.header_layout.specs.Header.{reading}
+use Rattle.header_check.specs.Checking.{readChecks}
 use Rattle.packet.specs.Packets.{packetLength, frameLength, slot, unfit, someUnfitIn}
 use Rattle.bond_group.specs.declared.Bond.{Bond}
 use Rattle.bond_group.specs.declared.headers.Shown.{Shown}
@@ -116,8 +116,8 @@ module _ (b : Bond) (group g : List ℕ) (h : SameHeaders group g) where
   header-same : (j : ℕ) → headerChecks b g j ≡ headerChecks b group j
   unfolding headerChecks
   header-same j = λ i.
-      packetChecks (b .pid) (h .header j i)
-      ++ (ruleChecks Kind.Extended (said-same j i) ++ standingChecks (b .carriers) (said-same 0 i .«group_id») (before-same j i) (shownBy (said-same j i)))
+      readChecks Kind.Extended (b .pid) (h .header j i)
+      ++ standingChecks (b .carriers) (said-same 0 i .«group_id») (before-same j i) (shownBy (said-same j i))
 
   headers-same : (j n : ℕ) → headersChecks b g j n ≡ headersChecks b group j n
   unfolding headersChecks

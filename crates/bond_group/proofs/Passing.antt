@@ -1,5 +1,5 @@
 -- What passes the checks of a group, and what that leaves to know. Assumes nothing.
-use Prim.Native.Nat.{ℕ, zero, suc, _+_, _%_, _≤_}
+use Prim.Native.Nat.{ℕ, zero, suc, _+_, _*_, _%_, _≤_}
 use mathlib.Core.Path.{_≡_, refl, sym, _∙_}
 use mathlib.Core.Bool.{true, cond}
 use mathlib.Core.List.{List, _++_}
@@ -8,12 +8,15 @@ use lib.Dec.{eqb}
 use lib.ListN.{length}
 use Rattle.slices.proofs.Any.{neither}
 use Rattle.counters.specs.Counters.{within, lastSlot, lastCarrier}
+use Rattle.setting.specs.declared.Kind.{Kind}
 use Rattle.setting.specs.Refusal.{NoneHolds, firstOf}
-use Rattle.setting.specs.Rules.{pidAllowed, ruleChecks, bondingChecks}
+use Rattle.setting.specs.Rules.{pidAllowed}
 use Rattle.setting.proofs.Refusals.{numbered-append, numbered, none-first, none-at, onward, at-once}
 use Rattle.setting.proofs.Fields.{at-most}
-use Rattle.header_layout.specs.Header.{packetChecks}
-use Rattle.packet.specs.Packets.{frameLength}
+use Rattle.header_check.specs.Checking.{readChecks}
+use Rattle.header_check.proofs.Accepted.{numbered-read}
+use Rattle.packet.specs.Packets.{frameLength, slot}
+use Rattle.bond_places.specs.Order.{framePackets}
 use Rattle.bond_group.specs.declared.Bond.{Bond}
 use Rattle.bond_group.specs.Group.{framesIn}
 use Rattle.bond_group.specs.Standing.{standingChecks, callChecks, headerChecks, headersChecks, groupChecks, planChecks}
@@ -24,8 +27,8 @@ use Rattle.bond_group.proofs.Standing.{at-least}
 
 module _ (b : Bond) (group : List ℕ) where
   numbered-header : (j : ℕ) → numbered (headerChecks b group j) ≡ true
-  unfolding headerChecks packetChecks ruleChecks bondingChecks standingChecks
-  numbered-header j = refl
+  unfolding headerChecks standingChecks
+  numbered-header j = numbered-append (readChecks Kind.Extended (b .pid) (slot (framePackets * j) group)) _ (numbered-read Kind.Extended (b .pid) (slot (framePackets * j) group)) refl
 
   numbered-headers : (j n : ℕ) → numbered (headersChecks b group j n) ≡ true
   unfolding headersChecks

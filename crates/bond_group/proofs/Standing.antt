@@ -16,7 +16,8 @@ use Rattle.setting.specs.Refusal.{NoneHolds}
 use Rattle.setting.specs.Rules.{ruleChecks, bondingChecks}
 use Rattle.setting.proofs.Refusals.{none-at, none-before, none-behind}
 use Rattle.setting.proofs.Fields.{at-most, bonding-none}
-use Rattle.header_layout.specs.Header.{packetChecks}
+use Rattle.header_layout.specs.Header.{packetChecks, reservedChecks}
+use Rattle.header_check.specs.Checking.{readChecks}
 use Rattle.packet.specs.Packets.{slot}
 use Rattle.bond_group.specs.declared.Bond.{Bond}
 use Rattle.bond_group.specs.declared.headers.Shown.{Shown}
@@ -88,12 +89,13 @@ pub record Stands (b : Bond) (group : List ℕ) (j : ℕ) : Type 0 where
   pub following : Follows (b .carriers) (said group 0 .«group_id») (before group j) (shownBy (said group j))
 
 pub stands : (b : Bond) (group : List ℕ) (j : ℕ) → NoneHolds (headerChecks b group j) → Stands b group j
-unfolding headerChecks
+unfolding headerChecks readChecks said
 stands b group j n =
-    let r = none-behind (packetChecks (b .pid) (slot (framePackets * j) group)) n in
+    let p = slot (framePackets * j) group in
+    let read = none-before (readChecks Kind.Extended (b .pid) p) _ n in
     record {
-      bond = bonds (said group j) (none-before (ruleChecks Kind.Extended (said group j)) _ r);
-      following = follows (b .carriers) (said group 0 .«group_id») (before group j) (shownBy (said group j)) (none-behind (ruleChecks Kind.Extended (said group j)) r);
+      bond = bonds (said group j) (none-behind (reservedChecks Kind.Extended p) (none-behind (packetChecks (b .pid) p) read));
+      following = follows (b .carriers) (said group 0 .«group_id») (before group j) (shownBy (said group j)) (none-behind (readChecks Kind.Extended (b .pid) p) n);
     }
 
 pub headers-each : (b : Bond) (group : List ℕ) (s n : ℕ) → NoneHolds (headersChecks b group s n) → (i : ℕ) → i < n → NoneHolds (headerChecks b group (s + i))

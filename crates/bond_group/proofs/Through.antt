@@ -14,11 +14,12 @@ use Rattle.setting.specs.declared.Kind.{Kind}
 use Rattle.counters.specs.Counters.{lastSlot, lastPosition, lastCarrier}
 use Rattle.setting.specs.Setting.{blank}
 use Rattle.setting.specs.Refusal.{Check, NoneHolds, firstOf}
-use Rattle.setting.specs.Rules.{pidAllowed, ruleChecks, bondingChecks}
+use Rattle.setting.specs.Rules.{pidAllowed}
 use Rattle.setting.proofs.Refusals.{answers, first-none, onward, at-once, none-append, none-before, none-behind, none-first}
 use Rattle.header_check.specs.declared.Checked.{Checked}
-use Rattle.header_layout.specs.Header.{headerLength, packetChecks, reading}
-use Rattle.header_check.specs.Checking.{readRefusal, partsOf, checkedOf}
+use Rattle.header_layout.specs.Header.{headerLength, reading}
+use Rattle.header_check.specs.Checking.{readChecks, readRefusal, partsOf, checkedOf}
+use Rattle.header_check.proofs.Accepted.{numbered-read}
 use Rattle.header_check.proofs.Asked.{refusal-is, parts-are}
 use Rattle.header_layout.proofs.Calls.{right-call}
 use Rattle.packet.specs.Packets.{packetLength, frameLength, slot}
@@ -111,9 +112,9 @@ module _ (b : Bond) (group : List ℕ) where
       let a : frameLength lastSlot * j ≡ packetLength * (framePackets * j) = omega arith in
       ap₂ (λ (x y : ℕ). take x (drop y group)) n a
 
-  -- 3 to 11
-  abbrev readChecks : ℕ → List Check
-  readChecks j = packetChecks (b .pid) (slot (framePackets * j) group) ++ ruleChecks Kind.Extended (said group j)
+  -- the checks of a read
+  abbrev ofRead : ℕ → List Check
+  ofRead j = readChecks Kind.Extended (b .pid) (slot (framePackets * j) group)
 
   module _ (allowed : pidAllowed (b .pid) ≡ true) (j : ℕ) (l : j < framesIn group) where
     header-long : length (slot (framePackets * j) group) ≡ headerLength
@@ -121,8 +122,8 @@ module _ (b : Bond) (group : List ℕ) where
     header-long =
         length-take-le packetLength (drop (packetLength * (framePackets * j)) group) (rw length-drop (omega arith))
 
-    read-refusal : readRefusal Kind.Extended (b .pid) (part j) ≡ firstOf (readChecks j)
-    unfolding readRefusal said
+    read-refusal : readRefusal Kind.Extended (b .pid) (part j) ≡ firstOf (ofRead j)
+    unfolding readRefusal
     read-refusal =
         ap (readRefusal Kind.Extended (b .pid)) (part-is j)
         ∙ right-call (b .pid) (length (slot (framePackets * j) group)) _ header-long allowed
@@ -130,13 +131,12 @@ module _ (b : Bond) (group : List ℕ) where
     abbrev standing : List Check
     standing = standingChecks (b .carriers) (said group 0 .«group_id») (before group j) (shownBy (said group j))
 
-    split : headerChecks b group j ≡ readChecks j ++ standing
+    split : headerChecks b group j ≡ ofRead j ++ standing
     unfolding headerChecks
-    split = sym (append-assoc (packetChecks (b .pid) (slot (framePackets * j) group)) (ruleChecks Kind.Extended (said group j)) standing)
+    split = refl
 
-    read-none : firstOf (readChecks j) ≡ 0 → NoneHolds (readChecks j)
-    unfolding packetChecks ruleChecks bondingChecks
-    read-none e = none-first (readChecks j) refl e
+    read-none : firstOf (ofRead j) ≡ 0 → NoneHolds (ofRead j)
+    read-none e = none-first (ofRead j) (numbered-read Kind.Extended (b .pid) (slot (framePackets * j) group)) e
 
     -- what the part says is what frame j's header says
     pub part-long : length (part j) ≡ headerLength
@@ -162,14 +162,14 @@ module _ (b : Bond) (group : List ℕ) where
           ap (λ (n : ℕ). firstOf (headersChecks b group 0 n ++ ((14, not (isEnd (b .carriers) (before group (framesIn group)))) ∷ []))) f
           ∙ refused-at 0 j k ((14, not (isEnd (b .carriers) (before group (framesIn group)))) ∷ []) (t .passed) (λ z. d (sym e′ ∙ z)) ∙ e′
 
-      -- refused with 3 to 11
+      -- refused as a header
       pub read-refused : (r : Checked) → r ≡ checkedOf Kind.Extended (b .pid) (part j) → (r .refusal ≡ 0 → ⊥) → firstOf (groupChecks b group) ≡ r .refusal
       read-refused r e d =
-          let f : r .refusal ≡ firstOf (readChecks j) = sym (refusal-is Kind.Extended (b .pid) (part j) r e) ∙ read-refusal in
-          answer (r .refusal) (ap firstOf split ∙ at-once (readChecks j) standing (λ z. d (f ∙ z)) ∙ sym f) d
+          let f : r .refusal ≡ firstOf (ofRead j) = sym (refusal-is Kind.Extended (b .pid) (part j) r e) ∙ read-refusal in
+          answer (r .refusal) (ap firstOf split ∙ at-once (ofRead j) standing (λ z. d (f ∙ z)) ∙ sym f) d
 
       module _ (r : Checked) (e : r ≡ checkedOf Kind.Extended (b .pid) (part j)) (z : r .refusal ≡ 0) where
-        accepted : NoneHolds (readChecks j)
+        accepted : NoneHolds (ofRead j)
         accepted = read-none (sym read-refusal ∙ refusal-is Kind.Extended (b .pid) (part j) r e ∙ z)
 
         -- refused with 14

@@ -21,7 +21,8 @@ use Rattle.setting_bytes.specs.Words.{wordBytes}
 use Rattle.setting_bytes.specs.Kinds.{kindNumber}
 use Rattle.setting_bytes.specs.Settings.{announcedBytes, settingBytes}
 use Rattle.counters.specs.Counters.{lastSlot, available}
-use Rattle.header_layout.specs.Header.{reading, packetChecks}
+use Rattle.header_layout.specs.Header.{reading}
+use Rattle.header_check.specs.Checking.{readChecks}
 use Rattle.header_check.proofs.Accepted.{shown}
 use Rattle.packet.specs.Packets.{packetLength, frameLength, slot, unfit}
 use Rattle.composer.specs.Composing.{saying}
@@ -79,8 +80,7 @@ theBond = record { carriers = 1; pid = thePid; «ts_id» = 0; «original_network
 -- a frame whose header says a setting, with stream 1 in slot 1
 record Says (position : ℕ) (f : List ℕ) : Type 0 where
   long : length f ≡ frameLength lastSlot
-  packet : NoneHolds (packetChecks thePid (slot 0 f))
-  rules : NoneHolds (ruleChecks Kind.Extended (reading Kind.Extended (slot 0 f)))
+  checks : NoneHolds (readChecks Kind.Extended thePid (slot 0 f))
   shows : shownBy (reading Kind.Extended (slot 0 f)) ≡ shownBy (at position)
   carried : carries theBond (reading Kind.Extended (slot 0 f)) ≡ true
   in-slot-1 : bondedSlot theBond (reading Kind.Extended (slot 0 f)) 1 ≡ true
@@ -109,8 +109,7 @@ module _ (position counter version : ℕ) where
       let s = shown Kind.Extended thePid (slot 0 f) (r .0) in
       record {
         long = frame-length Kind.Extended thePid h g;
-        packet = s .packet;
-        rules = s .rules;
+        checks = s .checks;
         shows = ap shownBy (r .1) ∙ shows-it;
         carried = ap (carries theBond) (r .1) ∙ carries-it;
         in-slot-1 = ap (λ (x : Setting). bondedSlot theBond x 1) (r .1) ∙ slot-1-has-it;
@@ -190,9 +189,8 @@ module _ (f₁ f₂ f₃ : List ℕ) (s₁ : Says 1 f₁) (s₂ : Says 2 f₂) (
       → NoneHolds (standingChecks 1 0 (before group j) (shownBy (at position))) → NoneHolds (headerChecks theBond group j)
   unfolding headerChecks
   head-none j position l s stands =
-      none-append (subst (λ (p : List ℕ). NoneHolds (packetChecks thePid p)) (sym (head-at frames j each-long l)) (s .packet))
-      (none-append (subst (λ (x : Setting). NoneHolds (ruleChecks Kind.Extended x)) (sym (said-is j l)) (s .rules))
-      (rw (group-id, shows-at j position l s) stands))
+      none-append (subst (λ (p : List ℕ). NoneHolds (readChecks Kind.Extended thePid p)) (sym (head-at frames j each-long l)) (s .checks))
+      (rw (group-id, shows-at j position l s) stands)
 
   first-stands : NoneHolds (standingChecks 1 0 (before group 0) (shownBy (at 1)))
   unfolding standingChecks before shownBy blank isEnd isLast nextCarrier nextPosition oneSlot

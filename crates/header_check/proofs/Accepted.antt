@@ -40,6 +40,11 @@ numbered-rules Kind.Plain s = refl
 numbered-rules Kind.Extended s = refl
 numbered-rules Kind.Short s = refl
 
+-- no check of a read has the number 0
+pub numbered-read : (kind : Kind) (pid : ℕ) (p : List ℕ) → numbered (readChecks kind pid p) ≡ true
+unfolding readChecks packetChecks
+numbered-read kind pid p = numbered-append (reservedChecks kind p) (ruleChecks kind (reading kind p)) (numbered-reserved kind p) (numbered-rules kind (reading kind p))
+
 -- what the checks of a read leave of an accepted packet
 pub record Shown (kind : Kind) (pid : ℕ) (p : List ℕ) : Type 0 where
   pub whole : length p ≡ headerLength
@@ -73,7 +78,7 @@ shown kind pid p e =
     }
   where
     h : NoneHolds (callChecks pid (length p) ++ readChecks kind pid p)
-    h = none-first (callChecks pid (length p) ++ readChecks kind pid p) (numbered-append (reservedChecks kind p) (ruleChecks kind (reading kind p)) (numbered-reserved kind p) (numbered-rules kind (reading kind p))) e
+    h = none-first (callChecks pid (length p) ++ readChecks kind pid p) (numbered-read kind pid p) e
 
     behind : NoneHolds (reservedChecks kind p ++ ruleChecks kind (reading kind p))
     behind = none-behind (packetChecks pid p) (none-behind (callChecks pid (length p)) h)
