@@ -4,7 +4,10 @@ use crate::lent::Lent;
 use std::fmt::Debug;
 
 /// Refusal numbers, and 0 for none.
-pub const NUMBERS: usize = 18;
+pub const NUMBERS: usize = 21;
+
+/// Those among them that no call answers.
+const OF_NO_CALL: [usize; 2] = [18, 19];
 
 macro_rules! calls {
     ($($call:ident $name:literal $refuses:expr;)*) => {
@@ -30,7 +33,7 @@ calls! {
     SettingWidths "setting_widths" &[1, 17];
     SettingRules "setting_rules" &[1, 17, 8, 9, 10, 11];
     HeaderWrite "header_write" &[1, 2, 17, 8, 9, 10, 11];
-    HeaderRead "header_read" &[1, 2, 17, 3, 4, 5, 6, 7, 8, 9, 10, 11];
+    HeaderRead "header_read" &[1, 2, 17, 3, 4, 5, 6, 7, 20, 8, 9, 10, 11];
     PlaceRefusal "place_refusal" &[1, 12];
     ComposerStart "composer_start" &[1, 2, 17];
     ComposerBegin "composer_begin" &[1, 2, 17, 8, 9, 10, 11];
@@ -40,9 +43,9 @@ calls! {
     ReceiverStart "receiver_start" &[1, 2, 17];
     ReceiverReceive "receiver_receive" &[1, 2, 17];
     ReceiverHandOut "receiver_hand_out" &[1, 2, 17, 16, 15];
-    ReadHeaders "read_headers" &[1, 2, 17, 3, 4, 5, 6, 7, 8, 9, 10, 11, 14];
-    Spread "spread" &[1, 2, 17, 3, 4, 5, 6, 7, 8, 9, 10, 11, 14, 13, 15, 12];
-    Gather "gather" &[1, 2, 17, 3, 4, 5, 6, 7, 8, 9, 10, 11, 14, 13, 15];
+    ReadHeaders "read_headers" &[1, 2, 17, 3, 4, 5, 6, 7, 20, 8, 9, 10, 11, 14];
+    Spread "spread" &[1, 2, 17, 3, 4, 5, 6, 7, 20, 8, 9, 10, 11, 14, 13, 15, 12];
+    Gather "gather" &[1, 2, 17, 3, 4, 5, 6, 7, 20, 8, 9, 10, 11, 14, 13, 15];
 }
 
 /// How often each call answered with each number.
@@ -126,7 +129,7 @@ pub fn unreached(judge: &Judge) -> Vec<String> {
             }
         }
     }
-    for number in 1..NUMBERS {
+    for number in (1..NUMBERS).filter(|number| !OF_NO_CALL.contains(number)) {
         if judge.tally.iter().all(|row| row[number] == 0) {
             unreached.push(format!("{number} was never reached"));
         }

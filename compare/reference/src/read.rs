@@ -2,8 +2,8 @@
 
 use crate::crc::crc32;
 use crate::layout::{
-    AUXILIARY, BEFORE_COUNTER, BONDING, PACKET_BYTES, SYNC_BYTE, THIRTEEN_BITS, TSMF_SYNC,
-    UNDER_CRC,
+    AUXILIARY, BEFORE_COUNTER, BONDING, PACKET_BYTES, RESERVED, SYNC_BYTE, THIRTEEN_BITS,
+    TSMF_SYNC, UNDER_CRC,
 };
 use crate::numbers::unpack;
 use crate::packet::{found_pid, sixteen};
@@ -17,6 +17,7 @@ pub fn read(packet: &[u8], pid: u16, kind: Kind) -> Result<Setting, u8> {
     fixed_bits(packet, pid)?;
     // Behind its own CRC the register is zero.
     unless(crc32(&packet[UNDER_CRC.start..]) == 0, 7)?;
+    by_kind!(kind, kind => reserved_bits(packet, kind))?;
     let setting = by_kind!(kind, kind => fields(packet, kind));
     content(kind, &setting)?;
     Ok(setting)
@@ -29,6 +30,29 @@ fn fixed_bits(packet: &[u8; PACKET_BYTES], pid: u16) -> Checked {
     unless(found_pid(packet) == pid, 4)?;
     unless(packet[1] >> 5 == 0 && packet[3] & 0xF0 == BEFORE_COUNTER, 5)?;
     unless(sixteen(packet, 4) & THIRTEEN_BITS == TSMF_SYNC, 6)
+}
+
+/// 20: ones in all reserved bits. A zero is another maker's flag, of a dialect
+/// that is not J.183's (K8). Of a header with ones nothing is lost: written
+/// again, it has the same bytes.
+#[inline(always)]
+fn reserved_bits(packet: &[u8; PACKET_BYTES], kind: Kind) -> Checked {
+    let size = kind.size();
+    let before_sync = packet[4] | 0x1F;
+    let behind_availability = packet[size.availability().end - 1] | 0xFE;
+    let before_emergency = packet[size.control().end - 1] | 0xFD;
+    let behind_bonding = match kind {
+        Kind::Plain | Kind::Short => 0xFF,
+        Kind::Extended => every_bit(&packet[RESERVED]),
+    };
+    let bits = before_sync & behind_availability & before_emergency & behind_bonding;
+    unless(bits == 0xFF, 20)
+}
+
+/// The bits that all of the bytes have.
+#[inline]
+fn every_bit(bytes: &[u8]) -> u8 {
+    bytes.iter().fold(0xFF, |bits, byte| bits & byte)
 }
 
 #[inline(always)]

@@ -1,6 +1,7 @@
 //! The rules that a setting meets or breaks, each with its refusal number.
 //! Writer, reader and composer share 8 to 11. The reader has no 17, because
-//! a packet has no room for a field that is too large.
+//! a packet has no room for a field that is too large. It alone has 20, because
+//! a setting has no reserved bits.
 
 use crate::announced::Announced;
 use crate::layout::{

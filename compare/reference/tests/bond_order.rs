@@ -1,10 +1,11 @@
-//! Each two faults of a spread or a gather at once: the one that is looked
-//! for first answers, and all buffers stay.
+//! Each two faults of a spread, a gather or a read_headers at once: the one
+//! that is looked for first answers, and all buffers stay.
 
 mod common;
 
 use common::bond_calls::{call_of, good_settings, Call};
-use common::make_crc_right;
+use common::{clear_reserved, make_crc_right, reserved_bits};
+use reference::Kind;
 use reference::FRAME_BYTES;
 
 /// One fault for each refusal that a header can bring about by itself. Those
@@ -16,6 +17,7 @@ fn spoil(header: &mut [u8; 188], refusal: u8) {
         5 => header[3] |= 0x80,
         6 => header[5] = 0,
         7 => header[100] = 1,
+        20 => clear_reserved(header, (183, 0x01)),
         8 => header[6] |= 0x0F,
         9 => header[98] |= 1,
         10 => header[20] = 0,
@@ -44,7 +46,8 @@ fn fault(refusal: u8, make: impl Fn(&mut Call) + 'static) -> Fault {
     Fault { refusal, make }
 }
 
-const OF_A_HEADER: [u8; 10] = [3, 4, 5, 6, 7, 8, 9, 10, 11, 14];
+/// In the order in which they are looked for.
+const OF_A_HEADER: [u8; 11] = [3, 4, 5, 6, 7, 20, 8, 9, 10, 11, 14];
 
 fn header_faults(frame: usize) -> Vec<Fault> {
     let of = |refusal| {
@@ -86,30 +89,39 @@ fn frame_left_over() -> Vec<Fault> {
 
 type Answer = fn(&mut Call) -> Result<usize, u8>;
 
-/// The answer to a call with faults. The earlier fault comes last, so that it
-/// is there also where both change the same thing.
-fn answer(faults: &[&Fault], make: Answer) -> u8 {
+/// A call with faults. The earlier fault comes last, so that it is there also
+/// where both change the same thing.
+fn call_with(faults: &[&Fault]) -> Call {
     let mut call = call_of(&good_settings());
     for fault in faults.iter().rev() {
         (fault.make)(&mut call);
     }
+    call
+}
+
+/// The answer of spread or of gather.
+fn answer(mut call: Call, make: Answer) -> u8 {
     let before = call.clone();
     let answer = make(&mut call);
     assert_eq!(call == before, answer.is_err());
     answer.err().unwrap_or(0)
 }
 
-fn check_order(faults: &[Fault], make: Answer) {
-    assert_eq!(answer(&[], make), 0);
+fn check_order(faults: &[Fault], answer: impl Fn(Call) -> u8) {
+    assert_eq!(answer(call_with(&[])), 0);
     for (place, first) in faults.iter().enumerate() {
         for second in &faults[place..] {
-            let found = answer(&[first, second], make);
+            let found = answer(call_with(&[first, second]));
             assert_eq!(found, first.refusal, "and not {}", second.refusal);
         }
     }
 }
 
-fn check_call(early: fn() -> Vec<Fault>, late: fn() -> Vec<Fault>, make: Answer) {
+fn check_call(
+    early: fn() -> Vec<Fault>,
+    late: fn() -> Vec<Fault>,
+    answer: impl Fn(Call) -> u8 + Copy,
+) {
     for end in [frames_missing, frame_left_over] {
         let mut faults = early();
         for frame in [0, 1, 5] {
@@ -117,7 +129,7 @@ fn check_call(early: fn() -> Vec<Fault>, late: fn() -> Vec<Fault>, make: Answer)
         }
         faults.extend(end());
         faults.extend(late());
-        check_order(&faults, make);
+        check_order(&faults, answer);
     }
 }
 
@@ -135,11 +147,35 @@ fn order_of_spread() {
             fault(12, |call| call.stream[188 * 3] = 0x46),
         ])
     };
-    check_call(first, last, Call::spread);
+    check_call(first, last, |call| answer(call, Call::spread));
 }
 
 #[test]
 fn order_of_gather() {
     let last = || late(vec![fault(15, |call| call.buffer.truncate(188 * 70 - 1))]);
-    check_call(early, last, Call::gather);
+    check_call(early, last, |call| answer(call, Call::gather));
+}
+
+#[test]
+fn order_of_read_headers() {
+    check_call(early, Vec::new, |call| call.headers_refusal());
+}
+
+/// Every reserved bit of any frame's header, with each other fault of it.
+#[test]
+fn reserved_bits_in_their_place() {
+    for (place, bit) in reserved_bits(Kind::Extended).into_iter().enumerate() {
+        let frame = place % 7;
+        for other in OF_A_HEADER {
+            let mut call = call_of(&good_settings());
+            let header = call.header(frame);
+            spoil(header, other);
+            clear_reserved(header, bit);
+            // The CRC is right now, and for a 7 it is not to be.
+            header[187] ^= u8::from(other == 7);
+            let expected = if other <= 7 { other } else { 20 };
+            assert_eq!(call.refusals(), [expected; 2], "{bit:?} and {other}");
+            assert_eq!(call.headers_refusal(), expected);
+        }
+    }
 }

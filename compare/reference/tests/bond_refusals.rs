@@ -1,13 +1,13 @@
 //! What spread and gather refuse, number by number, with all buffers as they
-//! were.
+//! were; and what read_headers does of a header.
 
 mod common;
 
 use common::bond_calls::{call_of, good_settings, Call};
 use common::frames::ordinary;
 use common::groups::{drawn_frames, drawn_settings, group};
-use common::{make_crc_right, Random, PID};
-use reference::{Setting, FRAME_BYTES};
+use common::{clear_reserved, make_crc_right, reserved_bits, Random, PID};
+use reference::{Kind, Setting, FRAME_BYTES};
 
 fn answers_to(change: impl Fn(&mut Call)) -> [u8; 2] {
     let mut call = call_of(&good_settings());
@@ -46,6 +46,16 @@ fn seventeen_carrier_counts() {
         };
         let answers = answers_to(|call| call.asked.carriers = carriers);
         assert_eq!(answers, [expected; 2]);
+    }
+}
+
+/// Each bit alone, in any frame's header.
+#[test]
+fn twenty_reserved_bits_at_zero() {
+    for (place, bit) in reserved_bits(Kind::Extended).into_iter().enumerate() {
+        let mut call = call_of(&good_settings());
+        clear_reserved(call.header(place % 7), bit);
+        assert_eq!((call.refusals(), call.headers_refusal()), ([20; 2], 20));
     }
 }
 
@@ -158,7 +168,7 @@ fn twelve_packets_not_to_be_placed() {
 #[test]
 fn any_content() {
     let mut random = Random(62);
-    let mut refused = [0; 18];
+    let mut refused = [0; 21];
     for _ in 0..400 {
         let frames = drawn_frames(&mut random);
         let settings = drawn_settings(&mut random, &frames);
@@ -179,5 +189,5 @@ fn any_content() {
             refused[usize::from(refusal)] += 1;
         }
     }
-    assert!([0, 7, 14, 15, 17].iter().all(|&r| refused[r] > 0));
+    assert!([0, 7, 14, 15, 17, 20].iter().all(|&r| refused[r] > 0));
 }

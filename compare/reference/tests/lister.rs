@@ -1,6 +1,6 @@
 mod common;
 
-use common::{good, header, least, Random};
+use common::{clear_reserved, good, header, least, make_crc_right, reserved_bits, Random};
 use reference::{list, Kind};
 
 #[test]
@@ -37,4 +37,42 @@ fn extended_headers() {
     setting.frame_type = 2;
     input.extend_from_slice(&header(Kind::Extended, &setting));
     assert_eq!(list(&input), "0 header 0 0 0\n1 refused 8\n");
+}
+
+/// Each reserved bit of a plain header by itself.
+#[test]
+fn reserved_bits_at_zero() {
+    let mut input = Vec::new();
+    let mut expected = String::new();
+    for (number, bit) in reserved_bits(Kind::Plain).into_iter().enumerate() {
+        let mut packet = header(Kind::Plain, &good(&mut Random(8), Kind::Plain));
+        clear_reserved(&mut packet, bit);
+        input.extend(packet);
+        expected += &format!("{number} refused 20\n");
+    }
+    assert_eq!(expected.lines().count(), 5);
+    assert_eq!(list(&input), expected);
+}
+
+/// With a wrong CRC it is a 7, and with another frame_type still a 20.
+#[test]
+fn reserved_bits_and_another_fault() {
+    let mut packet = header(Kind::Plain, &least(Kind::Plain));
+    clear_reserved(&mut packet, (72, 0x02));
+    let mut input = packet.to_vec();
+    packet[187] ^= 1;
+    input.extend(packet);
+    packet[6] = 2;
+    make_crc_right(&mut packet);
+    input.extend(packet);
+    assert_eq!(list(&input), "0 refused 20\n1 refused 7\n2 refused 20\n");
+}
+
+/// What is reserved in an extended header alone is private data to the lister.
+#[test]
+fn bytes_behind_the_bonding_fields() {
+    let mut packet = header(Kind::Extended, &least(Kind::Extended));
+    packet[131..184].fill(0);
+    make_crc_right(&mut packet);
+    assert_eq!(list(&packet), "0 header 0 0 0\n");
 }

@@ -4,7 +4,7 @@
 mod common;
 
 use common::frames::{drawn_frame, run, Lent};
-use common::{Random, KINDS, PID};
+use common::{clear_reserved, reserved_bits, Random, KINDS, PID};
 use reference::{read, Event, Kind};
 
 /// The most headers in a row that may be lost or spoiled; behind one more, a
@@ -21,7 +21,7 @@ struct Sent {
 
 /// How a frame fares. One with all of its packets lost leaves no trace, and
 /// half of one behind another half may look like a whole one.
-fn send(random: &mut Random, frame: Vec<u8>, header_may_go: bool) -> Sent {
+fn send(random: &mut Random, kind: Kind, frame: Vec<u8>, header_may_go: bool) -> Sent {
     let mut packets: Vec<Vec<u8>> = frame.chunks_exact(188).map(<[u8]>::to_vec).collect();
     let header_goes = header_may_go && random.below(3) == 0;
     let (half, end) = (packets.len().div_ceil(2), packets.len());
@@ -37,7 +37,7 @@ fn send(random: &mut Random, frame: Vec<u8>, header_may_go: bool) -> Sent {
     };
     packets.drain(from..to);
     if header_goes {
-        spoil_or_lose(random, &mut packets);
+        spoil_or_lose(random, kind, &mut packets);
     }
     Sent {
         frame,
@@ -47,11 +47,18 @@ fn send(random: &mut Random, frame: Vec<u8>, header_may_go: bool) -> Sent {
     }
 }
 
-fn spoil_or_lose(random: &mut Random, packets: &mut Vec<Vec<u8>>) {
-    match random.below(3) {
+fn spoil_or_lose(random: &mut Random, kind: Kind, packets: &mut Vec<Vec<u8>>) {
+    match random.below(4) {
         0 => drop(packets.remove(0)),
         // As an ordinary packet it would be stored, were there room.
         1 => packets[0][1..3].fill(0),
+        // Only a reserved bit is another, and the CRC is right.
+        2 => {
+            let bits = reserved_bits(kind);
+            let bit = bits[random.below(bits.len() as u64) as usize];
+            let header = packets[0].as_mut_slice().try_into();
+            clear_reserved(header.expect("a packet"), bit);
+        }
         _ => {
             let byte = 4 + random.below(184) as usize;
             packets[0][byte] ^= 0x10;
@@ -65,7 +72,7 @@ fn send_run(random: &mut Random, kind: Kind, frames: usize) -> Vec<Sent> {
     let mut sent = Vec::new();
     for _ in 0..frames {
         let frame = drawn_frame(random, &mut composer);
-        let next = send(random, frame, gone < MOST_IN_A_ROW);
+        let next = send(random, kind, frame, gone < MOST_IN_A_ROW);
         gone = if next.header_arrives { 0 } else { gone + 1 };
         sent.push(next);
     }

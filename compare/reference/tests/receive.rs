@@ -3,7 +3,7 @@
 mod common;
 
 use common::frames::{counted_header, drawn_frame, ordinary, run, Lent};
-use common::{Random, KINDS, PID};
+use common::{clear_reserved, reserved_bits, Random, KINDS, PID};
 use reference::{read, Event, Kind, Standing};
 
 /// A frame's packets of a stream, by its own header.
@@ -61,12 +61,22 @@ fn spoilt_header(kind: Kind) -> [u8; 188] {
     packet
 }
 
+/// The header that is due, but for a reserved bit at zero.
+fn foreign_header(kind: Kind, reserved: (usize, u8)) -> [u8; 188] {
+    let mut packet = counted_header(kind, 8);
+    clear_reserved(&mut packet, reserved);
+    packet
+}
+
 #[test]
 fn while_waiting_only_a_good_header_counts() {
     for kind in KINDS {
         let mut lent = Lent::new(kind);
         let store = lent.store.clone();
-        for packet in [&ordinary(0), &spoilt_header(kind), &[0; 188]] {
+        let mut packets = vec![ordinary(0), spoilt_header(kind), [0; 188]];
+        let foreign = |bit| foreign_header(kind, bit);
+        packets.extend(reserved_bits(kind).into_iter().map(foreign));
+        for packet in &packets {
             let before = lent.receiver.clone();
             assert_eq!(lent.receive(packet), Event::Nothing);
             assert_eq!(lent.receiver, before);
@@ -91,6 +101,26 @@ fn broken_packets_drop_the_frame() {
                 assert_eq!(lent.receive(packet), Event::Broken);
                 assert_eq!(lent.receiver.standing, Standing::Waiting);
                 assert_eq!(lent.store, store);
+            }
+        }
+    }
+}
+
+/// Each reserved bit by itself: the frame before is not vouched for, and none
+/// opens.
+#[test]
+fn a_reserved_bit_at_zero_drops_the_frame() {
+    for kind in KINDS {
+        let slots = kind.size().slots;
+        for bit in reserved_bits(kind) {
+            for stored in [0, slots] {
+                let mut lent = opened(kind, stored);
+                let store = lent.store.clone();
+                assert_eq!(lent.receive(&foreign_header(kind, bit)), Event::Broken);
+                assert_eq!(lent.receiver.standing, Standing::Waiting);
+                assert_eq!(lent.receive(&ordinary(99)), Event::Nothing);
+                assert_eq!(lent.store, store);
+                assert_eq!(lent.receive(&counted_header(kind, 9)), Event::Opened);
             }
         }
     }
@@ -129,6 +159,7 @@ fn a_ready_frame_stays_until_the_next_accepted_packet() {
             (&ordinary(99)[..], Event::Stored),
             (&counted_header(kind, 9), Event::Short),
             (&spoilt_header(kind), Event::Broken),
+            (&foreign_header(kind, (4, 0x20)), Event::Broken),
         ];
         for (packet, event) in behind {
             let mut lent = ready(kind);

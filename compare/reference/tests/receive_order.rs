@@ -4,7 +4,7 @@
 mod common;
 
 use common::frames::{counted_header, ordinary, receiver, Lent};
-use common::KINDS;
+use common::{clear_reserved, reserved_bits, KINDS};
 use reference::{Event, Kind, Receiver, Standing};
 
 /// All that the calls are given.
@@ -83,6 +83,22 @@ fn check_order(faults: &[Fault], make: fn(&mut Call) -> u8) {
 fn receive() {
     check_order(&RECEIVE, |call| {
         let received = call.state.receive(&mut call.store, &call.packet);
+        received.err().unwrap_or(0)
+    });
+}
+
+/// A header with a reserved bit at zero is no fault of the call, as no packet
+/// of 188 bytes is: faults come before it, and without them it is broken.
+#[test]
+fn receive_a_header_with_a_reserved_bit_at_zero() {
+    check_order(&RECEIVE, |call| {
+        let kind = call.state.kind;
+        let mut header = counted_header(kind, 1);
+        clear_reserved(&mut header, reserved_bits(kind)[4]);
+        let length = call.packet.len();
+        call.packet.copy_from_slice(&header[..length]);
+        let received = call.state.receive(&mut call.store, &call.packet);
+        assert!(received.is_err() || received == Ok(Event::Broken));
         received.err().unwrap_or(0)
     });
 }

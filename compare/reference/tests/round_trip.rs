@@ -1,7 +1,11 @@
 mod common;
 
-use common::{good, header, least, make_crc_right, reserved_bytes, Random, KINDS, PID};
+use common::{
+    clear_reserved, good, header, least, make_crc_right, reserved_bits, reserved_bytes, Random,
+    KINDS, PID,
+};
 use reference::{crc32, read, write, Kind};
+use std::ops::Range;
 
 #[test]
 fn settings_are_read_back_equal() {
@@ -55,25 +59,88 @@ fn all_bonding_fields() {
 }
 
 #[test]
-fn reserved_bits_are_ignored() {
+fn every_reserved_bit_at_zero_is_refused() {
     let mut random = Random(2);
     for kind in KINDS {
-        let setting = good(&mut random, kind);
-        let mut packet = header(kind, &setting);
-        let [availability, control] = reserved_bytes(kind);
-        packet[4] &= 0x1F;
-        packet[availability] &= 0xFE;
-        packet[control] &= 0xFD;
-        if kind == Kind::Extended {
-            packet[131..184].fill(0);
+        let bits = reserved_bits(kind);
+        let bytes_of_them = if kind == Kind::Extended { 53 } else { 0 };
+        assert_eq!(bits.len(), 3 + 1 + 1 + 8 * bytes_of_them);
+        let whole = header(kind, &good(&mut random, kind));
+        for (byte, bit) in bits {
+            let mut packet = whole;
+            assert_eq!(packet[byte] & bit, bit, "written as 1");
+            packet[byte] ^= bit;
+            assert_eq!(read(&packet, PID, kind), Err(7));
+            make_crc_right(&mut packet);
+            assert_eq!(read(&packet, PID, kind), Err(20), "byte {byte}, bit {bit}");
         }
-        assert_eq!(read(&packet, PID, kind), Err(7));
+    }
+}
+
+#[test]
+fn all_reserved_bits_at_zero_are_refused() {
+    for kind in KINDS {
+        let mut packet = header(kind, &good(&mut Random(5), kind));
+        for bit in reserved_bits(kind) {
+            clear_reserved(&mut packet, bit);
+        }
+        assert_eq!(packet[4], 0x1A);
+        assert_eq!(read(&packet, PID, kind), Err(20));
+    }
+}
+
+/// Where plain and short headers have private data.
+fn private_data(kind: Kind) -> Range<usize> {
+    match kind {
+        Kind::Plain => 99..184,
+        Kind::Extended => panic!("an extended header has none"),
+        Kind::Short => 53..184,
+    }
+}
+
+#[test]
+fn private_data_is_not_reserved() {
+    for kind in [Kind::Plain, Kind::Short] {
+        let mut setting = good(&mut Random(6), kind);
+        let mut packet = header(kind, &setting);
+        packet[private_data(kind)].fill(0);
         make_crc_right(&mut packet);
+        setting.private_data = [0; 131];
         assert_eq!(read(&packet, PID, kind), Ok(setting));
     }
 }
 
-/// The bit before it is reserved: written as 1, and read as either.
+/// A header in which up to four bits are other ones than the writer's, and the
+/// CRC is right.
+fn changed(random: &mut Random, kind: Kind) -> [u8; 188] {
+    let mut packet = header(kind, &good(random, kind));
+    for _ in 0..=random.below(4) {
+        let byte = 3 + random.below(181) as usize;
+        packet[byte] ^= 1 << random.below(8);
+    }
+    make_crc_right(&mut packet);
+    packet
+}
+
+/// The bytes of an accepted header are those that its setting is written as.
+#[test]
+fn accepted_headers_are_written_again_equal() {
+    let mut random = Random(7);
+    for kind in KINDS {
+        let mut answers = [0; 21];
+        for _ in 0..4000 {
+            let packet = changed(&mut random, kind);
+            let answer = read(&packet, PID, kind);
+            answers[usize::from(*answer.as_ref().err().unwrap_or(&0))] += 1;
+            if let Ok(setting) = answer {
+                assert_eq!(header(kind, &setting), packet);
+            }
+        }
+        assert!(answers[0] > 1000 && answers[20] > 10, "{answers:?}");
+    }
+}
+
+/// The bit before it is reserved: written as 1, and refused as 0.
 #[test]
 fn emergency_is_the_last_bit_of_its_byte() {
     let mut random = Random(4);
@@ -85,7 +152,12 @@ fn emergency_is_the_last_bit_of_its_byte() {
             packet[byte] = packet[byte] & 0xFC | last;
             make_crc_right(&mut packet);
             setting.emergency_indicator = last & 1;
-            assert_eq!(read(&packet, PID, kind).as_ref(), Ok(&setting));
+            let expected = if last < 2 {
+                Err(20)
+            } else {
+                Ok(setting.clone())
+            };
+            assert_eq!(read(&packet, PID, kind), expected);
             assert_eq!(header(kind, &setting)[byte], packet[byte] | 2);
         }
     }

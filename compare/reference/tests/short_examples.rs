@@ -2,7 +2,7 @@
 
 mod common;
 
-use common::{header, least, make_crc_right, PID};
+use common::{clear_reserved, header, least, reserved_bits, PID};
 use reference::{crc32, read, Kind, Setting};
 
 fn short(change: impl Fn(&mut Setting)) -> [u8; 188] {
@@ -107,25 +107,43 @@ fn private_data() {
     assert_eq!((packet[52], packet[53], packet[183]), (0, 1, 131));
 }
 
-/// Read as a plain one, a short header is an 8, and the other way round.
+/// Read as a plain one, a short header is a 20, or, where ones stand by chance
+/// in the other kind's reserved bits, an 8.
 #[test]
-fn a_header_of_another_kind() {
+fn a_short_header_of_another_kind() {
     let packet = short(|_| ());
+    assert_eq!(read(&packet, PID, Kind::Plain), Err(20));
+    assert_eq!(read(&packet, PID, Kind::Extended), Err(20));
+    let packet = short(|s| {
+        s.ts_id[0] = 0x0100;
+        s.private_data = [0xFF; 131];
+    });
+    assert_eq!((packet[8], packet[72]), (0x01, 0xFF));
     assert_eq!(read(&packet, PID, Kind::Plain), Err(8));
     assert_eq!(read(&packet, PID, Kind::Extended), Err(8));
-    let plain = header(Kind::Plain, &least(Kind::Plain));
-    assert_eq!(read(&plain, PID, Kind::Short), Err(8));
 }
 
-/// Each bit that is reserved may be 0, and nothing else is read from it.
+/// And the other way round.
 #[test]
-fn reserved_bits() {
-    for (byte, bit) in [(4, 0x80), (4, 0x40), (4, 0x20), (7, 0x01), (37, 0x02)] {
+fn a_plain_header_read_as_a_short_one() {
+    let mut setting = least(Kind::Plain);
+    let packet = header(Kind::Plain, &setting);
+    assert_eq!(read(&packet, PID, Kind::Short), Err(20));
+    setting.availability = 0x0080;
+    setting.ts_id[7] = 0x0200;
+    let packet = header(Kind::Plain, &setting);
+    assert_eq!((packet[7], packet[37]), (0x01, 0x02));
+    assert_eq!(read(&packet, PID, Kind::Short), Err(8));
+}
+
+#[test]
+fn reserved_bits_at_zero() {
+    let bits = [(4, 0x80), (4, 0x40), (4, 0x20), (7, 0x01), (37, 0x02)];
+    assert_eq!(reserved_bits(Kind::Short), bits);
+    for (byte, bit) in bits {
         let mut packet = short(all_available);
-        let expected = read(&packet, PID, Kind::Short);
         assert_eq!(packet[byte] & bit, bit);
-        packet[byte] ^= bit;
-        make_crc_right(&mut packet);
-        assert_eq!(read(&packet, PID, Kind::Short), expected);
+        clear_reserved(&mut packet, (byte, bit));
+        assert_eq!(read(&packet, PID, Kind::Short), Err(20));
     }
 }

@@ -3,7 +3,7 @@
 use cases::generator::Generator;
 use reference::Kind;
 use tools::composing::{compose, Composed, PAIRS};
-use tools::damage::{frame_packets, Lot, Lots};
+use tools::damage::{frame_packets, reserved_bits, Lot, Lots};
 use tools::program::{option, Folder, Said};
 use tools::receiving::{receive, Choice, Counts, Received};
 
@@ -118,6 +118,49 @@ fn headers_spoiled() {
     }
 }
 
+/// As spoiled ones: a frame without a good header is dropped, and so is the one
+/// before it.
+#[test]
+fn headers_with_a_reserved_bit_at_zero() {
+    for kind in KINDS {
+        let Composed { bytes, .. } = composed(kind, 13);
+        let mut lots = Lots::whole(&bytes);
+        lots.make_headers_foreign(&mut Generator::new(14), kind, 8);
+        let counts = check(kind, &lots.arrive(&bytes));
+        assert!(counts.broken > 0 && counts.ready > FRAMES / 2);
+        assert_eq!((counts.short, counts.jump, counts.long), (0, 0, 0));
+    }
+}
+
+/// Each of them, in the header of one frame of six.
+#[test]
+fn every_reserved_bit_at_zero() {
+    for kind in KINDS {
+        let Composed { bytes, .. } = compose(&mut Generator::new(15), kind, 6, PID);
+        for (byte, bit) in reserved_bits(kind) {
+            let mut lots = Lots::whole(&bytes);
+            lots.0[3 * frame_packets(kind)] = Lot::Foreign(byte, bit);
+            let counts = check(kind, &lots.arrive(&bytes));
+            assert_eq!((counts.ready, counts.broken), (4, 1));
+        }
+    }
+}
+
+/// Of a maker whose every header is so nothing comes out.
+#[test]
+fn no_header_without_a_reserved_bit_at_zero() {
+    let folder = Folder::new();
+    for kind in KINDS {
+        let Composed { bytes, .. } = composed(kind, 16);
+        let mut lots = Lots::whole(&bytes);
+        lots.make_headers_foreign(&mut Generator::new(17), kind, 1);
+        folder.write("frames", &lots.arrive(&bytes));
+        let said = folder.run("demux", &format!("{}{PID} 1 frames", option(kind)));
+        assert!(said.out.is_empty());
+        assert!(!said.err.is_empty());
+    }
+}
+
 #[test]
 fn all_of_it_at_once() {
     for kind in KINDS {
@@ -128,6 +171,7 @@ fn all_of_it_at_once() {
         lots.some(&mut generator, 300, Lot::Doubled);
         lots.some(&mut generator, 1000, Lot::Spoiled(0));
         lots.spoil_headers(&mut generator, kind, 16);
+        lots.make_headers_foreign(&mut generator, kind, 32);
         // A whole frame is lost: the counter jumps.
         let n = frame_packets(kind);
         lots.0[n * 100..n * 101].fill(Lot::Lost);

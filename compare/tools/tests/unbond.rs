@@ -163,6 +163,16 @@ fn headers_spoiled() {
     assert!((1..30).contains(&sent.check()));
 }
 
+/// Another maker's are as spoiled ones.
+#[test]
+fn headers_with_a_reserved_bit_at_zero() {
+    for c in 0..PAIR.len() {
+        let mut sent = Sent::new(29, &PAIR, 60);
+        sent.lots[c].make_headers_foreign(&mut Generator::new(30), Kind::Extended, 12);
+        assert!((10..60).contains(&sent.check()));
+    }
+}
+
 /// One packet after another is lost, alone, in the middle of the run; where
 /// an emulator takes its time, one in so many, and each header.
 #[test]

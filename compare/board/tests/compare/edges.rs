@@ -58,7 +58,8 @@ fn settings(judge: &mut Judge, random: &mut Random, kind: Kind) {
 }
 
 /// Both values of emergency_indicator, the last bit of byte 72 or 37, are
-/// written, and each is read with the reserved bit before it at 0 and at 1.
+/// written, and each is read with the reserved bit before it at 1, and refused
+/// with it at 0.
 fn emergency(judge: &mut Judge, random: &mut Random, kind: Kind) {
     let (pid, number) = (0x1FF0, kind_byte(kind));
     let byte = if kind == Kind::Short { 37 } else { 72 };
@@ -75,10 +76,15 @@ fn emergency(judge: &mut Judge, random: &mut Random, kind: Kind) {
                 bytes[byte] = bytes[byte] & 0xFD | reserved;
                 make_crc_right(bytes);
             });
-            let mut read = Lent::new(&random.bytes(SETTING_BYTES));
+            let before = random.bytes(SETTING_BYTES);
+            let mut read = Lent::new(&before);
             let refusal = judge.header_read(&mut packet, pid, number, &mut read);
-            assert_eq!(refusal, 0, "reserved bits are ignored");
-            assert_eq!(read.bytes(), setting.bytes());
+            let (expected, bytes) = match reserved {
+                0 => (20, &before[..]),
+                _ => (0, setting.bytes()),
+            };
+            assert_eq!(refusal, expected, "the reserved bit is {reserved}");
+            assert_eq!(read.bytes(), bytes);
         }
     }
 }

@@ -1,8 +1,11 @@
-//! Good settings and states of which one byte has another value, one byte after
-//! the other: also those that a kind does not reach, and that hold zeros.
+//! Good settings, headers and states of which one byte has another value, one
+//! byte after the other: also those that a kind does not reach, and that hold
+//! zeros.
 
-use crate::draw::packets::{frames, stream};
+use crate::draw::faults::make_crc_right;
+use crate::draw::packets::{frames, header, stream};
 use crate::draw::{good, lent_setting, KINDS};
+use crate::headers::read;
 use board::coding::{
     composer_bytes, kind_byte, receiver_bytes, setting_bytes, state_size, COMPOSER_BYTES,
     RECEIVER_BYTES, SETTING_BYTES,
@@ -12,13 +15,14 @@ use board::lent::Lent;
 use board::random::Random;
 use reference::{Composer, Kind, Receiver, PACKET_BYTES};
 
-const PID: u16 = 0x1FF0;
+pub const PID: u16 = 0x1FF0;
 /// Values next to the ends of ranges; those of halves of a byte are among them.
 const VALUES: [u8; 12] = [0, 1, 2, 3, 4, 7, 8, 0x10, 0x70, 0x77, 0x80, 0xFF];
 
 pub fn round(judge: &mut Judge, random: &mut Random) {
     for kind in KINDS {
         settings(judge, random, kind);
+        headers(judge, random, kind);
         composers(judge, random, kind);
         receivers(judge, random, kind);
     }
@@ -40,6 +44,19 @@ fn settings(judge: &mut Judge, random: &mut Random, kind: Kind) {
             judge.setting_widths(&mut setting, kind_byte(kind));
             judge.setting_rules(&mut setting, kind_byte(kind));
             judge.header_write(&mut packet, PID, kind_byte(kind), &mut setting);
+        }
+    }
+}
+
+/// With the CRC as it was, and right.
+fn headers(judge: &mut Judge, random: &mut Random, kind: Kind) {
+    let good = header(PID, kind, &good(random, kind));
+    for at in 0..PACKET_BYTES {
+        for value in VALUES {
+            let mut packet = with(&good, at, value);
+            read(judge, random, &mut packet, PID, kind_byte(kind));
+            packet.change(make_crc_right);
+            read(judge, random, &mut packet, PID, kind_byte(kind));
         }
     }
 }
@@ -81,7 +98,7 @@ fn composers(judge: &mut Judge, random: &mut Random, kind: Kind) {
 }
 
 /// A receiver behind so many packets, and what it is lent.
-fn receiver(random: &mut Random, kind: Kind, packets: usize) -> (Vec<u8>, Vec<u8>) {
+pub fn receiver(random: &mut Random, kind: Kind, packets: usize) -> (Vec<u8>, Vec<u8>) {
     let (_, mut receiver) = Receiver::start(PID, kind);
     let mut store = vec![0; kind.size().store_bytes()];
     let frames = frames(random, PID, kind, 3).concat();

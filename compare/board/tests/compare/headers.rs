@@ -1,8 +1,8 @@
-//! Headers: settings written and read, settings with faults, and damaged
-//! packets.
+//! Headers: settings written and read, settings with faults, damaged packets,
+//! and headers of any bytes. What is accepted is written again.
 
 use crate::draw::faults::{damage, spoil};
-use crate::draw::packets::ordinary;
+use crate::draw::packets::{any_header, ordinary};
 use crate::draw::{good, kind, lent_setting, near_pid, number, pid};
 use board::coding::{kind_byte, SETTING_BYTES};
 use board::judge::Judge;
@@ -20,6 +20,10 @@ pub fn round(judge: &mut Judge, random: &mut Random) {
     read_back(judge, &mut packet, pid, kind, &setting);
     for _ in 0..8 {
         damaged(judge, random, packet.bytes(), pid, kind);
+    }
+    for _ in 0..2 {
+        let mut packet = Lent::new(&any_header(random, pid, kind));
+        read(judge, random, &mut packet, pid, kind_byte(kind));
     }
     // One fault, and then two and three at once.
     for _ in 0..3 {
@@ -57,7 +61,20 @@ fn damaged(judge: &mut Judge, random: &mut Random, packet: &[u8], pid: u16, kind
     }
     let (pid, kind) = (near_pid(random, pid), number(random, kind_byte(kind)));
     let mut packet = Lent::new(&packet);
-    let mut setting = Lent::new(&random.bytes(SETTING_BYTES));
-    judge.header_read(&mut packet, pid, kind, &mut setting);
+    read(judge, random, &mut packet, pid, kind);
     judge.place_refusal(&mut packet, pid);
+}
+
+/// The answer of the reader. Written again, an accepted header has the bytes
+/// that it had.
+pub fn read(judge: &mut Judge, random: &mut Random, packet: &mut Lent, pid: u16, kind: u8) -> u8 {
+    let mut setting = Lent::new(&random.bytes(SETTING_BYTES));
+    let refusal = judge.header_read(packet, pid, kind, &mut setting);
+    if refusal == 0 {
+        let mut again = Lent::new(&random.bytes(PACKET_BYTES));
+        let refusal = judge.header_write(&mut again, pid, kind, &mut setting);
+        assert_eq!(refusal, 0, "what was read is written");
+        assert_eq!(again.bytes(), packet.bytes(), "written again, it differs");
+    }
+    refusal
 }

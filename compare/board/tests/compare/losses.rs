@@ -3,6 +3,7 @@
 //! directly behind, which is told from the damage alone, and nothing else.
 
 use crate::draw::packets::frames;
+use crate::draw::reserved::clear_one_alone;
 use crate::draw::{kind, pid};
 use board::coding::{kind_byte, RECEIVER_BYTES};
 use board::judge::Judge;
@@ -29,7 +30,7 @@ pub fn round(judge: &mut Judge, random: &mut Random) {
     let (pid, drawn) = (pid(random), kind(random));
     let kind = random.of(&[Kind::Short, drawn]);
     let frames = frames(random, pid, kind, FRAMES);
-    let arrived = arrive(random, &frames);
+    let arrived = arrive(random, kind, &frames);
     let expected = expected(&frames, &arrived, pid, kind);
     let received = receive(judge, random, &arrived, pid, kind);
     assert!(
@@ -40,7 +41,7 @@ pub fn round(judge: &mut Judge, random: &mut Random) {
 
 /// One packet in so many is lost, one header in so many, and now and then
 /// whole frames.
-fn arrive(random: &mut Random, frames: &[Vec<u8>]) -> Vec<Arrived> {
+fn arrive(random: &mut Random, kind: Kind, frames: &[Vec<u8>]) -> Vec<Arrived> {
     let one_packet_in = random.of(&[20, 60, 200, 1000]);
     let one_header_in = random.of(&[2, 4, 10]);
     let mut frames_lost = 0;
@@ -63,7 +64,7 @@ fn arrive(random: &mut Random, frames: &[Vec<u8>]) -> Vec<Arrived> {
         let is_whole = slots.len() == all;
         let header = match header_is_good {
             true => Some(header),
-            false => spoilt(random, header, is_lost),
+            false => spoilt(random, kind, header, is_lost),
         };
         arrived.push(Arrived {
             packets: header.into_iter().chain(slots).collect(),
@@ -75,13 +76,14 @@ fn arrive(random: &mut Random, frames: &[Vec<u8>]) -> Vec<Arrived> {
 }
 
 /// A header that is lost, or that the reader refuses: a bit is turned under the
-/// CRC, its PID is another, or its first byte.
-fn spoilt(random: &mut Random, mut header: Vec<u8>, is_lost: bool) -> Option<Vec<u8>> {
-    match random.below(4) {
+/// CRC, its PID is another, or its first byte, or a reserved bit is zero.
+fn spoilt(random: &mut Random, kind: Kind, mut header: Vec<u8>, is_lost: bool) -> Option<Vec<u8>> {
+    match random.below(5) {
         0 => return None,
         _ if is_lost => return None,
         1 => header[random.between(4, 187)] ^= 1 << random.below(8),
         2 => header[2] ^= 1,
+        3 => clear_one_alone(random, kind, &mut header),
         _ => header[0] ^= 1 << random.below(8),
     }
     Some(header)

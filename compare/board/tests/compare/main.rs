@@ -11,6 +11,7 @@ mod headers;
 mod losses;
 mod numbers;
 mod receivers;
+mod reserved_bits;
 
 use board::judge::{events, table, unreached, Judge, Round};
 use board::random::Random;
@@ -28,7 +29,7 @@ struct Family {
     run: fn(&mut Judge, &mut Random),
 }
 
-const FAMILIES: [Family; 9] = [
+const FAMILIES: [Family; 10] = [
     family("numbers", 1, numbers::round),
     family("edges", 4, edges::round),
     family("headers", 40_000, headers::round),
@@ -38,6 +39,7 @@ const FAMILIES: [Family; 9] = [
     family("any bytes", 40_000, any_bytes::round),
     family("every byte", 2, every_byte::round),
     family("losses", 60, losses::round),
+    family("reserved bits", 1, reserved_bits::round),
 ];
 
 const fn family(name: &'static str, rounds: u64, run: fn(&mut Judge, &mut Random)) -> Family {
@@ -82,7 +84,7 @@ fn run(family: &Family, place: u64, rounds: u64, judge: &mut Judge) {
     }
     let calls = judge.calls() - before;
     let seconds = start.elapsed().as_secs_f64();
-    println!("{:<10} {calls:>8} calls in {seconds:>5.1} s", family.name);
+    println!("{:<13} {calls:>8} calls in {seconds:>5.1} s", family.name);
 }
 
 /// A part of the rounds need not reach everything.

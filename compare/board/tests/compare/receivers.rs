@@ -3,6 +3,7 @@
 
 use crate::draw::faults::{change_bytes, damage};
 use crate::draw::packets::{frames, make_unfit, ordinary};
+use crate::draw::reserved::clear_one_alone;
 use crate::draw::{kind, length, near_pid, number, pid, resized};
 use board::coding::{kind_byte, RECEIVER_BYTES};
 use board::judge::Judge;
@@ -62,6 +63,7 @@ fn arriving(random: &mut Random, frame: &[u8], pid: u16, kind: Kind) -> Packets 
         9 => packets.clear(),
         10 => packets.push(ordinary(random, pid)),
         11 => packets.swap(0, at),
+        12 => clear_one_alone(random, kind, &mut packets[0]),
         _ => (),
     }
     packets

@@ -6,5 +6,7 @@ use std::io::{self, Read, Write};
 fn main() -> io::Result<()> {
     let mut recording = Vec::new();
     io::stdin().lock().read_to_end(&mut recording)?;
-    io::stdout().lock().write_all(reference::list(&recording).as_bytes())
+    io::stdout()
+        .lock()
+        .write_all(reference::list(&recording).as_bytes())
 }

@@ -9,6 +9,9 @@ use reference::{Kind, Setting};
 /// The longest list below; the shorter ones begin again.
 pub const VARIETIES: usize = 13;
 
+/// The first varieties of a 20: a plain header's reserved bits one by one.
+pub const RESERVED_BITS: usize = 5;
+
 /// Bits to flip in one byte, for the refusals that one byte can bring about.
 const FIRST_BYTES: [(usize, u8); 5] = [(0, 0x47), (0, 0x01), (0, 0x80), (0, 0x33), (0, 0xFF)];
 const PID_BITS: [(usize, u8); 5] = [(1, 0x10), (1, 0x01), (2, 0x01), (2, 0x0F), (2, 0x80)];
@@ -20,6 +23,11 @@ const FIXED_BITS: [(usize, u8); 7] = [
 const SYNC_BITS: [(usize, u8); 13] = [
     (4, 0x10), (4, 0x08), (4, 0x04), (4, 0x02), (4, 0x01), (5, 0x80), (5, 0x40),
     (5, 0x20), (5, 0x10), (5, 0x08), (5, 0x04), (5, 0x02), (5, 0x01),
+];
+/// Each reserved bit, which a good header has as a one, and some together.
+#[rustfmt::skip]
+const ZEROS: [(usize, u8); 7] = [
+    (4, 0x80), (4, 0x40), (4, 0x20), (8, 0x01), (72, 0x02), (4, 0xA0), (4, 0xE0),
 ];
 /// Reserved bits, too, are under the CRC.
 #[rustfmt::skip]
@@ -52,7 +60,10 @@ pub fn base(generator: &mut Generator) -> Packet {
     for number in &mut setting.relative_ts_number {
         *number = [0, 1, 2, 14, 15][usize::from(generator.below(5))];
     }
-    generator.fill(&mut setting.private_data[..Kind::Plain.private_data_bytes()], 256);
+    generator.fill(
+        &mut setting.private_data[..Kind::Plain.private_data_bytes()],
+        256,
+    );
     header(Kind::Plain, &setting)
 }
 
@@ -77,6 +88,7 @@ pub fn damaged(mut packet: Packet, refusals: &[u8], variety: usize) -> Packet {
 fn damage_under_crc(packet: &mut Packet, refusal: u8, variety: usize) {
     match refusal {
         6 => flip(packet, &SYNC_BITS, variety),
+        20 => flip(packet, &ZEROS, variety),
         8 => packet[6] = packet[6] & 0xF0 | FRAME_TYPES[variety % FRAME_TYPES.len()],
         9 => {
             let (byte, kept, number) = SLOT_HALVES[variety % SLOT_HALVES.len()];

@@ -1,15 +1,15 @@
 //! The long input: good headers of all sorts among ordinary packets, each
 //! damage alone, each two together, and what looks like damage but is none.
 
-use super::damage::{base, damaged, VARIETIES};
+use super::damage::{base, damaged, RESERVED_BITS, VARIETIES};
 use super::packets::{good, header, null, ordinary, Packet};
 use crate::generator::Generator;
 use crate::make_crc_right;
 use reference::{crc32, read, Kind, Setting, LISTER_PID};
 
 const GOOD_HEADERS: usize = 96;
-const FIRST_REFUSAL: u8 = 3;
-const LAST_REFUSAL: u8 = 10;
+/// What the lister can refuse a packet for, in the reader's order.
+const REFUSALS: [u8; 9] = [3, 4, 5, 6, 7, 20, 8, 9, 10];
 
 struct Input {
     generator: Generator,
@@ -47,6 +47,8 @@ pub fn input() -> Vec<u8> {
     wrong_crcs(&mut input);
     other_counters(&mut input);
     extended_headers(&mut input);
+    dialects(&mut input);
+    zeros_in_private_data(&mut input);
     // A good header but for its last byte.
     let cut = good(&mut input.generator, 15);
     input.bytes.extend(&cut[..187]);
@@ -66,8 +68,12 @@ fn good_headers(input: &mut Input) {
     }
 }
 
+/// By the refusals' numbers: the sample takes packets of this part by their
+/// places, so that 20, which came later, stands last.
 fn single_damage(input: &mut Input) {
-    for refusal in FIRST_REFUSAL..=LAST_REFUSAL {
+    let mut refusals = REFUSALS;
+    refusals.sort_unstable();
+    for refusal in refusals {
         for variety in 0..VARIETIES {
             input.push_damaged(&[refusal], variety);
         }
@@ -77,8 +83,8 @@ fn single_damage(input: &mut Input) {
 
 fn double_damage(input: &mut Input) {
     let mut variety = 0;
-    for first in FIRST_REFUSAL..=LAST_REFUSAL {
-        for second in first + 1..=LAST_REFUSAL {
+    for (place, first) in REFUSALS.into_iter().enumerate() {
+        for &second in &REFUSALS[place + 1..] {
             input.push_damaged(&[first, second], variety);
             input.push_damaged(&[first, second], variety + 1);
             variety += 2;
@@ -87,9 +93,8 @@ fn double_damage(input: &mut Input) {
 }
 
 fn all_damage(input: &mut Input) {
-    let all: Vec<u8> = (FIRST_REFUSAL..=LAST_REFUSAL).collect();
-    for first in 0..all.len() {
-        input.push_damaged(&all[first..], first);
+    for first in 0..REFUSALS.len() {
+        input.push_damaged(&REFUSALS[first..], first);
     }
 }
 
@@ -138,4 +143,29 @@ fn extended_headers(input: &mut Input) {
     input.push(packet, 0);
     setting.frame_type = 2;
     input.push(header(Kind::Extended, &setting), 8);
+}
+
+/// All reserved bits but one at zero, and all of them, as a maker has them who
+/// keeps flags there.
+fn dialects(input: &mut Input) {
+    let packet = base(&mut input.generator);
+    for flag in 0..=RESERVED_BITS {
+        let mut dialect = packet;
+        for refused in (0..RESERVED_BITS).filter(|&bit| bit != flag) {
+            dialect = damaged(dialect, &[20], refused);
+        }
+        input.push(dialect, 20);
+    }
+}
+
+/// Private data is not reserved, and what is reserved in an extended header
+/// alone is private data here.
+fn zeros_in_private_data(input: &mut Input) {
+    let mut packet = base(&mut input.generator);
+    packet[131..184].fill(0);
+    make_crc_right(&mut packet);
+    input.push(packet, 0);
+    packet[99..184].fill(0);
+    make_crc_right(&mut packet);
+    input.push(packet, 0);
 }

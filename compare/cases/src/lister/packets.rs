@@ -1,7 +1,6 @@
 //! Packets that are as they should be.
 
 use crate::generator::Generator;
-use crate::make_crc_right;
 use reference::{write, Kind, Setting, LISTER_PID, STREAMS};
 
 pub type Packet = [u8; 188];
@@ -34,12 +33,7 @@ pub fn header(kind: Kind, setting: &Setting) -> Packet {
 /// One good header of many: the variety decides what has to come up for
 /// certain, and the generator the rest.
 pub fn good(generator: &mut Generator, variety: usize) -> Packet {
-    let mut packet = header(Kind::Plain, &setting(generator, variety));
-    if variety % 4 == 3 {
-        clear_reserved_bits(&mut packet, variety / 4);
-        make_crc_right(&mut packet);
-    }
-    packet
+    header(Kind::Plain, &setting(generator, variety))
 }
 
 fn setting(generator: &mut Generator, variety: usize) -> Setting {
@@ -53,7 +47,10 @@ fn setting(generator: &mut Generator, variety: usize) -> Setting {
     generator.fill(&mut setting.receive_status, 4);
     setting.emergency_indicator = (variety / 3 % 2) as u8;
     slots(generator, &mut setting, variety);
-    generator.fill(&mut setting.private_data[..Kind::Plain.private_data_bytes()], 256);
+    generator.fill(
+        &mut setting.private_data[..Kind::Plain.private_data_bytes()],
+        256,
+    );
     setting
 }
 
@@ -110,17 +107,4 @@ fn slots(generator: &mut Generator, setting: &mut Setting, variety: usize) {
         };
         setting.relative_ts_number[slot] = available[chosen];
     }
-}
-
-fn clear_reserved_bits(packet: &mut Packet, variety: usize) {
-    let kept = [
-        [0x1F, 0xFF, 0xFF],
-        [0xFF, 0xFE, 0xFF],
-        [0xFF, 0xFF, 0xFD],
-        [0x1F, 0xFE, 0xFD],
-    ];
-    let [sync, availability, control] = kept[variety % 4];
-    packet[4] &= sync;
-    packet[8] &= availability;
-    packet[72] &= control;
 }

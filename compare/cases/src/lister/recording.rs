@@ -39,6 +39,9 @@ fn frame_header(generator: &mut Generator, frame: u64) -> Packet {
             setting.relative_ts_number[slot] = stream as u8;
         }
     }
-    generator.fill(&mut setting.private_data[..Kind::Plain.private_data_bytes()], 256);
+    generator.fill(
+        &mut setting.private_data[..Kind::Plain.private_data_bytes()],
+        256,
+    );
     header(Kind::Plain, &setting)
 }

@@ -8,7 +8,7 @@ use crate::read::read;
 use crate::rules::unless;
 use crate::setting::{Kind, Setting};
 
-/// 3 to 11 and 14: the stream's slots in all frames.
+/// 3 to 7, 20, 8 to 11 and 14: the stream's slots in all frames.
 pub fn bonded(group: &[u8], asked: &Asked) -> Result<Bonded, u8> {
     let mut bonded = Bonded::NONE;
     let mut turn = Turn::first(asked.carriers);

@@ -3,7 +3,7 @@
 use super::frames::stream;
 use super::groups::{asked, carry, group, settings};
 use super::{least, Random};
-use reference::{gather, spread, Asked, Kind, Setting, FRAME_BYTES};
+use reference::{gather, read_headers, spread, Asked, Kind, Setting, FRAME_BYTES};
 
 /// All that the calls are given.
 #[derive(Clone, PartialEq)]
@@ -53,6 +53,11 @@ impl Call {
 
     pub fn gather(&mut self) -> Result<usize, u8> {
         gather(&self.group, &self.asked, &mut self.buffer)
+    }
+
+    /// The refusal of read_headers, which is lent nothing to write to.
+    pub fn headers_refusal(&self) -> u8 {
+        read_headers(&self.group, &self.asked).err().unwrap_or(0)
     }
 
     /// The refusals of both. Without packets everything stays as it was.

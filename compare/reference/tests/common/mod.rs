@@ -105,6 +105,26 @@ pub fn reserved_bytes(kind: Kind) -> [usize; 2] {
     }
 }
 
+/// Every reserved bit of a header: its byte, and the bit in it. Extended ones
+/// have whole bytes of them besides.
+pub fn reserved_bits(kind: Kind) -> Vec<(usize, u8)> {
+    let [availability, control] = reserved_bytes(kind);
+    let mut bits = vec![(4, 0x80), (4, 0x40), (4, 0x20)];
+    bits.extend([(availability, 0x01), (control, 0x02)]);
+    if kind == Kind::Extended {
+        bits.extend(
+            (131..184).flat_map(|byte| [1, 2, 4, 8, 16, 32, 64, 128].map(|bit| (byte, bit))),
+        );
+    }
+    bits
+}
+
+/// Makes a reserved bit zero, as only another maker does, and the CRC right.
+pub fn clear_reserved(packet: &mut [u8; 188], (byte, bit): (usize, u8)) {
+    packet[byte] &= !bit;
+    make_crc_right(packet);
+}
+
 pub fn make_crc_right(packet: &mut [u8; 188]) {
     let crc = reference::crc32(&packet[4..184]);
     packet[184..].copy_from_slice(&crc.to_be_bytes());

@@ -1,6 +1,7 @@
 //! Faults in settings, in headers and in the bytes of states.
 
 use super::availability_bit;
+use super::reserved::clear_one;
 use board::random::Random;
 use reference::{crc32, Kind, Setting, SLOTS, STREAMS};
 use std::ops::Range;
@@ -107,12 +108,13 @@ pub fn damage(random: &mut Random, kind: Kind, packet: &mut [u8]) {
         let byte = random.of(&[any, any, 0, 1, 2, 3, 4, 5, 6, 7, end, end, 128, 129, 130]);
         packet[byte] ^= 1 << random.below(8);
     }
-    match random.below(4) {
-        0 => {
+    match random.below(8) {
+        0 | 1 => {
             let [from, to] = [(); 2].map(|_| pairs.start + 4 * random.below(pairs.len() / 4));
             packet.copy_within(from..from + 4, to);
         }
-        1 => packet[numbers.start + random.below(numbers.len())] = random.byte(),
+        2 | 3 => packet[numbers.start + random.below(numbers.len())] = random.byte(),
+        4 => clear_one(random, kind, packet),
         _ => (),
     }
     if random.one_in(2) {
@@ -120,8 +122,37 @@ pub fn damage(random: &mut Random, kind: Kind, packet: &mut [u8]) {
     }
 }
 
+/// Breaks rules in the header of a breakable setting, by their refusals. A 20
+/// is this reserved bit at zero, and a 14 another number of carriers than 1.
+/// The CRC is wrong for a 7 alone.
+pub fn break_rules(packet: &mut [u8], kind: Kind, refusals: &[u8], (byte, bit): (usize, u8)) {
+    let (pairs, numbers) = (pairs(kind), slot_numbers(kind));
+    for refusal in refusals {
+        match refusal {
+            6 => packet[5] ^= 0x01,
+            20 => packet[byte] &= !bit,
+            8 => packet[6] |= 0x0F,
+            9 => packet[numbers.end - 1] |= kind.size().streams as u8,
+            10 => packet.copy_within(pairs.start..pairs.start + 4, pairs.start + 4),
+            11 => packet[130] &= 0xF0,
+            14 => packet[128] = 2,
+            _ => (),
+        }
+    }
+    make_crc_right(packet);
+    for refusal in refusals {
+        match refusal {
+            3 => packet[0] ^= 0x01,
+            4 => packet[2] ^= 0x01,
+            5 => packet[3] ^= 0x20,
+            7 => packet[187] ^= 0x01,
+            _ => (),
+        }
+    }
+}
+
 /// Where a header has the identifiers of all streams.
-fn pairs(kind: Kind) -> Range<usize> {
+pub fn pairs(kind: Kind) -> Range<usize> {
     match kind {
         Kind::Plain | Kind::Extended => 9..69,
         Kind::Short => 8..36,

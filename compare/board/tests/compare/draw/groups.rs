@@ -1,7 +1,8 @@
 //! Groups of bonded carriers, and ways in which they are wrong.
 
 use super::faults::{damage, make_crc_right};
-use super::{availability_bit, good, pid};
+use super::reserved::clear_one;
+use super::{availability_bit, good, packets, pid};
 use board::random::Random;
 use reference::{Asked, Kind, Setting, FRAME_BYTES, PACKET_BYTES};
 
@@ -69,11 +70,11 @@ fn name_unavailable(random: &mut Random, setting: &mut Setting, asked: &Asked) {
     }
 }
 
-fn frame(random: &mut Random, setting: &Setting, pid: u16) -> Vec<u8> {
+/// The frame of a setting, with any bytes in its slots.
+pub fn frame(random: &mut Random, setting: &Setting, pid: u16) -> Vec<u8> {
     let mut frame = random.bytes(FRAME_BYTES);
-    let header = &mut frame[..PACKET_BYTES];
-    let refusal = reference::write(header, pid, Kind::Extended, setting);
-    assert_eq!(refusal, 0, "a drawn setting is good");
+    let header = packets::header(pid, Kind::Extended, setting);
+    frame[..PACKET_BYTES].copy_from_slice(&header);
     frame
 }
 
@@ -82,14 +83,15 @@ pub fn header(group: &mut [u8], frame: usize) -> &mut [u8] {
     &mut group[FRAME_BYTES * frame..][..PACKET_BYTES]
 }
 
-/// A header is damaged, or says that it belongs elsewhere.
+/// A header is damaged, or another maker's, or says that it belongs elsewhere.
 pub fn spoil_header(random: &mut Random, header: &mut [u8]) {
-    match random.below(8) {
+    match random.below(9) {
         0 => header[127] ^= 1 << random.below(8),
         1 => header[128] = random.byte_below(10),
         2 => header[129] = random.byte_below(10),
         3 => header[130] ^= 0x70,
         4 => header[130] = header[130] & 0xF0 | random.byte_below(6),
+        5 => clear_one(random, Kind::Extended, header),
         _ => return damage(random, Kind::Extended, header),
     }
     make_crc_right(header);

@@ -3,6 +3,7 @@
 pub mod faults;
 pub mod groups;
 pub mod packets;
+pub mod reserved;
 
 use board::coding::setting_bytes;
 use board::lent::Lent;
@@ -71,6 +72,20 @@ pub fn good(random: &mut Random, kind: Kind) -> Setting {
     if kind == Kind::Extended {
         extension(random, &mut setting);
     }
+    setting
+}
+
+/// A good setting each of whose rules can be broken by itself: streams 1 and 2
+/// are available, and the last one is not.
+pub fn breakable(random: &mut Random, kind: Kind) -> Setting {
+    let mut setting = good(random, kind);
+    let last = kind.size().streams;
+    setting.availability |= availability_bit(1) | availability_bit(2);
+    setting.availability &= !availability_bit(last);
+    for stream in 0..last {
+        setting.ts_id[stream] = stream as u16;
+    }
+    plan(random, kind, &mut setting);
     setting
 }
 

@@ -1,8 +1,10 @@
-//! Packets, streams of them, and frames.
+//! Packets, streams of them, headers, and frames.
 
+use super::faults::{make_crc_right, pairs};
+use super::reserved::set_mostly;
 use super::{good, plan};
 use board::random::Random;
-use reference::{Composer, Kind, PACKET_BYTES};
+use reference::{Composer, Kind, Setting, PACKET_BYTES};
 
 /// A packet that may stand in a slot, at times a null packet.
 pub fn ordinary(random: &mut Random, header_pid: u16) -> Vec<u8> {
@@ -49,6 +51,49 @@ pub fn lent_stream(random: &mut Random, header_pid: u16) -> Vec<u8> {
         stream.resize(length, 0x47);
     }
     stream
+}
+
+/// The header of a setting that meets every rule.
+pub fn header(pid: u16, kind: Kind, setting: &Setting) -> Vec<u8> {
+    let mut packet = vec![0; PACKET_BYTES];
+    let refusal = reference::write(&mut packet, pid, kind, setting);
+    assert_eq!(refusal, 0, "a drawn setting is good");
+    packet
+}
+
+/// A header of any bytes but for what is fixed, and a right CRC. Its reserved
+/// bits are mostly ones. Half of the time all streams are available, so that
+/// slots may have any number.
+pub fn any_header(random: &mut Random, pid: u16, kind: Kind) -> Vec<u8> {
+    let mut packet = random.bytes(PACKET_BYTES);
+    let [high, low] = pid.to_be_bytes();
+    packet[..3].copy_from_slice(&[0x47, high, low]);
+    packet[3] = 0x10 | packet[3] & 0x0F;
+    packet[4] = 0x1A | packet[4] & 0xE0;
+    packet[5] = 0x86;
+    let right = if kind == Kind::Short { 3 } else { 1 };
+    let frame_type = random.of(&[right, right, right, right, right, 0, 1, 2, 3]);
+    packet[6] = packet[6] & 0xF0 | frame_type;
+    let pairs = pairs(kind);
+    if random.one_in(2) {
+        packet[7..pairs.start].fill(0xFF);
+    }
+    if random.one_in(8) {
+        packet.copy_within(pairs.start..pairs.start + 4, pairs.end - 4);
+    }
+    if kind == Kind::Extended && !random.one_in(4) {
+        bonding_fields(random, &mut packet);
+    }
+    set_mostly(random, kind, &mut packet);
+    make_crc_right(&mut packet);
+    packet
+}
+
+/// Those of a place in a group.
+fn bonding_fields(random: &mut Random, packet: &mut [u8]) {
+    packet[128] = random.between(1, 8) as u8;
+    packet[129] = random.between(1, packet[128].into()) as u8;
+    packet[130] = random.of(&[0x31, 0x32, 0x33, 0x41, 0x42, 0x43, 0x44]);
 }
 
 /// Frames of one run, as the reference composes them.
