@@ -22,7 +22,7 @@ for case in $cases; do
 done
 
 # The sample that ships: a few packets of the many, one of each refusal among them, and a cut one.
-for k in 0 1 2 3 36 142 170 184 198 212 226 240; do
+for k in 0 1 2 3 36 142 170 184 198 212 226 240 254; do
     dd if="$made/many.in" bs=188 skip="$k" count=1 status=none
 done > samples/recording.ts
 head -c 60 "$made/many.in" >> samples/recording.ts
