@@ -200,6 +200,15 @@ fn receive(frame: &mut [u8], part: &mut [u8], packet: &[u8]) -> u8
     event
 }
 
+// Keeps why a packet that opened no frame is no header, if it is the first with the header PID.
+fn without_header(c: Carrier, packet: &[u8], pid: u16) -> Carrier {
+    let before = c.tally;
+    let mut next = c;
+    let after = tally::with_refusal(before, packet, pid, Kind::Extended);
+    next.tally = after;
+    next
+}
+
 // If the packet opened a frame, keeps it as that frame's header.
 fn hold(c: Carrier, event: u8, packet: &[u8], frame: &mut [u8], pid: u16) -> Carrier
     requires { ⌜ length (now frame) ≡ frameLength lastSlot ⌝ }
@@ -208,7 +217,7 @@ fn hold(c: Carrier, event: u8, packet: &[u8], frame: &mut [u8], pid: u16) -> Car
         slices::copy(&mut frame[0..PACKET_BYTES], packet);
         return with_header(c, packet, pid);
     }
-    c
+    without_header(c, packet, pid)
 }
 
 fn counted(c: Carrier, event: u8) -> Carrier {

@@ -226,9 +226,10 @@ fn take(link: Link, packet: &[u8], state: &mut [u8], store: &mut [u8], asked: As
     receiver_receive::niranbok_receiver_receive(state, packet, store, &mut event);
     let before = link.tally;
     let number = link.number;
+    let kind = asked.kind;
     let counted = Link {
         number,
-        tally: tally::with_event(before, event),
+        tally: tally::with_refusal(tally::with_event(before, event), packet, asked.pid, kind),
         taken: link.taken,
     };
     let next = after_event(counted, event, state, store);

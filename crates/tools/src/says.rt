@@ -39,11 +39,18 @@ pub(crate) fn range(field: &[u8], first: u32, last: u32, refusal: u8) {
 fn meaning(refusal: u8) {
     match refusal {
         1 => text(b"not cut on packet borders"),
+        5 => text(b"its first bytes are no header's"),
+        6 => text(b"no TSMF sync"),
+        7 => text(b"wrong CRC"),
+        8 => text(b"frame type of another kind"),
+        9 => text(b"a slot has the number of a stream that is not available"),
         10 => text(b"two streams have the same identifiers"),
+        11 => text(b"bonding fields out of range"),
         12 => text(b"a packet lacks 0x47 at its start or bears the header PID"),
         13 => text(b"no header carries a stream with these identifiers"),
         14 => text(b"the headers are not those of the carriers in their order"),
         15 => text(b"not as many packets as there are slots"),
+        20 => text(b"a reserved bit is 0, as another maker or another kind has it"),
         _ => text(b"refused"),
     }
 }

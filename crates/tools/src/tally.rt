@@ -1,6 +1,7 @@
 // Counts what happened to the frames of an input, and prints the summary.
 use crate::says;
 use receiver::events;
+use setting::Kind;
 
 // The counts. Each would wrap at 2^64.
 pub(crate) struct Tally {
@@ -8,6 +9,8 @@ pub(crate) struct Tally {
     pub(crate) came: u64,
     pub(crate) went: u64,
     pub(crate) headers: u64,
+    // While no header came: why the first packet with the header PID is none. 0 if there is no such packet.
+    pub(crate) refusal: u8,
     pub(crate) ready: u64,
     // Frames dropped, by the reason.
     pub(crate) short: u64,
@@ -21,6 +24,7 @@ pub(crate) fn none() -> Tally {
         came: 0,
         went: 0,
         headers: 0,
+        refusal: 0,
         ready: 0,
         short: 0,
         jump: 0,
@@ -83,6 +87,25 @@ pub(crate) fn with_event(t: Tally, event: u8) -> Tally {
     next
 }
 
+// Up to this number a refusal says that the packet does not have the PID.
+const OTHER_PID: u8 = 4;
+
+// Keeps why the packet is no header, if it is the first with the header PID.
+pub(crate) fn with_refusal(t: Tally, packet: &[u8], pid: u16, kind: Kind) -> Tally {
+    if t.headers != 0 {
+        return t;
+    }
+    if t.refusal != 0 {
+        return t;
+    }
+    let mut next = t;
+    let refusal = header_codec::read(packet, pid, kind).refusal;
+    if OTHER_PID < refusal {
+        next.refusal = refusal;
+    }
+    next
+}
+
 pub(crate) fn with_packets(t: Tally, packets: usize) -> Tally {
     let mut next = t;
     next.went = std::num::wrapping_add_u64(t.went, packets as u64);
@@ -106,6 +129,10 @@ fn say_frames(t: Tally) {
 fn say_no_header(t: Tally, pid: u16) {
     say_count(b"no header with PID ", pid as u64);
     say_count(b" in ", t.came);
+    if t.refusal != 0 {
+        says::refusal(b" packets; the first that has it", t.refusal);
+        return;
+    }
     says::text(b" packets: another PID, or not cut on packet borders\n");
 }
 
