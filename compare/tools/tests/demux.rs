@@ -1,7 +1,7 @@
 //! What demux writes and says, beside the reference's receiver.
 
 use cases::generator::Generator;
-use reference::Kind;
+use reference::{read, Kind, PACKET_BYTES};
 use tools::composing::{compose, Composed, PAIRS};
 use tools::damage::{frame_packets, reserved_bits, Lot, Lots};
 use tools::program::{option, Folder, Said};
@@ -157,7 +157,7 @@ fn no_header_without_a_reserved_bit_at_zero() {
         folder.write("frames", &lots.arrive(&bytes));
         let said = folder.run("demux", &format!("{}{PID} 1 frames", option(kind)));
         assert!(said.out.is_empty());
-        assert!(!said.err.is_empty());
+        assert!(said.err.ends_with("(refusal 20)\n"), "{}", said.err);
     }
 }
 
@@ -187,9 +187,12 @@ fn all_of_it_at_once() {
 fn frames_of_the_other_kind() {
     let folder = Folder::new();
     for (kind, other) in [(Kind::Plain, Kind::Short), (Kind::Short, Kind::Plain)] {
-        folder.write("frames", &composed(kind, 12).bytes);
+        let Composed { bytes, .. } = composed(kind, 12);
+        let refusal = read(&bytes[..PACKET_BYTES], PID, other).expect_err("another kind");
+        folder.write("frames", &bytes);
         let said = folder.run("demux", &format!("{}{PID} 1 frames", option(other)));
         assert!(said.out.is_empty());
-        assert!(!said.err.is_empty());
+        let end = format!("(refusal {refusal})\n");
+        assert!(said.err.ends_with(&end), "{}", said.err);
     }
 }

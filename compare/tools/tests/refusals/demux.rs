@@ -2,6 +2,8 @@
 
 use super::{folder, refuses, FRAMES};
 use crate::lines::*;
+use cases::make_crc_right;
+use reference::{FRAME_BYTES, PACKET_BYTES};
 
 #[test]
 fn arguments() {
@@ -61,6 +63,40 @@ fn inputs() {
     refuses(words, &no_header(41 * FRAMES));
     let said = folder.run_on("demux", "0x1FF0 1", "frames_tail");
     assert_eq!((said.out, &said.err[..]), (vec![], TAIL));
+}
+
+/// Bits that are turned in one byte of a header, the refusal that this brings
+/// about, and its words.
+const FAULTS: [(usize, u8, u8, &str); 6] = [
+    (3, 0x20, 5, "its first bytes are no header's"),
+    (5, 0x01, 6, "no TSMF sync"),
+    (187, 0x01, 7, "wrong CRC"),
+    (4, 0x80, 20, RESERVED),
+    (8, 0x01, 20, RESERVED),
+    (6, 0x03, 8, "frame type of another kind"),
+];
+
+/// All headers have the same fault. Of the first it is said which.
+#[test]
+fn refused_headers() {
+    let folder = folder();
+    let good = folder.read("frames");
+    for (byte, bits, refusal, words) in FAULTS {
+        let mut frames = good.clone();
+        for frame in frames.chunks_mut(FRAME_BYTES) {
+            frame[byte] ^= bits;
+            if refusal != 7 {
+                make_crc_right(&mut frame[..PACKET_BYTES]);
+            }
+        }
+        folder.write("refused", &frames);
+        let packets = frames.len() / PACKET_BYTES;
+        let line = format!(
+            "no header with PID 8176 in {packets} packets; \
+             the first that has it: {words} (refusal {refusal})\n"
+        );
+        refuses(&folder, "demux", "0x1FF0 1 refused", &line);
+    }
 }
 
 /// Of a pipe the tail is known only in the end.

@@ -35,3 +35,5 @@ pub const NO_SLOTS_PACKET: &str =
     "input: a packet lacks 0x47 at its start or bears the header PID (refusal 12)\n";
 pub const TAIL: &str =
     "100 bytes behind the last whole packet: not cut on packet borders (refusal 1)\n";
+
+pub const RESERVED: &str = "a reserved bit is 0, as another maker or another kind has it";
