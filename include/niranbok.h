@@ -71,8 +71,14 @@ extern "C" {
  * a short setting.
  *
  * In a header emergency_indicator is the last bit of byte 72, in a short one of byte 37, and the bit before it
- * is reserved. Before request K1 the two bits of byte 72 stood the other way round. Headers that were written
- * then have a one in the last bit, so emergency_indicator reads as 1 in each of them, whatever it was. */
+ * is reserved. Also reserved are the three bits before the sync (the highest of byte 4), the bit behind the
+ * availability (the last of byte 8, in a short header of byte 7), and bytes 131 to 183 of an extended header.
+ * Reserved bits are written as ones, and a header in which one is 0 is refused by 20: other makers keep flags
+ * of their own there. So the 188 bytes of a header that was read are those that writing its setting with the
+ * same PID and kind gives.
+ *
+ * Before request K1 the two last bits of byte 72 stood the other way round. A header that was written then is
+ * a 20 if it announced no emergency, and reads as before if it announced one. */
 #define NIRANBOK_CONTINUITY_COUNTER 0    /* 1 byte */
 #define NIRANBOK_VERSION_NUMBER 1        /* 1 byte */
 #define NIRANBOK_SLOT_ALLOCATION_TYPE 2  /* 1 byte */
@@ -163,6 +169,7 @@ extern "C" {
 #define NIRANBOK_REFUSED_FIXED_BITS 5          /* bits 000 or 0001 differ */
 #define NIRANBOK_REFUSED_SYNC_BITS 6           /* the 13 sync bits differ */
 #define NIRANBOK_REFUSED_CRC 7                 /* the CRC is wrong */
+#define NIRANBOK_REFUSED_RESERVED_BITS 20      /* a reserved bit is 0; where headers are read */
 #define NIRANBOK_REFUSED_FRAME_TYPE 8          /* frame_type is not allowed */
 #define NIRANBOK_REFUSED_UNAVAILABLE_NUMBER 9  /* a slot has the number of an unavailable stream */
 #define NIRANBOK_REFUSED_EQUAL_IDENTIFIERS 10  /* two available streams have equal identifier pairs */
@@ -199,7 +206,7 @@ extern "C" {
 #define NIRANBOK_SHORT 4   /* the frame before had less packets than slots and is dropped, a new one opened */
 #define NIRANBOK_JUMP 5    /* the counter did not step by 1: the frame before is dropped, a new one opened */
 #define NIRANBOK_LONG 6    /* a packet more than slots, the 53rd or in a short run the 41st: the open frame is dropped */
-#define NIRANBOK_BROKEN 7  /* a broken packet: the open frame is dropped */
+#define NIRANBOK_BROKEN 7  /* a broken packet, a header that is refused among them: the open frame is dropped */
 
 /* The CRC register of H.222.0 that the bytes leave, 0 behind a header's own CRC (bytes 4 to 187). */
 uint32_t niranbok_crc(const uint8_t *bytes, size_t length);
@@ -243,7 +250,7 @@ uint8_t niranbok_header_write(uint8_t *packet, size_t packet_length, uint16_t pi
                               const uint8_t *setting, size_t setting_length);
 
 /* Reads the packet as a header and writes what it says into the lent 298 bytes. Refuses 1, 2, 17 (the
- * kind), 3, 4, 5, 6, 7, 8, 9, 10, 11. */
+ * kind), 3, 4, 5, 6, 7, 20, 8, 9, 10, 11. */
 uint8_t niranbok_header_read(const uint8_t *packet, size_t packet_length, uint16_t pid, uint8_t kind,
                              uint8_t *setting, size_t setting_length);
 
@@ -305,19 +312,19 @@ uint8_t niranbok_receiver_hand_out(const uint8_t *state, size_t state_length, co
 /* Reads the headers of a group, the super frames of carriers 1 to `carriers` one behind another, each of 3
  * or 4 frames with extended headers (examples/bonding.c makes one, and one again from receivers): writes
  * whether one of them carries the stream as available (1, or 0), and how many bonded slots it has, which
- * is how many packets spread takes and gather gives. Refuses 1, 2, 17, 3 to 11, 14. */
+ * is how many packets spread takes and gather gives. Refuses 1, 2, 17, 3 to 7, 20, 8 to 11, 14. */
 uint8_t niranbok_read_headers(const uint8_t *group, size_t group_length, uint8_t carriers,
                               uint16_t pid, uint16_t ts_id, uint16_t original_network_id,
                               uint8_t *is_carried, size_t *packets);
 
 /* Writes a stream's packets into the bonded slots of a group, in order, and how many there were.
- * Refuses 1, 2, 17, 3 to 11, 14, 13, 15, 12. */
+ * Refuses 1, 2, 17, 3 to 7, 20, 8 to 11, 14, 13, 15, 12. */
 uint8_t niranbok_spread(uint8_t *group, size_t group_length, const uint8_t *stream,
                         size_t stream_length, uint8_t carriers, uint16_t pid, uint16_t ts_id,
                         uint16_t original_network_id, size_t *packets);
 
 /* Copies the bonded slots of a group, in order, to the front of `out`, and writes how many packets.
- * Refuses 1, 2, 17, 3 to 11, 14, 13, 15. */
+ * Refuses 1, 2, 17, 3 to 7, 20, 8 to 11, 14, 13, 15. */
 uint8_t niranbok_gather(const uint8_t *group, size_t group_length, uint8_t *out, size_t out_length,
                         uint8_t carriers, uint16_t pid, uint16_t ts_id,
                         uint16_t original_network_id, size_t *packets);

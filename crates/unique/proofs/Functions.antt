@@ -14,6 +14,7 @@ functions = record {
   slices-copy = one (λ κs a x p i. (_, (p i, _)));
   slices-fill = one (λ κs a x p i. (_, (p i, _)));
   slices-some-at-least = one (λ κs a x p i. (p i, _));
+  slices-some-other = one (λ κs a x p i. (p i, _));
   slices-differ = one (λ κs a x p i. (p i, _));
   slices-are-bytes = one (λ κs a x p i. _);
   counters-slot-new = one (λ κs a x p i. (p i, _));

@@ -10,6 +10,7 @@ use Rattle.bits.proofs.pack_halves as bitsPackHalves
 use Rattle.slices.proofs.copy as slicesCopy
 use Rattle.slices.proofs.fill as slicesFill
 use Rattle.slices.proofs.some_at_least as slicesSomeAtLeast
+use Rattle.slices.proofs.some_other as slicesSomeOther
 use Rattle.slices.proofs.differ as slicesDiffer
 use Rattle.slices.proofs.are_bytes as slicesAreBytes
 use Rattle.counters.proofs.Slot.new as countersSlotNew
@@ -78,6 +79,7 @@ pub record Functions : Type 0 where
   pub slices-copy : OneOutcome slicesCopy.ended slicesCopy.Reads.Learnt
   pub slices-fill : OneOutcome slicesFill.ended slicesFill.Reads.Learnt
   pub slices-some-at-least : OneOutcome slicesSomeAtLeast.ended slicesSomeAtLeast.Reads.Learnt
+  pub slices-some-other : OneOutcome slicesSomeOther.ended slicesSomeOther.Reads.Learnt
   pub slices-differ : OneOutcome slicesDiffer.ended slicesDiffer.Reads.Learnt
   pub slices-are-bytes : OneOutcome slicesAreBytes.ended slicesAreBytes.Reads.Learnt
   pub counters-slot-new : OneOutcome countersSlotNew.ended countersSlotNew.Reads.Learnt
