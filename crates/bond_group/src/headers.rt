@@ -270,7 +270,7 @@ pub(crate) fn refused(refusal: u8, frames: &mut [u8], slots: &mut [u64]) -> Head
     }
 }
 
-// Checks the headers of the group, one after another: each for 3 to 11 and then for 14, where its frame stands. At the end 14 again, for
+// Checks the headers of the group, one after another: each as a header and then for 14, where its frame stands. At the end 14 again, for
 // missing frames. Writes each carrier's number of frames and the bonded slots of each frame, slot i in bit i, into what the caller lends.
 pub(crate) fn plan_of(group: &[u8], b: Bond, frames: &mut [u8], slots: &mut [u64]) -> Headers
     requires { ⌜ (length (now group) % frameLength lastSlot ≡ 0) × (pidAllowed (b .pid) ≡ true) ⌝ }

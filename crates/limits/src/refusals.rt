@@ -24,6 +24,7 @@ pub(crate) fn print_header_refusals() {
     print(5, b"fixed_bits");
     print(6, b"sync_bits");
     print(7, b"crc");
+    print(20, b"reserved_bits");
 }
 
 // The checks of its setting.
