@@ -1,21 +1,17 @@
 -- A header that is read and written again has the same bytes. Assumes nothing.
 use Prim.Native.Nat.{ℕ}
-use mathlib.Core.Path.{_≡_, refl, sym, ap, _∙_}
-use mathlib.Core.Bool.{cond}
-use mathlib.Core.List.{List}
+use mathlib.Core.Path.{_≡_}
 use native.Mathlib.Decide.{ℕ-discrete}
 use borrow.Author.Tests.{ne-eqb}
-use lib.Dec.{eqb}
 use lib.ListN.{length}
 use Rattle.setting.specs.Refusal.{leaves}
-use Rattle.setting.specs.declared.Setting.{Setting}
 use Rattle.header_layout.specs.Header.{reading}
-use Rattle.header_write.specs.Writing.{writeRefusal, written}
+use Rattle.header_write.specs.Writing.{written}
 use Rattle.header_read.specs.Reader.{readOf}
 use Rattle.header_read.proofs.Coded.{reading-long}
 use Rattle.header_codec.proofs.Again.{written-again}
 use Rattle.setting_bytes.specs.Kinds.{kindOf}
-use Rattle.setting_bytes.specs.Settings.{settingLength, settingBytes, settingOf}
+use Rattle.setting_bytes.specs.Settings.{settingLength, settingBytes}
 use Rattle.setting_bytes.proofs.Back.{length-setting, back}
 use Rattle.header_calls.specs.Calls.{callRefused, thenRefused, writeRefused, writeMemory, readRefused, readMemory}
 use Rattle.header_calls.specs.Demands.{BytesAgain}

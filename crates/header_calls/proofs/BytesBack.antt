@@ -1,17 +1,15 @@
 -- A setting's bytes, written as a header and read back, are the same. Assumes nothing.
 use Prim.Native.Nat.{ℕ}
-use mathlib.Core.Path.{_≡_, refl, sym, ap, ap₂, _∙_}
-use mathlib.Core.List.{List, _∷_}
+use mathlib.Core.Path.{_≡_, refl, ap, _∙_}
+use mathlib.Core.List.{List}
 use lib.ListN.{length}
-use Rattle.setting.specs.declared.Setting.{Setting}
 use Rattle.setting.specs.Refusal.{leaves}
 use Rattle.header_layout.specs.Header.{headerLength, header}
 use Rattle.header_layout.proofs.Whole.{length-header}
 use Rattle.header_write.specs.Writing.{written}
-use Rattle.header_read.specs.declared.Reading.{Reading}
 use Rattle.header_codec.proofs.RoundTrip.{written-and-read-back}
 use Rattle.setting_bytes.specs.Kinds.{kindOf}
-use Rattle.setting_bytes.specs.Settings.{settingLength, settingBytes, settingOf}
+use Rattle.setting_bytes.specs.Settings.{settingOf}
 use Rattle.setting_bytes.proofs.Same.{setting-same}
 use Rattle.setting_bytes.proofs.Typed.{setting-typed}
 use Rattle.header_calls.specs.Calls.{thenRefused, writeRefused, writeMemory, readRefused, readMemory}

@@ -9,7 +9,7 @@ use Rattle.setting.specs.declared.Kind.{Kind}
 use Rattle.setting.specs.declared.Size.{Size}
 use Rattle.setting.specs.declared.Setting.{Setting}
 use Rattle.setting.specs.Size.{sizeOf}
-use Rattle.setting.proofs.Sizes.{Sized, sized}
+use Rattle.setting.proofs.Sizes.{Sized}
 use Rattle.header_layout.specs.Rows.{Row, place}
 use Rattle.header_layout.specs.Layout.{Line, startTable, streamTable, identifierTable, controlTable, numberTable, privateTable, tableOf, table, rowsOf, layout, rowWith}
 use Rattle.header_layout.specs.Layout.{identifiersStart, controlStart, numbersStart, privateStart}

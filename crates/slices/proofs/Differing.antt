@@ -1,5 +1,5 @@
 -- Two lists that differ somewhere or nowhere. Assumes nothing.
-use Prim.Native.Nat.{ℕ, zero, suc, _+_, _≤_, _<_}
+use Prim.Native.Nat.{ℕ, suc, _+_, _≤_, _<_}
 use mathlib.Core.Path.{_≡_, refl, ap, ap₂, sym, _∙_}
 use mathlib.Core.Bool.{Bool, true, false, not, or-false}
 use mathlib.Core.List.{List, [], _∷_}

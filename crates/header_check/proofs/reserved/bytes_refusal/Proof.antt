@@ -1,10 +1,10 @@
 -- `bytes_refusal` meets its contract, by the kind. Assumes nothing.
 use mathlib.Core.Path.{_≡_, sym, ap, _∙_}
-use mathlib.Core.List.{List, [], _∷_}
+use mathlib.Core.List.{[], _∷_}
 use borrow.Author.Needs.{needs}
 use lib.ListN.{drop}
 use Rattle.bits.proofs.Laws.{fit-of}
-use Rattle.setting.specs.Refusal.{Check, firstOf}
+use Rattle.setting.specs.Refusal.{firstOf}
 use Rattle.setting.proofs.Refusals.{answers, passed}
 use Rattle.header_layout.specs.Header.{reservedChecks}
 use Rattle.header_layout.proofs.Reserved.{plain-bytes, short-bytes, extended-bytes}
