@@ -38,9 +38,9 @@ pub fn check(packet: &[u8], pid: u16, kind: Kind) -> Checked
     if shown != 0 {
         return parts::refused(shown);
     }
-    let reserved = reserved::refusal(packet, kind);
-    if reserved != 0 {
-        return parts::refused(reserved);
+    let refusal = reserved::refusal(packet, kind);
+    if refusal != 0 {
+        return parts::refused(refusal);
     }
     parts::said_by(packet, kind)
 }

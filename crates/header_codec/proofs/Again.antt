@@ -9,7 +9,6 @@ use lib.ListN.{length, getD, take, drop, take-append-drop, length-drop, length-r
 use lib.Pow.{shl-shr}
 use Rattle.bits.specs.Fields.{Fit, bitsOf, number, run}
 use Rattle.bits.proofs.Laws.{fit-run, fit-drop, length-run, bitsOf-number, number-lt}
-use Rattle.slices.specs.Slices.{someDiffer}
 use Rattle.slices.proofs.Differing.{same-lists}
 use Rattle.crc.proofs.Laws.{own-bits-only}
 use Rattle.setting.specs.declared.Kind.{Kind}
@@ -19,7 +18,7 @@ use Rattle.setting.specs.Size.{sizeOf, slotsOf, streamsOf}
 use Rattle.setting.proofs.Sizes.{sized, resized-again}
 use Rattle.setting.proofs.Refusals.{none-at}
 use Rattle.header_layout.specs.Layout.{layout, reservedFrom}
-use Rattle.header_layout.specs.Header.{one, paired, firsts, seconds, allOnes, streamsBeyond, content, lineBits, body, header, row, reading, reservedChecks}
+use Rattle.header_layout.specs.Header.{one, paired, firsts, seconds, allOnes, streamsBeyond, content, lineBits, body, header, row, reading, zeroCheck, reservedChecks}
 use Rattle.header_write.specs.Writing.{written}
 use Rattle.header_read.specs.Reader.{readOf}
 use Rattle.header_codec.specs.Demands.{WrittenAgain}
@@ -53,7 +52,7 @@ module _ (kind : Kind) (pid : ℕ) (p : List ℕ) (a : Shown kind pid p) where
   sole k h e = single (row kind p k) (row-filled kind p (a .whole) k h .0 ∙ e)
 
   -- a reserved row has no bit at 0, so it is all ones
-  ones : (k : ℕ) → k < length (layout kind) → someDiffer (row kind p k) (allOnes (rowOf (layout kind) k)) ≡ false
+  ones : (k : ℕ) → k < length (layout kind) → zeroCheck kind p k .1 ≡ false
       → allOnes (rowOf (layout kind) k) ≡ row kind p k
   ones k h e =
       sym (same-lists (row kind p k) (allOnes (rowOf (layout kind) k)) (row-filled kind p (a .whole) k h .0 ∙ sym (length-replicate (rowOf (layout kind) k .1) _)) e)

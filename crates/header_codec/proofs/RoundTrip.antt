@@ -11,7 +11,7 @@ use lib.ListN.{length, getD, drop, replicate}
 use lib.Pow.{split}
 use borrow.Author.Tests.{leb-false, eq-eqb}
 use Rattle.bits.specs.Fields.{Fit}
-use Rattle.slices.specs.Slices.{someAtLeast, someDiffer}
+use Rattle.slices.specs.Slices.{someAtLeast}
 use Rattle.slices.proofs.Differing.{differs-nowhere}
 use Rattle.crc.specs.Crc.{registerOf}
 use Rattle.setting.specs.declared.Kind.{Kind}
@@ -27,7 +27,7 @@ use Rattle.setting.proofs.Refusals.{first-none, none-at, none-append, none-befo
 use Rattle.header_read.specs.declared.Reading.{Reading}
 use Rattle.header_layout.specs.Rows.{place, rowAt}
 use Rattle.header_layout.specs.Layout.{Field, table, layout, rowWith, reservedFrom}
-use Rattle.header_layout.specs.Header.{paired, firsts, seconds, allOnes, streamsBeyond, content, headerLength, header, row, values, value, reading, packetChecks, reservedChecks}
+use Rattle.header_layout.specs.Header.{paired, firsts, seconds, allOnes, streamsBeyond, content, headerLength, header, values, value, reading, packetChecks, zeroCheck, reservedChecks}
 use Rattle.header_write.specs.Writing.{written}
 use Rattle.header_check.specs.Checking.{readChecks, readRefusal}
 use Rattle.header_read.specs.Reader.{readOf}
@@ -184,8 +184,7 @@ module _ (kind : Kind) (pid : ℕ) (s : Setting) (t : OfItsTypes s) (m : MeetsRu
       shown f h = eq-eqb (value kind (header kind pid s) f) (getD (getD (content kind pid s) (rowWith f (table kind)) []) 0 0) (value-back kind pid s t m f h)
 
   -- a reserved row is written as ones
-  ones : (k : ℕ) → k < length (layout kind) → getD (content kind pid s) k [] ≡ allOnes (rowOf (layout kind) k)
-      → someDiffer (row kind (header kind pid s) k) (allOnes (rowOf (layout kind) k)) ≡ false
+  ones : (k : ℕ) → k < length (layout kind) → getD (content kind pid s) k [] ≡ allOnes (rowOf (layout kind) k) → zeroCheck kind (header kind pid s) k .1 ≡ false
   ones k h e = rw (row-header kind pid s (suits kind pid s t m) k h ∙ e) (differs-nowhere (allOnes (rowOf (layout kind) k)))
 
   reserved-none : NoneHolds (drop 3 (reservedChecks kind (header kind pid s))) → NoneHolds (reservedChecks kind (header kind pid s))

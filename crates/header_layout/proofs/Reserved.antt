@@ -15,8 +15,8 @@ use Rattle.setting.specs.Refusal.{firstOf, NoneHolds}
 use Rattle.setting.proofs.Sizes.{sized}
 use Rattle.setting.proofs.Refusals.{numbered, none-first}
 use Rattle.header_layout.specs.Rows.{place, rowAt}
-use Rattle.header_layout.specs.Layout.{privateTable, layout, reservedFrom, reservedRows, reservedBytes, identifiersStart, numbersStart}
-use Rattle.header_layout.specs.Header.{headerLength, one, allOnes, row, reservedChecks}
+use Rattle.header_layout.specs.Layout.{privateTable, reservedFrom, reservedRows, reservedBytes, identifiersStart, numbersStart}
+use Rattle.header_layout.specs.Header.{headerLength, one, row, zeroCheck, reservedChecks}
 use Rattle.header_layout.proofs.Cut.{byte-field, byte-row, length-part}
 use Rattle.header_layout.proofs.LaidOut.{laid-out, stream-bit-place, control-bit-place, private-before}
 
@@ -69,7 +69,7 @@ pub numbered-reserved : (kind : Kind) (p : List ℕ) → numbered (reservedCheck
 unfolding reservedChecks
 numbered-reserved kind p = numbered-by (reservedRows kind)
   where
-    numbered-by : (ks : List ℕ) → numbered (map (λ (k : ℕ). (20, someDiffer (row kind p k) (allOnes (getD (layout kind) k (0, 0))))) ks) ≡ true
+    numbered-by : (ks : List ℕ) → numbered (map (zeroCheck kind p) ks) ≡ true
     numbered-by [] = refl
     numbered-by (k ∷ ks) = numbered-by ks
 

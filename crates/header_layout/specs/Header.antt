@@ -145,6 +145,10 @@ packetChecks pid p =
     ∷ (7, not (eqb (registerOf (drop 4 p)) 0))
     ∷ []
 
--- 20: for each reserved row, whether one of its bits is 0
+-- 20, of row k: whether one of its bits is 0
+abbrev pub zeroCheck : Kind → List ℕ → ℕ → Check
+zeroCheck kind p k = (20, someDiffer (row kind p k) (allOnes (getD (layout kind) k (0, 0))))
+
+-- 20, of each reserved row
 unfoldable pub reservedChecks : Kind → List ℕ → List Check
-reservedChecks kind p = map (λ (k : ℕ). (20, someDiffer (row kind p k) (allOnes (getD (layout kind) k (0, 0))))) (reservedRows kind)
+reservedChecks kind p = map (zeroCheck kind p) (reservedRows kind)

@@ -39,7 +39,7 @@ pub(crate) fn range(field: &[u8], first: u32, last: u32, refusal: u8) {
 fn meaning(refusal: u8) {
     match refusal {
         1 => text(b"not cut on packet borders"),
-        5 => text(b"its first bytes are no header's"),
+        5 => text(b"wrong bits in the packet header"),
         6 => text(b"no TSMF sync"),
         7 => text(b"wrong CRC"),
         8 => text(b"frame type of another kind"),
@@ -50,7 +50,7 @@ fn meaning(refusal: u8) {
         13 => text(b"no header carries a stream with these identifiers"),
         14 => text(b"the headers are not those of the carriers in their order"),
         15 => text(b"not as many packets as there are slots"),
-        20 => text(b"a reserved bit is 0, as another maker or another kind has it"),
+        20 => text(b"a reserved bit is 0, from another maker or of another kind"),
         _ => text(b"refused"),
     }
 }

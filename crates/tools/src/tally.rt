@@ -130,7 +130,7 @@ fn say_no_header(t: Tally, pid: u16) {
     say_count(b"no header with PID ", pid as u64);
     say_count(b" in ", t.came);
     if t.refusal != 0 {
-        says::refusal(b" packets; the first that has it", t.refusal);
+        says::refusal(b" packets; the first with this PID", t.refusal);
         return;
     }
     says::text(b" packets: another PID, or not cut on packet borders\n");

@@ -68,7 +68,7 @@ fn inputs() {
 /// Bits that are turned in one byte of a header, the refusal that this brings
 /// about, and its words.
 const FAULTS: [(usize, u8, u8, &str); 6] = [
-    (3, 0x20, 5, "its first bytes are no header's"),
+    (3, 0x20, 5, "wrong bits in the packet header"),
     (5, 0x01, 6, "no TSMF sync"),
     (187, 0x01, 7, "wrong CRC"),
     (4, 0x80, 20, RESERVED),
@@ -93,7 +93,7 @@ fn refused_headers() {
         let packets = frames.len() / PACKET_BYTES;
         let line = format!(
             "no header with PID 8176 in {packets} packets; \
-             the first that has it: {words} (refusal {refusal})\n"
+             the first with this PID: {words} (refusal {refusal})\n"
         );
         refuses(&folder, "demux", "0x1FF0 1 refused", &line);
     }

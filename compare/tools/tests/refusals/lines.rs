@@ -36,4 +36,4 @@ pub const NO_SLOTS_PACKET: &str =
 pub const TAIL: &str =
     "100 bytes behind the last whole packet: not cut on packet borders (refusal 1)\n";
 
-pub const RESERVED: &str = "a reserved bit is 0, as another maker or another kind has it";
+pub const RESERVED: &str = "a reserved bit is 0, from another maker or of another kind";
