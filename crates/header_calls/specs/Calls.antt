@@ -7,6 +7,7 @@ use lib.ListN.{length}
 use Rattle.setting.specs.Refusal.{firstOf, leaves}
 use Rattle.setting.specs.Rules.{pidAllowed}
 use Rattle.header_layout.specs.Header.{headerLength}
+use Rattle.header_check.specs.Checking.{readRefusal, refusalBy}
 use Rattle.header_write.specs.Writing.{writeRefusal, written}
 use Rattle.header_read.specs.Reader.{readOf}
 use Rattle.setting_bytes.specs.Kinds.{isKind, kindOf}
@@ -35,7 +36,11 @@ writeMemory packet pid kind setting =
 
 unfoldable pub readRefused : List ℕ → ℕ → ℕ → List ℕ → ℕ
 readRefused packet pid kind setting =
-    thenRefused (callRefused (length packet) (length setting) pid kind) (readOf (kindOf kind) pid packet .refusal)
+    thenRefused (callRefused (length packet) (length setting) pid kind) (readRefusal (kindOf kind) pid packet)
+
+-- beside 7 the packet's remainder, beside any other number and beside 0 it is 0
+unfoldable pub readRemainder : List ℕ → ℕ → ℕ → List ℕ → ℕ
+readRemainder packet pid kind setting = refusalBy (readRefused packet pid kind setting) packet .remainder
 
 unfoldable pub readMemory : List ℕ → ℕ → ℕ → List ℕ → List ℕ
 readMemory packet pid kind setting =

@@ -1,7 +1,7 @@
 -- What a packet says in the parts that a check asks for, as byte-wise code reads them, and what is answered of them by the refusal.
 -- Assumes nothing.
 use Prim.Native.Nat.{ℕ, _+_, _-_, _*_, _/_, _%_, _^_, _≤_, _<_}
-use mathlib.Core.Path.{_≡_, sym, ap, _∙_, subst}
+use mathlib.Core.Path.{_≡_, refl, sym, ap, _∙_, subst}
 use mathlib.Core.List.{List, _++_}
 use borrow.Author.Tests.{ne-eqb}
 use native.Mathlib.Omega.{arith}
@@ -19,8 +19,9 @@ use Rattle.setting.proofs.Sizes.{sized, resized-same, resized-longer}
 use Rattle.header_layout.specs.Header.{headerLength, reading}
 use Rattle.header_layout.proofs.Cut.{wordAt, length-part}
 use Rattle.header_layout.proofs.Said.{fields-are, streams-are, numbers-are}
+use Rattle.header_check.specs.declared.Refusal.{Refusal}
 use Rattle.header_check.specs.declared.Checked.{Checked}
-use Rattle.header_check.specs.Checking.{readRefusal, partsOf, partsBeside, checkedOf}
+use Rattle.header_check.specs.Checking.{readRefusal, bare, refusalBy, partsOf, partsBeside, checkedOf}
 
 -- the counter and the frame type, which stand in the same place in every kind
 module _ (kind : Kind) (p : List ℕ) (f : Fit 8 p) (h : length p ≡ headerLength) where
@@ -80,22 +81,37 @@ pub record Answers (kind : Kind) (p : List ℕ) (r : Checked) : Type 0 where
 
 -- what is answered tells the refusal, and beside 0 what the packet says
 module _ (kind : Kind) (pid : ℕ) (p : List ℕ) (r : Checked) (e : r ≡ checkedOf kind pid p) where
-  pub refusal-is : readRefusal kind pid p ≡ r .refusal
+  pub refusal-shown : r .refusal ≡ refusalBy (readRefusal kind pid p) p
   unfolding checkedOf partsBeside partsOf
-  refusal-is = sym (ap (λ (x : Checked). x .refusal) e)
+  refusal-shown = ap (λ (x : Checked). x .refusal) e
 
-  pub parts-are : r .refusal ≡ 0 → r ≡ partsOf 0 (reading kind p)
-  unfolding checkedOf partsBeside
+  pub refusal-is : readRefusal kind pid p ≡ r .refusal .number
+  unfolding refusalBy
+  refusal-is = sym (ap (λ (x : Refusal). x .number) refusal-shown)
+
+  pub parts-are : r .refusal .number ≡ 0 → r ≡ partsOf (bare 0) (reading kind p)
+  unfolding checkedOf partsBeside refusalBy
   parts-are z = e ∙ rw (refusal-is ∙ z)
 
--- n is the refusal, and m what the code found it to be
-module _ (kind : Kind) (p : List ℕ) {m n : ℕ} (e : n ≡ m) (r : Checked) where
-  pub refused : (m ≡ 0 → ⊥) → r ≡ partsOf m blank → r ≡ partsBeside n kind p
-  unfolding partsBeside
-  refused h s = rw (e, ne-eqb m 0 h) s
+-- beside any number but 7 no remainder is shown
+pub bare-is : (n : ℕ) (p : List ℕ) → (n ≡ 7 → ⊥) → bare n ≡ refusalBy n p
+unfolding refusalBy
+bare-is n p h = rw (ne-eqb n 7 h) refl
 
-  pub accepted : m ≡ 0 → r .refusal ≡ 0 → Answers kind p r → r ≡ partsBeside n kind p
-  unfolding partsBeside partsOf reading
+pub refused-bare : (n : ℕ) {m : ℕ} (p : List ℕ) {r : Refusal} → r ≡ bare n → (n ≡ 7 → ⊥) → n ≡ m → r ≡ refusalBy m p
+refused-bare n p e h s = e ∙ bare-is n p h ∙ ap (λ (k : ℕ). refusalBy k p) s
+
+-- n is the refusal's number, and m what the code found it to be
+module _ (kind : Kind) (p : List ℕ) {m n : ℕ} (e : n ≡ m) (r : Checked) where
+  pub refused-with : (m ≡ 0 → ⊥) → {f : Refusal} → f ≡ refusalBy m p → r ≡ partsOf f blank → r ≡ partsBeside n kind p
+  unfolding partsBeside
+  refused-with h f s = rw (e, ne-eqb m 0 h) (s ∙ ap (λ (x : Refusal). partsOf x blank) f)
+
+  pub refused : (m ≡ 0 → ⊥) → (m ≡ 7 → ⊥) → r ≡ partsOf (bare m) blank → r ≡ partsBeside n kind p
+  refused h seven s = refused-with h (bare-is m p seven) s
+
+  pub accepted : m ≡ 0 → r .refusal ≡ bare 0 → Answers kind p r → r ≡ partsBeside n kind p
+  unfolding partsBeside partsOf refusalBy reading
   accepted z s a =
       rw (e ∙ z)
       (λ i. record {

@@ -1,3 +1,4 @@
 pub mod Asked
 pub mod Accepted
 pub mod Identifiers
+pub mod Sevens

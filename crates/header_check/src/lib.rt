@@ -4,17 +4,36 @@ use counters::FramePosition;
 use counters::SLOTS;
 use setting::Kind;
 ghost use mathlib.Core.Path.{_≡_};
-ghost use Rattle.header_check.specs.Checking.{checkedOf, numbersInto};
+ghost use Rattle.header_check.specs.Checking.{bare, checkedOf, numbersInto};
 ghost use Rattle.header_check.specs.Cutting.{cutInto};
 
 mod packed;
 mod parts;
 mod reserved;
 
-// Refusal 0 and the fields that receiving and gathering use, or the refusal's number and zeros. The slots' numbers are read apart, by
+// Why a header is refused: the number, or 0; and beside 7 the remainder, which the bytes that the CRC covers leave in the register, beside any
+// other number 0. Callers pass it up as it is.
+pub struct Refusal {
+    pub number: u8,
+    pub remainder: u32,
+}
+
+impl Refusal {
+    // A number with no remainder beside it.
+    pub fn bare(number: u8) -> Refusal
+        ensures { λ r. ⌜ r ≡ bare number ⌝ }
+    {
+        Refusal {
+            number,
+            remainder: 0,
+        }
+    }
+}
+
+// Refusal 0 and the fields that receiving and gathering use, or the refusal and zeros. The slots' numbers are read apart, by
 // `read_numbers`.
 pub struct Checked {
-    pub refusal: u8,
+    pub refusal: Refusal,
     pub continuity_counter: u8,
     pub availability: u16,
     pub group_id: u8,
@@ -35,12 +54,12 @@ pub fn check(packet: &[u8], pid: u16, kind: Kind) -> Checked
         return parts::refused(2);
     }
     let shown = parts::packet_refusal(packet, pid);
-    if shown != 0 {
-        return parts::refused(shown);
+    if shown.number != 0 {
+        return parts::refused_with(shown);
     }
-    let refusal = reserved::refusal(packet, kind);
-    if refusal != 0 {
-        return parts::refused(refusal);
+    let number = reserved::refusal(packet, kind);
+    if number != 0 {
+        return parts::refused(number);
     }
     parts::said_by(packet, kind)
 }

@@ -1,5 +1,6 @@
 // The parts of the check: what a packet of 188 bytes shows and says, as far as the check needs it.
 use crate::Checked;
+use crate::Refusal;
 use crate::packed;
 use counters::FramePosition;
 use counters::RelativeNumber;
@@ -15,8 +16,8 @@ ghost use Rattle.setting.specs.Setting.{blank};
 ghost use Rattle.setting.specs.Refusal.{firstOf};
 ghost use Rattle.counters.specs.Counters.{lastSlot};
 ghost use Rattle.setting.specs.Rules.{someUnavailable, pairTwice, bondingChecks, ruleChecks};
-ghost use Rattle.header_layout.specs.Header.{headerLength, packetChecks, reading};
-ghost use Rattle.header_check.specs.Checking.{partsOf, partsBeside};
+ghost use Rattle.header_layout.specs.Header.{headerLength, remainderOf, packetChecks, reading};
+ghost use Rattle.header_check.specs.Checking.{bare, refusalBy, partsOf, partsBeside};
 
 // The number of 16 bits that starts at byte `at`.
 fn word_at(part: &[u8], at: usize) -> u16
@@ -26,30 +27,42 @@ fn word_at(part: &[u8], at: usize) -> u16
     bits::word(part[at], part[at + 1])
 }
 
-// 3 to 7: what the packet itself shows.
-pub(crate) fn packet_refusal(packet: &[u8], pid: u16) -> u8
+// The check of the CRC: what it leaves in the register, 0 where it is right.
+fn remainder_of(packet: &[u8]) -> u32
     requires { ⌜ length (now packet) ≡ headerLength ⌝ }
-    ensures { λ r. ⌜ r ≡ firstOf (packetChecks pid (now (packet .entry))) ⌝ }
+    ensures { λ r. ⌜ r ≡ remainderOf (now (packet .entry)) ⌝ }
+{
+    crc::register(&packet[header_layout::TSMF_SYNC..header_layout::HEADER_LENGTH])
+}
+
+// 3 to 7: what the packet itself shows.
+pub(crate) fn packet_refusal(packet: &[u8], pid: u16) -> Refusal
+    requires { ⌜ length (now packet) ≡ headerLength ⌝ }
+    ensures { λ r. ⌜ r ≡ refusalBy (firstOf (packetChecks pid (now (packet .entry)))) (now (packet .entry)) ⌝ }
 {
     if packet[0] != 0x47 {
-        return 3;
+        return Refusal::bare(3);
     }
     if word_at(packet, 1) % 8192 != pid {
-        return 4;
+        return Refusal::bare(4);
     }
     if packet[1] / 32 != 0 {
-        return 5;
+        return Refusal::bare(5);
     }
     if packet[3] / 16 != 1 {
-        return 5;
+        return Refusal::bare(5);
     }
     if word_at(packet, 4) % 8192 != 0x1A86 {
-        return 6;
+        return Refusal::bare(6);
     }
-    if crc::register(&packet[header_layout::TSMF_SYNC..header_layout::HEADER_LENGTH]) != 0 {
-        return 7;
+    let remainder = remainder_of(packet);
+    if remainder != 0 {
+        return Refusal {
+            number: 7,
+            remainder,
+        };
     }
-    0
+    Refusal::bare(0)
 }
 
 // The number of each slot: values of 4 bits, two from a byte.
@@ -237,12 +250,12 @@ pub(crate) fn said_by(packet: &[u8], kind: Kind) -> Checked
         return refused(10);
     }
     let bonding = bonding_of(packet, kind);
-    let refusal = bonding_refusal(bonding, kind);
-    if refusal != 0 {
-        return refused(refusal);
+    let number = bonding_refusal(bonding, kind);
+    if number != 0 {
+        return refused(number);
     }
     Checked {
-        refusal: 0,
+        refusal: Refusal::bare(0),
         continuity_counter: packet[3] % 16,
         availability,
         group_id: bonding.group_id,
@@ -253,8 +266,15 @@ pub(crate) fn said_by(packet: &[u8], kind: Kind) -> Checked
     }
 }
 
-// A refusal: its number, and zeros in every other part.
-pub(crate) fn refused(refusal: u8) -> Checked
+// A refusal by any number but 7: zeros in every other part.
+pub(crate) fn refused(number: u8) -> Checked
+    ensures { λ r. ⌜ r ≡ partsOf (bare number) blank ⌝ }
+{
+    refused_with(Refusal::bare(number))
+}
+
+// A refusal, with zeros in the parts of a setting.
+pub(crate) fn refused_with(refusal: Refusal) -> Checked
     ensures { λ r. ⌜ r ≡ partsOf refusal blank ⌝ }
 {
     Checked {

@@ -135,6 +135,10 @@ callChecks pid lent = (1, not (eqb lent headerLength)) ∷ (2, not (pidAllowed p
 abbrev pub startValue : List ℕ → Field → ℕ
 startValue p f = getD (rowAt (rowsOf startTable) (rowWith f startTable) (run 8 p)) 0 0
 
+-- the remainder: what the packet's bytes 4 to 187 leave in the register, 0 where the CRC is right
+abbrev pub remainderOf : List ℕ → ℕ
+remainderOf p = registerOf (drop 4 p)
+
 -- 3 to 7: what the packet itself shows
 unfoldable pub packetChecks : ℕ → List ℕ → List Check
 packetChecks pid p =
@@ -142,7 +146,7 @@ packetChecks pid p =
     ∷ (4, not (eqb (startValue p Field.header-pid) pid))
     ∷ (5, not (eqb (startValue p Field.zeros) 0 && eqb (startValue p Field.payload) 1))
     ∷ (6, not (eqb (startValue p Field.tsmf-sync) tsmfSync))
-    ∷ (7, not (eqb (registerOf (drop 4 p)) 0))
+    ∷ (7, not (eqb (remainderOf p) 0))
     ∷ []
 
 -- 20, of row k: whether one of its bits is 0

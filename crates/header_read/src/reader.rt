@@ -34,7 +34,7 @@ ghost use Rattle.setting_bytes.specs.Words.{wordBytes};
 ghost use Rattle.setting_bytes.specs.Settings.{announcedLength, announcedBytes, settingLength, settingBytes};
 ghost use Rattle.setting_pairs.specs.Identifiers.{idsApart};
 ghost use Rattle.header_layout.specs.Header.{headerLength, reading};
-ghost use Rattle.header_check.specs.Checking.{partsOf};
+ghost use Rattle.header_check.specs.Checking.{bare, partsOf};
 
 // One identifier of each of so many streams: two bytes of every four.
 fn read_words(part: &mut [u8], ids: &[u8], streams: usize)
@@ -146,7 +146,7 @@ fn read_auxiliary(part: &mut [u8], packet: &[u8], kind: Kind)
 // What the packet says, field by field, as the bytes of a setting. `heard` has the parts that the check has already read.
 pub(crate) fn read_setting(setting: &mut [u8], packet: &[u8], kind: Kind, heard: Checked)
     requires { ⌜ length (now setting) ≡ settingLength ⌝ }
-    requires { ⌜ (length (now packet) ≡ headerLength) × (heard ≡ partsOf 0 (reading kind (now packet))) ⌝ }
+    requires { ⌜ (length (now packet) ≡ headerLength) × (heard ≡ partsOf (bare 0) (reading kind (now packet))) ⌝ }
     ensures { λ _. ⌜ now (setting .exit) ≡ settingBytes (reading kind (now (packet .entry))) ⌝ }
 {
     read_announced(

@@ -10,6 +10,7 @@ use Rattle.setting_bytes.specs.Settings.{part}
 use Rattle.counters.specs.Counters.{lastSlot}
 use Rattle.setting.specs.Setting.{Array}
 use Rattle.receiver.specs.declared.Event.{Event}
+use Rattle.receiver.specs.declared.Told.{Told}
 use Rattle.receiver.specs.declared.Stage.{Stage}
 use Rattle.receiver.specs.Packed.{packedLength, packed, unpacked}
 use Rattle.receiver.specs.Receiving.{Receiver}
@@ -97,13 +98,16 @@ isStage tag from k = leb tag 2 && ((not (eqb tag 0) || (eqb from 0 && eqb k 0)) 
 unfoldable pub isCoded : List ℕ → Bool
 isCoded b = isKind (getD b kindAt 0) && isStage (getD b stageAt 0) (getD b counterAt 0) (getD b storedAt 0)
 
--- what a packet did, as a number
-unfoldable pub eventNumber : Event → ℕ
-eventNumber Event.Nothing = 0
-eventNumber Event.Opened = 1
-eventNumber Event.Stored = 2
-eventNumber Event.Ready = 3
-eventNumber Event.Short = 4
-eventNumber Event.Jump = 5
-eventNumber Event.Long = 6
-eventNumber Event.Broken = 7
+-- what a packet did, as a call answers it: the event's number, and the remainder, which is 0 beside any event but 'broken'
+unfoldable pub told : Event → Told
+told Event.Nothing = record { event = 0; remainder = 0 }
+told Event.Opened = record { event = 1; remainder = 0 }
+told Event.Stored = record { event = 2; remainder = 0 }
+told Event.Ready = record { event = 3; remainder = 0 }
+told Event.Short = record { event = 4; remainder = 0 }
+told Event.Jump = record { event = 5; remainder = 0 }
+told Event.Long = record { event = 6; remainder = 0 }
+told (Event.Broken r) = record { event = 7; remainder = r }
+
+abbrev pub eventNumber : Event → ℕ
+eventNumber e = told e .event

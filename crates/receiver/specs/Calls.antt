@@ -7,8 +7,10 @@ use lib.ListN.{length}
 use Rattle.setting.specs.Refusal.{firstOf, ofLength, leaves}
 use Rattle.setting.specs.Rules.{pidAllowed}
 use Rattle.setting_bytes.specs.Kinds.{isKind, kindOf}
+use Rattle.receiver.specs.declared.Event.{Event}
+use Rattle.receiver.specs.declared.Told.{Told}
 use Rattle.receiver.specs.Receiving.{waiting, receiverChecks, receiveOf, receiveStore, handOutOf, handOutBuffer}
-use Rattle.receiver.specs.Bytes.{receiverLength, receiverBytes, receiverOf, eventNumber}
+use Rattle.receiver.specs.Bytes.{receiverLength, receiverBytes, receiverOf, told}
 
 -- start: 1, 2, and 17 for a number that is no kind
 unfoldable pub startRefused : List ℕ → ℕ → ℕ → ℕ
@@ -30,9 +32,16 @@ stateRefused state = lentRefusal state (firstOf (receiverChecks (receiverOf stat
 unfoldable pub receiveRefused : List ℕ → List ℕ → List ℕ → ℕ
 receiveRefused state p store = lentRefusal state (receiveOf (receiverOf state) p (length store) .refusal)
 
-unfoldable pub receiveEvent : List ℕ → List ℕ → List ℕ → ℕ
-receiveEvent state p store =
-    cond (eqb (length state) receiverLength) (eventNumber (receiveOf (receiverOf state) p (length store) .event)) 0
+-- what the packet did; nothing, and remainder 0, if the call is refused
+unfoldable pub receiveTold : List ℕ → List ℕ → List ℕ → Told
+receiveTold state p store =
+    told (cond (eqb (length state) receiverLength) (receiveOf (receiverOf state) p (length store) .event) Event.Nothing)
+
+abbrev pub receiveEvent : List ℕ → List ℕ → List ℕ → ℕ
+receiveEvent state p store = receiveTold state p store .event
+
+abbrev pub receiveRemainder : List ℕ → List ℕ → List ℕ → ℕ
+receiveRemainder state p store = receiveTold state p store .remainder
 
 unfoldable pub receiveState : List ℕ → List ℕ → List ℕ → List ℕ
 receiveState state p store =

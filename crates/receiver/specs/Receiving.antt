@@ -55,7 +55,7 @@ renumbered c stage said = record { pid = c .pid; kind = c .kind; stage = stage; 
 
 unfoldable pub receiverAfter : Receiver → Sort → Stage → List ℕ → Receiver
 receiverAfter c good stage said = renumbered c stage said
-receiverAfter c broken stage said = moved c stage
+receiverAfter c (broken remainder) stage said = moved c stage
 receiverAfter c other stage said = moved c stage
 
 -- ---- the checks, in the table's order

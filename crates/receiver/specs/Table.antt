@@ -9,10 +9,11 @@ use Rattle.receiver.specs.declared.Stage.{Stage}
 use Rattle.receiver.specs.declared.Event.{Event}
 use Rattle.receiver.specs.declared.Row.{Row}
 
--- a good header is one that the reader accepts; a broken packet lacks 0x47 or bears the header PID without being one
+-- a good header is one that the reader accepts; a broken packet lacks 0x47 or bears the header PID without being one. With a broken packet
+-- goes the remainder that the reader shows of it
 pub data Sort : Type 0 where
   good : Sort
-  broken : Sort
+  broken : ℕ → Sort
   other : Sort
 
 -- the step between two counters: a byte's wrapping subtraction, then reduced to four bits
@@ -29,13 +30,13 @@ openRow slots from k good to =
     cond (eqb k slots && eqb (counterStep from to) 1)
     (row Event.Ready (Stage.Ready to))
     (row (cond (ltb k slots) Event.Short Event.Jump) (Stage.Open to 0))
-openRow slots from k broken to = row Event.Broken Stage.Waiting
+openRow slots from k (broken remainder) to = row (Event.Broken remainder) Stage.Waiting
 openRow slots from k other to = cond (ltb k slots) (row Event.Stored (Stage.Open from (k + 1))) (row Event.Long Stage.Waiting)
 
 -- all rows. While a frame is ready, the next one is open with no packet stored
 unfoldable pub rowOf : ℕ → Stage → Sort → ℕ → Row
 rowOf slots Stage.Waiting good to = row Event.Opened (Stage.Open to 0)
-rowOf slots Stage.Waiting broken to = row Event.Nothing Stage.Waiting
+rowOf slots Stage.Waiting (broken remainder) to = row Event.Nothing Stage.Waiting
 rowOf slots Stage.Waiting other to = row Event.Nothing Stage.Waiting
 rowOf slots (Stage.Open from k) sort to = openRow slots from k sort to
 rowOf slots (Stage.Ready from) sort to = openRow slots from 0 sort to
@@ -49,7 +50,7 @@ makesReady Event.Ready = true
 makesReady Event.Short = false
 makesReady Event.Jump = false
 makesReady Event.Long = false
-makesReady Event.Broken = false
+makesReady (Event.Broken remainder) = false
 
 abbrev pub droppedBy : Event → ℕ
 droppedBy Event.Nothing = 0
@@ -59,7 +60,7 @@ droppedBy Event.Ready = 0
 droppedBy Event.Short = 1
 droppedBy Event.Long = 2
 droppedBy Event.Jump = 3
-droppedBy Event.Broken = 4
+droppedBy (Event.Broken remainder) = 4
 
 -- whether a frame is ready
 abbrev pub isReady : Stage → Bool

@@ -26,9 +26,16 @@ pub enum Event {
     // The frame before is dropped, and a new one opened: it had fewer packets than slots, or the counter did not step by one.
     Short,
     Jump,
-    // The open frame is dropped: by a packet for which there is no slot, or by a broken one.
+    // The open frame is dropped: by a packet for which there is no slot, or by a broken one. Beside 'broken' stands the remainder of a header
+    // that is refused by 7; 0 stands for any other cause.
     Long,
-    Broken,
+    Broken(u32),
+}
+
+// What a packet did, as a call answers it: the event's number, and the remainder.
+pub struct Told {
+    pub event: u8,
+    pub remainder: u32,
 }
 
 // A row of the receiver's table: what happened, and where the receiver stands then.

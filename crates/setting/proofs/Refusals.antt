@@ -1,10 +1,10 @@
 -- Laws of the first check that holds. Assumes nothing.
 use Prim.Native.Nat.{ℕ, zero, suc, _≤_}
-use mathlib.Core.Path.{_≡_, refl, sym, ap₂, _∙_}
-use mathlib.Core.Bool.{Bool, true, false, cond, _&&_}
-use mathlib.Core.List.{List, [], _∷_, _++_}
+use mathlib.Core.Path.{_≡_, refl, sym, ap, ap₂, _∙_}
+use mathlib.Core.Bool.{Bool, true, false, cond, not, _&&_, false≢true}
+use mathlib.Core.List.{List, [], _∷_, _++_, append-nil}
 use native.Mathlib.Omega.{arith}
-use lib.Dec.{leb}
+use lib.Dec.{leb, eqb}
 use lib.ListN.{getD, drop}
 use borrow.Author.Tests.{leb-true, ne-eqb, eq-eqb}
 use Rattle.slices.proofs.Any.{both}
@@ -95,6 +95,36 @@ unfolding firstOf
 at-once [] ds h = absurd (h refl)
 at-once ((n, true) ∷ cs) ds h = refl
 at-once ((n, false) ∷ cs) ds h = at-once cs ds h
+
+-- ---- a number that no check answers
+
+-- no check with the number n holds
+abbrev pub idle : ℕ → List Check → Bool
+idle n [] = true
+idle n (c ∷ cs) = not (eqb (c .0) n && c .1) && idle n cs
+
+pub idle-append : (n : ℕ) (cs ds : List Check) → idle n cs ≡ true → idle n ds ≡ true → idle n (cs ++ ds) ≡ true
+idle-append n [] ds e f = f
+idle-append n (c ∷ cs) ds e f =
+    let p = both (not (eqb (c .0) n && c .1)) (idle n cs) e in
+    ap₂ _&&_ (p .0) (idle-append n cs ds (p .1) f)
+
+-- n is then answered by the checks behind them, or by those before them
+pub idle-before : (n : ℕ) (cs ds : List Check) → idle n cs ≡ true → firstOf (cs ++ ds) ≡ n → firstOf ds ≡ n
+unfolding firstOf
+idle-before n [] ds i e = e
+idle-before n ((m, true) ∷ cs) ds i e = absurd (false≢true (sym (rw (eq-eqb m n e) refl) ∙ both (not (eqb m n && true)) (idle n cs) i .0))
+idle-before n ((m, false) ∷ cs) ds i e = idle-before n cs ds (both (not (eqb m n && false)) (idle n cs) i .1) e
+
+pub never-first : (n : ℕ) (cs : List Check) → (n ≡ 0 → ⊥) → idle n cs ≡ true → firstOf cs ≡ n → ⊥
+unfolding firstOf
+never-first n cs z i e = z (sym (idle-before n cs [] i (ap firstOf (append-nil cs) ∙ e)))
+
+pub idle-behind : (n : ℕ) (cs ds : List Check) → (n ≡ 0 → ⊥) → idle n ds ≡ true → firstOf (cs ++ ds) ≡ n → firstOf cs ≡ n
+unfolding firstOf
+idle-behind n [] ds z i e = absurd (never-first n ds z i e)
+idle-behind n ((m, true) ∷ cs) ds z i e = e
+idle-behind n ((m, false) ∷ cs) ds z i e = idle-behind n cs ds z i e
 
 -- ---- what a call leaves, where n is the refusal and m what the code found it to be
 

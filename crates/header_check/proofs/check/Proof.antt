@@ -11,8 +11,10 @@ use Rattle.header_layout.specs.Header.{reading, packetChecks, reservedChecks}
 use Rattle.header_layout.proofs.Calls.{wrong-length, wrong-pid, right-call}
 use Rattle.header_layout.proofs.Packet.{packet-none}
 use Rattle.header_layout.proofs.Reserved.{reserved-none}
-use Rattle.header_check.specs.Checking.{readChecks, readRefusal, partsBeside, checkedOf}
-use Rattle.header_check.proofs.Asked.{refused}
+use Rattle.header_check.specs.declared.Refusal.{Refusal}
+use Rattle.header_check.specs.Checking.{readChecks, readRefusal, refusalBy, partsBeside, checkedOf}
+use Rattle.header_check.proofs.Asked.{refused, refused-with}
+use Rattle.header_check.proofs.Sevens.{not-of-reserved}
 use Rattle.header_check.proofs.check.Statement.{statement}
 use Rattle.header_check.proofs.check.Tie as tie
 
@@ -24,7 +26,7 @@ abbrev start₂ : tie.Else2 → tie.Start
 start₂ c = start₁ (c .before .before)
 
 abbrev start₃ : tie.Else3 → tie.Start
-start₃ c = start₂ (c .before .before)
+start₃ c = start₂ (c .before .before .before)
 
 abbrev start₄ : tie.Else4 → tie.Start
 start₄ c = start₃ (c .before .before)
@@ -47,10 +49,15 @@ unfolding readRefusal readChecks
 past₂ c =
     right-call (start₂ c .args .pid) _ _ (c .before .before .if1 .left) (sym (c .before .pid-allowed .ensures) ∙ not-false _ (c .if2 .left))
 
+-- the number that the packet itself shows
+shown : (c : tie.After-packet-refusal) → c .packet-refusal .result .number ≡ firstOf (packets (start₂ (c .before)))
+unfolding refusalBy
+shown c = ap (λ (r : Refusal). r .number) (c .packet-refusal .ensures)
+
 past₃ : (c : tie.Else3) → all (start₃ c) ≡ firstOf (reserved (start₃ c) ++ rules (start₃ c))
 past₃ c =
     let s = start₃ c in
-    past₂ (c .before .before) ∙ onward _ (packet-none (s .args .pid) (s .args .packet .now) (sym (c .before .packet-refusal .ensures) ∙ c .if3 .left))
+    past₂ (c .before .before .before) ∙ onward _ (packet-none (s .args .pid) (s .args .packet .now) (sym (shown (c .before .before)) ∙ c .if3 .left))
 
 past₄ : (c : tie.Else4) → all (start₄ c) ≡ firstOf (rules (start₄ c))
 past₄ c =
@@ -64,7 +71,7 @@ returns : tie.Need-returns
 unfolding readRefusal checkedOf
 returns c =
     let s = c .before .before .before in
-    refused (s .args .kind) (s .args .packet .now) (wrong-length (s .args .pid) _ (readChecks (s .args .kind) (s .args .pid) (s .args .packet .now)) (c .before .if1 .taken)) (c .refused .result) (omega arith)
+    refused (s .args .kind) (s .args .packet .now) (wrong-length (s .args .pid) _ (readChecks (s .args .kind) (s .args .pid) (s .args .packet .now)) (c .before .if1 .taken)) (c .refused .result) (omega arith) (omega arith)
     (c .refused .ensures)
 
 pid-allowed-requires : tie.Need-pid-allowed-requires
@@ -79,28 +86,29 @@ returns-2 c =
     let s = start₁ (c .before .before .before) in
     refused (s .args .kind) (s .args .packet .now)
     (wrong-pid (s .args .pid) _ (readChecks (s .args .kind) (s .args .pid) (s .args .packet .now)) (c .before .before .before .if1 .left) (sym (c .before .before .pid-allowed .ensures) ∙ not-true _ (c .before .if2 .taken)))
-    (c .refused2 .result) (omega arith) (c .refused2 .ensures)
+    (c .refused2 .result) (omega arith) (omega arith) (c .refused2 .ensures)
 
 packet-refusal-requires : tie.Need-packet-refusal-requires
 packet-refusal-requires c κs = omega arith
 
-refused-requires-3 : tie.Need-refused-requires-3
-refused-requires-3 c κs = omega arith
+refused-with-requires : tie.Need-refused-with-requires
+refused-with-requires c κs = omega arith
 
 returns-3 : tie.Need-returns-3
 unfolding checkedOf
 returns-3 c =
-    let s = start₂ (c .before .before .before) in
-    let n = c .before .before .packet-refusal .ensures in
+    let after = c .before .before .before in
+    let s = start₂ (after .before) in
+    let n = shown after in
     let no = c .before .if3 .taken in
-    refused (s .args .kind) (s .args .packet .now) (past₂ (c .before .before .before) ∙ at-once (packets s) _ (λ z. no (n ∙ z)) ∙ sym n) (c .refused3 .result) no
-    (c .refused3 .ensures)
+    refused-with (s .args .kind) (s .args .packet .now) (past₂ (after .before) ∙ at-once (packets s) _ (λ z. no (n ∙ z))) (c .refused-with .result) (λ z. no (n ∙ z))
+    (after .packet-refusal .ensures) (c .refused-with .ensures)
 
 refusal-requires : tie.Need-refusal-requires
 refusal-requires c κs = omega arith
 
-refused-requires-4 : tie.Need-refused-requires-4
-refused-requires-4 c κs = omega arith
+refused-requires-3 : tie.Need-refused-requires-3
+refused-requires-3 c κs = omega arith
 
 returns-4 : tie.Need-returns-4
 unfolding checkedOf
@@ -108,8 +116,8 @@ returns-4 c =
     let s = start₃ (c .before .before .before) in
     let n = c .before .before .refusal .ensures in
     let no = c .before .if4 .taken in
-    refused (s .args .kind) (s .args .packet .now) (past₃ (c .before .before .before) ∙ at-once (reserved s) (rules s) (λ z. no (n ∙ z)) ∙ sym n) (c .refused4 .result) no
-    (c .refused4 .ensures)
+    refused (s .args .kind) (s .args .packet .now) (past₃ (c .before .before .before) ∙ at-once (reserved s) (rules s) (λ z. no (n ∙ z)) ∙ sym n) (c .refused3 .result) no
+    (λ z. not-of-reserved (s .args .kind) (s .args .packet .now) (sym n ∙ z)) (c .refused3 .ensures)
 
 said-by-requires : tie.Need-said-by-requires
 said-by-requires c κs = omega arith
@@ -130,10 +138,10 @@ check-spec =
     refused-requires-2
     returns-2
     packet-refusal-requires
-    refused-requires-3
+    refused-with-requires
     returns-3
     refusal-requires
-    refused-requires-4
+    refused-requires-3
     returns-4
     said-by-requires
     returns-5)

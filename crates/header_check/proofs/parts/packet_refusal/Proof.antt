@@ -4,16 +4,16 @@ use mathlib.Core.List.{List, []}
 use Prim.Native.Nat.{ℕ, _%_}
 use native.Mathlib.Omega.{arith}
 use lib.Dec.{eqb}
-use lib.ListN.{drop, length-drop}
-use lib.Seq.{take-all}
 use Rattle.bits.specs.Fields.{Fit}
 use Rattle.bits.proofs.Laws.{fit-of}
-use Rattle.crc.specs.Crc.{registerOf}
 use Rattle.setting.specs.Refusal.{Check, firstOf}
 use Rattle.setting.proofs.Refusals.{Past, answers, passed}
 use Rattle.header_layout.specs.Layout.{syncByte, tsmfSync, Field}
 use Rattle.header_layout.specs.Header.{startValue, packetChecks}
 use Rattle.header_layout.proofs.Packet.{differs, agrees, first-differs, second-differs, both-agree, sync-byte, zeros, header-pid, one, tsmf-sync}
+use Rattle.header_check.specs.declared.Refusal.{Refusal}
+use Rattle.header_check.specs.Checking.{refusalBy}
+use Rattle.header_check.proofs.Asked.{refused-bare}
 use Rattle.header_check.proofs.parts.packet_refusal.Statement.{statement}
 use Rattle.header_check.proofs.parts.packet_refusal.Tie as tie
 
@@ -68,97 +68,114 @@ past₄ c =
     past₃ (c .before .before)
     ∙ passed 6 _ (agrees tsmfSync (tsmf-sync (packet k) (bytes k) (k .before .pre) ∙ ap (λ (n : ℕ). n % 8192) (sym (c .before .word-at2 .ensures))) (c .if5 .left))
 
--- the register over all bytes from byte 4 on
-remainder : (c : tie.After-register) → registerOf (drop 4 (packet (known₅ (c .before .before)))) ≡ c .register .result
-remainder c =
-    let k = known₅ (c .before .before) in
-    let l = k .before .pre in
-    sym (c .register .ensures ∙ ap registerOf (take-all 184 (drop 4 (packet k)) (rw length-drop (omega arith))))
-
 shared-slice-read-if1 : tie.Need-shared-slice-read-if1
 shared-slice-read-if1 c = omega arith
+
+bare-requires : tie.Need-bare-requires
+bare-requires c κs = omega arith
 
 returns : tie.Need-returns
 unfolding packetChecks
 returns c =
-    let k = c .before .before in
-    sym (answers 3 _ (differs syncByte (sync-byte (packet k) (bytes k) (k .before .pre)) (c .if1 .taken)))
+    let k = c .before .before .before in
+    refused-bare 3 (packet k) (c .bare .ensures) (omega arith)
+    (sym (answers 3 _ (differs syncByte (sync-byte (packet k) (bytes k) (k .before .pre)) (c .before .if1 .taken))))
 
 word-at-requires : tie.Need-word-at-requires
 word-at-requires c κs = omega arith
 
+bare-requires-2 : tie.Need-bare-requires-2
+bare-requires-2 c κs = omega arith
+
 returns-2 : tie.Need-returns-2
 unfolding packetChecks
 returns-2 c =
-    let k = known₁ (c .before .before) in
-    sym
-    (past₁ (c .before .before)
-    ∙ answers 4 _ (differs (k .before .args .pid) (header-pid (packet k) (bytes k) (k .before .pre) ∙ ap (λ (n : ℕ). n % 8192) (sym (c .before .word-at .ensures))) (c .if2 .taken)))
+    let k = known₁ (c .before .before .before) in
+    refused-bare 4 (packet k) (c .bare2 .ensures) (omega arith)
+    (sym
+    (past₁ (c .before .before .before)
+    ∙ answers 4 _ (differs (k .before .args .pid) (header-pid (packet k) (bytes k) (k .before .pre) ∙ ap (λ (n : ℕ). n % 8192) (sym (c .before .before .word-at .ensures))) (c .before .if2 .taken))))
 
 shared-slice-read-if3 : tie.Need-shared-slice-read-if3
 shared-slice-read-if3 c = omega arith
 
+bare-requires-3 : tie.Need-bare-requires-3
+bare-requires-3 c κs = omega arith
+
 returns-3 : tie.Need-returns-3
 unfolding packetChecks
 returns-3 c =
-    let k = known₂ (c .before .before) in
-    sym (past₂ (c .before .before) ∙ answers 5 _ (first-differs 0 _ (zeros (packet k) (bytes k) (k .before .pre)) (c .if3 .taken)))
+    let k = known₂ (c .before .before .before) in
+    refused-bare 5 (packet k) (c .bare3 .ensures) (omega arith)
+    (sym (past₂ (c .before .before .before) ∙ answers 5 _ (first-differs 0 _ (zeros (packet k) (bytes k) (k .before .pre)) (c .before .if3 .taken))))
 
 shared-slice-read-if4 : tie.Need-shared-slice-read-if4
 shared-slice-read-if4 c = omega arith
 
+bare-requires-4 : tie.Need-bare-requires-4
+bare-requires-4 c κs = omega arith
+
 returns-4 : tie.Need-returns-4
 unfolding packetChecks
 returns-4 c =
-    let k = known₃ (c .before .before) in
-    sym (past₂ (c .before .before .before .before) ∙ answers 5 _ (second-differs 1 (eqb (startValue (packet k) Field.zeros) 0) (one (packet k) (bytes k) (k .before .pre)) (c .if4 .taken)))
+    let k = known₃ (c .before .before .before) in
+    refused-bare 5 (packet k) (c .bare4 .ensures) (omega arith)
+    (sym (past₂ (c .before .before .before .before .before) ∙ answers 5 _ (second-differs 1 (eqb (startValue (packet k) Field.zeros) 0) (one (packet k) (bytes k) (k .before .pre)) (c .before .if4 .taken))))
 
 word-at-requires-2 : tie.Need-word-at-requires-2
 word-at-requires-2 c κs = omega arith
 
+bare-requires-5 : tie.Need-bare-requires-5
+bare-requires-5 c κs = omega arith
+
 returns-5 : tie.Need-returns-5
 unfolding packetChecks
 returns-5 c =
-    let k = known₄ (c .before .before) in
-    sym (past₃ (c .before .before) ∙ answers 6 _ (differs tsmfSync (tsmf-sync (packet k) (bytes k) (k .before .pre) ∙ ap (λ (n : ℕ). n % 8192) (sym (c .before .word-at2 .ensures))) (c .if5 .taken)))
+    let k = known₄ (c .before .before .before) in
+    refused-bare 6 (packet k) (c .bare5 .ensures) (omega arith)
+    (sym (past₃ (c .before .before .before) ∙ answers 6 _ (differs tsmfSync (tsmf-sync (packet k) (bytes k) (k .before .pre) ∙ ap (λ (n : ℕ). n % 8192) (sym (c .before .before .word-at2 .ensures))) (c .before .if5 .taken))))
 
-sub-register : tie.Need-sub-register
-sub-register c = omega arith
-
-part-register-start : tie.Need-part-register-start
-part-register-start c = omega arith
-
-part-register-end : tie.Need-part-register-end
-part-register-end c = omega arith
-
-register-requires : tie.Need-register-requires
-register-requires c κs = omega arith
+remainder-of-requires : tie.Need-remainder-of-requires
+remainder-of-requires c κs = omega arith
 
 returns-6 : tie.Need-returns-6
-unfolding packetChecks
-returns-6 c = sym (past₄ (c .before .before .before) ∙ answers 7 _ (differs 0 (remainder (c .before)) (c .if6 .taken)))
+unfolding packetChecks refusalBy
+returns-6 c =
+    let k = known₅ (c .before .before) in
+    let shown = c .before .remainder-of .ensures in
+    (λ i. record { number = 7; remainder = shown i })
+    ∙ ap (λ (n : ℕ). refusalBy n (packet k)) (sym (past₄ (c .before .before) ∙ answers 7 _ (differs 0 (sym shown) (c .if6 .taken))))
+
+bare-requires-6 : tie.Need-bare-requires-6
+bare-requires-6 c κs = omega arith
 
 returns-7 : tie.Need-returns-7
 unfolding packetChecks firstOf
-returns-7 c = sym (past₄ (c .before .before .before) ∙ passed 7 [] (agrees 0 (remainder (c .before)) (c .if6 .left)))
+returns-7 c =
+    let after = c .before .before in
+    refused-bare 0 (packet (known₅ (after .before))) (c .bare6 .ensures) (omega arith)
+    (sym (past₄ (after .before) ∙ passed 7 [] (agrees 0 (sym (after .remainder-of .ensures)) (c .before .if6 .left))))
 
 pub packet-refusal-spec : {M : Type 1} → statement M
 packet-refusal-spec =
     tie.close
     (tie.spec
     shared-slice-read-if1
+    bare-requires
     returns
     word-at-requires
+    bare-requires-2
     returns-2
     shared-slice-read-if3
+    bare-requires-3
     returns-3
     shared-slice-read-if4
+    bare-requires-4
     returns-4
     word-at-requires-2
+    bare-requires-5
     returns-5
-    sub-register
-    part-register-start
-    part-register-end
-    register-requires
+    remainder-of-requires
     returns-6
+    bare-requires-6
     returns-7)

@@ -1,6 +1,6 @@
 -- `said_by` meets its contract, check by check. Assumes nothing.
 use Prim.Native.Nat.{ℕ}
-use mathlib.Core.Path.{_≡_, refl, sym, ap, _∙_}
+use mathlib.Core.Path.{_≡_, sym, ap, _∙_}
 use mathlib.Core.Bool.{not}
 use mathlib.Core.List.{List}
 use native.Mathlib.Omega.{arith}
@@ -14,6 +14,7 @@ use Rattle.setting.proofs.Refusals.{Past, answers, passed}
 use Rattle.setting.specs.Rules.{typeAllowed, someUnavailable, pairTwice, bondingChecks, bondingOf, ruleChecks}
 use Rattle.header_layout.specs.Header.{reading}
 use Rattle.header_check.proofs.Asked.{counter-is, type-is, refused, accepted}
+use Rattle.header_check.proofs.Sevens.{not-of-bonding}
 use Rattle.header_check.proofs.parts.said_by.Statement.{statement}
 use Rattle.header_check.proofs.parts.said_by.Tie as tie
 
@@ -94,7 +95,7 @@ returns : tie.Need-returns
 unfolding ruleChecks
 returns c =
     let t = c .before .before in
-    refused (kind t) (packet t) (answers 8 _ (ap not (sym (allowed t)) ∙ c .before .if1 .taken)) _ (omega arith) (c .refused .ensures)
+    refused (kind t) (packet t) (answers 8 _ (ap not (sym (allowed t)) ∙ c .before .if1 .taken)) _ (omega arith) (omega arith) (c .refused .ensures)
 
 availability-of-requires : tie.Need-availability-of-requires
 availability-of-requires c κs = search needs
@@ -111,7 +112,7 @@ returns-2 c =
     let u = c .before .before in
     let t = from₂ u in
     refused (kind t) (packet t)
-    (past-1 (u .before .before) ∙ answers 9 _ (sym (unavailable u) ∙ c .before .if2 .taken)) _ (omega arith) (c .refused2 .ensures)
+    (past-1 (u .before .before) ∙ answers 9 _ (sym (unavailable u) ∙ c .before .if2 .taken)) _ (omega arith) (omega arith) (c .refused2 .ensures)
 
 has-pair-twice-requires : tie.Need-has-pair-twice-requires
 has-pair-twice-requires c κs = search needs
@@ -125,7 +126,7 @@ returns-3 c =
     let u = c .before .before in
     let t = from₃ u in
     refused (kind t) (packet t)
-    (past-2 (u .before) ∙ answers 10 _ (sym (twice u) ∙ c .before .if3 .taken)) _ (omega arith) (c .refused3 .ensures)
+    (past-2 (u .before) ∙ answers 10 _ (sym (twice u) ∙ c .before .if3 .taken)) _ (omega arith) (omega arith) (c .refused3 .ensures)
 
 bonding-of-requires : tie.Need-bonding-of-requires
 bonding-of-requires c κs = search needs
@@ -140,19 +141,23 @@ returns-4 : tie.Need-returns-4
 returns-4 c =
     let u = c .before .before in
     let t = from₃ (u .before .before .before) in
-    refused (kind t) (packet t) (bonded u) _ (c .before .if4 .taken) (c .refused4 .ensures)
+    refused (kind t) (packet t) (bonded u) _ (c .before .if4 .taken) (λ z. not-of-bonding (kind t) (said t) (sym (bonds u) ∙ z)) (c .refused4 .ensures)
+
+bare-requires : tie.Need-bare-requires
+bare-requires c κs = search needs
 
 shared-slice-read-t8 : tie.Need-shared-slice-read-t8
 shared-slice-read-t8 c = search needs
 
 returns-5 : tie.Need-returns-5
 returns-5 c =
-    let u = c .before .before in
+    let shown = c .before in
+    let u = shown .before .before in
     let b = u .before .bonding-of .ensures in
     let pair = u .before .before .before in
     let t = from₃ pair in
     let long = t .before .before .before .pre in
-    accepted (kind t) (packet t) (bonded u) _ (c .before .if4 .left) refl
+    accepted (kind t) (packet t) (bonded u) _ (shown .before .if4 .left) (shown .bare .ensures)
     (record {
       counter = counter-is (kind t) (packet t) (bytes t) long;
       streams = pair .before .before .before .availability-of .ensures;
@@ -182,5 +187,6 @@ said-by-spec =
     bonding-refusal-requires
     refused-requires-4
     returns-4
+    bare-requires
     shared-slice-read-t8
     returns-5)
