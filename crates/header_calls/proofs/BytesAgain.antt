@@ -7,6 +7,7 @@ use lib.ListN.{length}
 use Rattle.setting.specs.Refusal.{leaves}
 use Rattle.header_layout.specs.Header.{reading}
 use Rattle.header_write.specs.Writing.{written}
+use Rattle.header_check.specs.Checking.{readRefusal, refusalBy}
 use Rattle.header_read.specs.Reader.{readOf}
 use Rattle.header_read.proofs.Coded.{reading-long}
 use Rattle.header_codec.proofs.Again.{written-again}
@@ -27,10 +28,10 @@ neither-refused call inner e = by-call (ℕ-discrete call 0)
     by-call (no d) = absurd (d (rw (ne-eqb call 0 d) at e))
 
 pub bytes-again : BytesAgain
-unfolding writeRefused writeMemory readMemory readRefused thenRefused leaves readOf
+unfolding writeRefused writeMemory readMemory readRefused thenRefused leaves readOf refusalBy
 bytes-again pid kind packet setting buffer bytes e l =
     let k = kindOf kind in
-    let n = neither-refused (callRefused (length packet) (length setting) pid kind) (readOf k pid packet .refusal) e in
+    let n = neither-refused (callRefused (length packet) (length setting) pid kind) (readRefusal k pid packet) e in
     let c = called (length packet) (length setting) pid kind (n .0) in
     let s = reading k packet in
     let again = written-again k pid packet buffer bytes (n .1) l in

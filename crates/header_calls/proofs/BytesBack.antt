@@ -7,6 +7,8 @@ use Rattle.setting.specs.Refusal.{leaves}
 use Rattle.header_layout.specs.Header.{headerLength, header}
 use Rattle.header_layout.proofs.Whole.{length-header}
 use Rattle.header_write.specs.Writing.{written}
+use Rattle.header_read.specs.declared.Reading.{Reading}
+use Rattle.header_read.proofs.Calls.{number-is}
 use Rattle.header_codec.proofs.RoundTrip.{written-and-read-back}
 use Rattle.setting_bytes.specs.Kinds.{kindOf}
 use Rattle.setting_bytes.specs.Settings.{settingOf}
@@ -25,7 +27,8 @@ bytes-back pid kind setting packet buffer m p l =
     let is : writeMemory packet pid kind setting ≡ written (kindOf kind) pid s packet = rw call in
     let long : length (written (kindOf kind) pid s packet) ≡ headerLength = rw (w .0) (length-header (kindOf kind) pid s) in
     let again = right-call (length (written (kindOf kind) pid s packet)) (length buffer) pid kind (record { packet-long = long; setting-long = l; pid-allowed = m .rules .pid-allowed; is-kind = m .is-kind }) in
-    let refusal : readRefused (written (kindOf kind) pid s packet) pid kind buffer ≡ 0 = rw (again, w .1) in (
+    let accepted = number-is (kindOf kind) pid (written (kindOf kind) pid s packet) ∙ ap (λ (x : Reading). x .refusal .number) (w .1) in
+    let refusal : readRefused (written (kindOf kind) pid s packet) pid kind buffer ≡ 0 = rw again accepted in (
       rw (call, w .0) refl,
       (
         ap (λ (x : List ℕ). readRefused x pid kind buffer) is ∙ refusal,

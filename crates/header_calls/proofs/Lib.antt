@@ -1,3 +1,5 @@
 pub mod Called
 pub mod BytesBack
 pub mod BytesAgain
+pub mod ReadCall
+pub mod RemainderShown

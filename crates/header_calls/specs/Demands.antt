@@ -1,4 +1,4 @@
--- What demand 2 says of headers, over the calls of the C header. The proofs stand apart.
+-- What demand 2 and K6 say of headers, over the calls of the C header. The proofs stand apart.
 use Prim.Native.Nat.{ℕ}
 use mathlib.Core.Path.{_≡_}
 use mathlib.Core.Bool.{true}
@@ -7,9 +7,10 @@ use lib.ListN.{length}
 use Rattle.bits.specs.Fields.{Fit}
 use Rattle.header_layout.specs.Header.{headerLength}
 use Rattle.header_layout.specs.Meets.{MeetsRules}
+use Rattle.header_check.specs.Demands.{OnlyBesideSeven}
 use Rattle.setting_bytes.specs.Kinds.{isKind, kindOf}
 use Rattle.setting_bytes.specs.Settings.{settingLength, settingOf}
-use Rattle.header_calls.specs.Calls.{writeRefused, writeMemory, readRefused, readMemory}
+use Rattle.header_calls.specs.Calls.{writeRefused, writeMemory, readRefused, readRemainder, readMemory}
 
 -- 298 bytes that say a setting which meets the rules
 pub record Meets (pid kind : ℕ) (setting : List ℕ) : Type 0 where
@@ -34,3 +35,9 @@ BytesAgain =
     (pid kind : ℕ) (packet setting buffer : List ℕ) → Fit 8 packet → readRefused packet pid kind setting ≡ 0 → length buffer ≡ headerLength
     → (writeRefused buffer pid kind (readMemory packet pid kind setting) ≡ 0)
     × (writeMemory buffer pid kind (readMemory packet pid kind setting) ≡ packet)
+
+-- 'For refusal 7 the remainder is not zero': whatever `niranbok_header_read` is lent. Beside any other answer it is 0
+abbrev pub RemainderShown : Type 0
+RemainderShown =
+    (packet setting : List ℕ) (pid kind : ℕ)
+    → OnlyBesideSeven (record { number = readRefused packet pid kind setting; remainder = readRemainder packet pid kind setting })

@@ -1,17 +1,20 @@
--- Only a wrong CRC is refused by 7. Assumes nothing.
+-- Only a wrong CRC is refused by 7, and so a remainder that is not 0 stands beside 7 alone. Assumes nothing.
 use Prim.Native.Nat.{ℕ}
-use mathlib.Core.Path.{_≡_, refl}
+use mathlib.Core.Path.{_≡_, refl, sym, _∙_}
 use mathlib.Core.Bool.{true}
 use mathlib.Core.List.{List, [], _∷_, _++_, map}
 use native.Mathlib.Omega.{arith}
+use borrow.Author.Tests.{eq-eqb, ne-eqb}
+use lib.ListN.{length}
 use Rattle.setting.specs.declared.Kind.{Kind}
 use Rattle.setting.specs.declared.Setting.{Setting}
 use Rattle.setting.specs.Refusal.{firstOf}
 use Rattle.setting.specs.Rules.{bondingChecks, bondingOf, ruleChecks}
 use Rattle.setting.proofs.Refusals.{idle, idle-append, never-first}
 use Rattle.header_layout.specs.Layout.{reservedRows}
-use Rattle.header_layout.specs.Header.{reading, remainderOf, packetChecks, zeroCheck, reservedChecks}
-use Rattle.header_check.specs.Checking.{readChecks}
+use Rattle.header_layout.specs.Header.{reading, callChecks, remainderOf, packetChecks, zeroCheck, reservedChecks}
+use Rattle.header_check.specs.Checking.{readChecks, readRefusal, refusalBy}
+use Rattle.header_check.specs.Demands.{OnlyBesideSeven}
 
 -- no reserved bit, and no rule
 reserved-idle : (kind : Kind) (p : List ℕ) → idle 7 (reservedChecks kind p) ≡ true
@@ -43,3 +46,15 @@ pub read-idle : (kind : Kind) (pid : ℕ) (p : List ℕ) → remainderOf p ≡ 0
 unfolding readChecks packetChecks
 read-idle kind pid p e =
     rw e (idle-append 7 (reservedChecks kind p) (ruleChecks kind (reading kind p)) (reserved-idle kind p) (rules-idle kind (reading kind p)))
+
+-- so beside 7 the remainder of a packet is not 0
+pub seven-shows : (kind : Kind) (pid : ℕ) (p : List ℕ) → readRefusal kind pid p ≡ 7 → remainderOf p ≡ 0 → ⊥
+unfolding readRefusal
+seven-shows kind pid p e z =
+    never-first 7 (callChecks pid (length p) ++ readChecks kind pid p) (omega arith)
+    (idle-append 7 (callChecks pid (length p)) (readChecks kind pid p) refl (read-idle kind pid p z)) e
+
+pub beside-seven : (n : ℕ) (p : List ℕ) → (n ≡ 7 → remainderOf p ≡ 0 → ⊥) → OnlyBesideSeven (refusalBy n p)
+unfolding refusalBy
+beside-seven n p h =
+    record { seven = λ e z. h e (sym (rw (eq-eqb n 7 e) refl) ∙ z); other = λ d. rw (ne-eqb n 7 d) refl }

@@ -26,6 +26,7 @@ use Rattle.header_layout.proofs.Rows.{rowOf, Fills, Suits, Each, next, done, ea
 use Rattle.header_layout.proofs.LaidOut.{laid-out, bodyBits, size-layout, length-content}
 use Rattle.header_write.proofs.Calls.{not-refused}
 use Rattle.header_layout.proofs.Whole.{crcOf, crc-lt, header-only, register-behind}
+use Rattle.header_check.specs.Checking.{refusalBy}
 use Rattle.header_check.proofs.Accepted.{Shown, shown, length-firsts, length-seconds, long, row-filled, meets}
 
 -- ---- row by row
@@ -147,7 +148,7 @@ module _ (kind : Kind) (pid : ℕ) (p : List ℕ) (a : Shown kind pid p) where
           (sym (register-behind kind pid (reading kind p) filled p (number last) bits) ∙ a .register)
 
 pub written-again : WrittenAgain
-unfolding readOf written
+unfolding readOf refusalBy written
 written-again kind pid p buffer bytes e l =
     let a = shown kind pid p e in
     let granted = not-refused kind pid (length buffer) (reading kind p) (meets kind pid p a) l in

@@ -29,7 +29,7 @@ use Rattle.header_layout.specs.Rows.{place, rowAt}
 use Rattle.header_layout.specs.Layout.{Field, table, layout, rowWith, reservedFrom}
 use Rattle.header_layout.specs.Header.{paired, firsts, seconds, allOnes, streamsBeyond, content, headerLength, header, values, value, reading, packetChecks, zeroCheck, reservedChecks}
 use Rattle.header_write.specs.Writing.{written}
-use Rattle.header_check.specs.Checking.{readChecks, readRefusal}
+use Rattle.header_check.specs.Checking.{readChecks, readRefusal, refusalBy}
 use Rattle.header_read.specs.Reader.{readOf}
 use Rattle.header_layout.specs.Meets.{MeetsRules}
 use Rattle.header_codec.specs.Demands.{WrittenAndReadBack}
@@ -208,7 +208,7 @@ module _ (kind : Kind) (pid : ℕ) (s : Setting) (t : OfItsTypes s) (m : MeetsRu
       (subst (λ (r : Setting). NoneHolds (ruleChecks kind r)) (sym (same kind pid s t m)) (none-behind (widthChecks kind s) (m .fields)))))))
 
 pub written-and-read-back : WrittenAndReadBack
-unfolding written readOf
+unfolding written readOf refusalBy
 written-and-read-back kind pid s buffer t m e = (
   not-refused kind pid (length buffer) s m e,
   ap (λ (n : ℕ). readOf kind pid (cond (eqb n 0) (header kind pid s) buffer)) (not-refused kind pid (length buffer) s m e)
@@ -217,4 +217,4 @@ written-and-read-back kind pid s buffer t m e = (
 )
   where
     answer : ℕ → Setting → Reading
-    answer n r = record { refusal = n; setting = cond (eqb n 0) r blank }
+    answer n r = record { refusal = refusalBy n (header kind pid s); setting = cond (eqb n 0) r blank }

@@ -5,9 +5,9 @@ use mathlib.Core.List.{List, [], _∷_}
 use Rattle.setting.specs.declared.Kind.{Kind}
 use Rattle.header_layout.specs.Header.{reading}
 use Rattle.header_check.specs.declared.Checked.{Checked}
-use Rattle.header_check.specs.Checking.{partsOf}
+use Rattle.header_check.specs.Checking.{bare, partsOf}
 
-module _ (kind : Kind) (p : List ℕ) (h : Checked) (e : h ≡ partsOf 0 (reading kind p)) where
+module _ (kind : Kind) (p : List ℕ) (h : Checked) (e : h ≡ partsOf (bare 0) (reading kind p)) where
   pub counter-heard : h .«continuity_counter» ≡ reading kind p .«continuity_counter»
   unfolding partsOf
   counter-heard = ap (λ (x : Checked). x .«continuity_counter») e

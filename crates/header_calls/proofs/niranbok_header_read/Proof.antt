@@ -1,14 +1,11 @@
 -- `niranbok_header_read` meets its contract. Assumes nothing.
-use mathlib.Core.Path.{_≡_, refl, sym, _∙_}
+use mathlib.Core.Path.{_≡_, sym, ap, _∙_}
 use borrow.Author.Needs.{needs}
-use borrow.Author.Tests.{eq-eqb, ne-eqb}
-use lib.ListN.{length}
-use Rattle.setting.specs.Refusal.{ofLength, leaves}
+use Rattle.setting.specs.declared.Kind.{Kind}
 use Rattle.setting_bytes.specs.Kinds.{kindOf}
-use Rattle.setting_bytes.specs.Settings.{settingLength}
 use Rattle.header_read.specs.Reader.{intoRefused, intoMemory}
-use Rattle.header_calls.specs.Calls.{thenRefused, readRefused, readMemory}
 use Rattle.header_calls.proofs.Called.{called}
+use Rattle.header_calls.proofs.ReadCall.{call-refused, call-granted}
 use Rattle.header_calls.proofs.niranbok_header_read.Statement.{statement}
 use Rattle.header_calls.proofs.niranbok_header_read.Tie as tie
 
@@ -16,11 +13,10 @@ call-refusal-requires : tie.Need-call-refusal-requires
 call-refusal-requires c κs = search needs
 
 returns : tie.Need-returns
-unfolding readRefused readMemory thenRefused leaves
 returns c =
     let call = c .before in
-    let stops = ne-eqb (call .call-refusal .result) 0 (c .if1 .taken) in
-    rw (sym (call .call-refusal .ensures), stops, stops) (refl, refl)
+    let s = call .before .before .before .args in
+    call-refused (s .packet .now) (s .pid) (s .kind) (s .setting .now) (call .call-refusal .ensures) (c .if1 .taken)
 
 kind-of-requires : tie.Need-kind-of-requires
 kind-of-requires c κs = search needs
@@ -31,18 +27,18 @@ read-into-requires c κs = search needs
 same-length : tie.Need-same-length
 same-length c = search needs
 
--- the bytes are a setting's, so reading into them is refused for the packet alone
 returns-2 : tie.Need-returns-2
-unfolding readRefused readMemory thenRefused intoRefused intoMemory ofLength
 returns-2 c =
     let read = c .before .before in
     let kind = read .before .before in
     let call = kind .before .before in
-    let start = call .before .before .before in
+    let s = call .before .before .before .args in
     let none = sym (call .call-refusal .ensures) ∙ kind .before .if1 .left in
-    let same : kindOf (start .args .kind) ≡ kind .kind-of .result = sym (kind .kind-of .ensures) in
-    rw (none, same)
-    (rw (eq-eqb (length (start .args .setting .now)) settingLength (called _ _ _ _ none .setting-long)) at (read .read-into .ensures))
+    let same : kind .kind-of .result ≡ kindOf (s .kind) = kind .kind-of .ensures in
+    let long = called _ _ _ _ none .setting-long in
+    call-granted (s .packet .now) (s .pid) (s .kind) (s .setting .now) none long
+    (read .read-into .ensures .0 ∙ ap (λ (k : Kind). intoRefused k (s .pid) (s .packet .now) (s .setting .now)) same)
+    (read .read-into .ensures .1 ∙ ap (λ (k : Kind). intoMemory k (s .pid) (s .packet .now) (s .setting .now)) same)
 
 pub niranbok-header-read-spec : {M : Type 1} → statement M
 niranbok-header-read-spec =
