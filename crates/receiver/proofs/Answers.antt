@@ -15,9 +15,11 @@ use Rattle.setting_bytes.specs.Kinds.{kinds, isKind, kindOf}
 use Rattle.setting_bytes.specs.Words.{wordBytes}
 use Rattle.setting_bytes.proofs.KindsBack.{kind-same}
 use Rattle.receiver.specs.declared.HandedOut.{HandedOut}
+use Rattle.receiver.specs.declared.Event.{Event}
+use Rattle.receiver.specs.declared.Told.{Told}
 use Rattle.receiver.specs.Receiving.{waiting, receiveRefusal, receiveOf, receiveStore, handOutRefusal, handOutOf, handOutBuffer}
-use Rattle.receiver.specs.Bytes.{receiverLength, stageBytes, receiverBytes, receiverOf, eventNumber}
-use Rattle.receiver.specs.Calls.{lentRefusal, startRefused, startState, receiveRefused, receiveEvent, receiveState, receiveMemory, handOutRefused, handOutPackets, handOutMemory}
+use Rattle.receiver.specs.Bytes.{receiverLength, stageBytes, receiverBytes, receiverOf, told}
+use Rattle.receiver.specs.Calls.{lentRefusal, startRefused, startState, receiveRefused, receiveTold, receiveEvent, receiveRemainder, receiveState, receiveMemory, handOutRefused, handOutPackets, handOutMemory}
 use Rattle.receiver.proofs.Bytes.{zeros-packed}
 
 -- ---- start
@@ -66,41 +68,45 @@ module _ (state : List ℕ) (pid kind : ℕ) where
 -- ---- receive
 
 module _ (state p store : List ℕ) where
-  -- what is asked of the answer, of the event, and of what the state and the store are then
-  abbrev pub Receives : ℕ → ℕ → List ℕ → List ℕ → Type 0
-  Receives n event after memory =
+  -- what is asked of the answer, of the event and the remainder, and of what the state and the store are then
+  abbrev pub Receives : ℕ → ℕ → ℕ → List ℕ → List ℕ → Type 0
+  Receives n event remainder after memory =
       (n ≡ receiveRefused state p store)
-      × ((event ≡ receiveEvent state p store) × ((after ≡ receiveState state p store) × (memory ≡ receiveMemory state p store)))
+      × ((event ≡ receiveEvent state p store)
+      × ((remainder ≡ receiveRemainder state p store) × ((after ≡ receiveState state p store) × (memory ≡ receiveMemory state p store))))
 
-  pub receive-refused : {n : ℕ} → n ≡ lentRefusal state (receiveRefusal (receiverOf state) (length p) (length store)) → (n ≡ 0 → ⊥) → Receives n 0 state store
-  unfolding lentRefusal ofLength receiveRefused receiveEvent receiveState receiveMemory receiveOf receiveStore eventNumber
+  pub receive-refused : {n : ℕ} → n ≡ lentRefusal state (receiveRefusal (receiverOf state) (length p) (length store)) → (n ≡ 0 → ⊥) → Receives n 0 0 state store
+  unfolding lentRefusal ofLength receiveRefused receiveTold receiveState receiveMemory receiveOf receiveStore told
   receive-refused {n} e h = by-length (ℕ-discrete (length state) receiverLength)
     where
-      by-length : Dec (length state ≡ receiverLength) → Receives n 0 state store
+      by-length : Dec (length state ≡ receiverLength) → Receives n 0 0 state store
       by-length (yes l) =
           let same = eq-eqb (length state) receiverLength l in
           let own : n ≡ receiveRefusal (receiverOf state) (length p) (length store) = rw same at e in
           let no = ne-eqb _ 0 (λ z. h (own ∙ z)) in
           let said : n ≡ receiveRefused state p store = rw (same, no) own in
-          (said, (rw (same, no) refl, (kept said _ state h, rw same (kept own _ store h))))
+          let nothing : told Event.Nothing ≡ receiveTold state p store = rw (same, no) refl in
+          (said, (ap (λ (t : Told). t .event) nothing, (ap (λ (t : Told). t .remainder) nothing, (kept said _ state h, rw same (kept own _ store h)))))
       by-length (no d) =
           let other = ne-eqb (length state) receiverLength d in
           let said : n ≡ receiveRefused state p store = rw other (rw other at e) in
-          (said, (rw other refl, (kept said _ state h, rw other refl)))
+          let nothing : told Event.Nothing ≡ receiveTold state p store = rw other refl in
+          (said, (ap (λ (t : Told). t .event) nothing, (ap (λ (t : Told). t .remainder) nothing, (kept said _ state h, rw other refl))))
 
   module _ (l : length state ≡ receiverLength) (e : receiveRefusal (receiverOf state) (length p) (length store) ≡ 0) where
     granted : 0 ≡ receiveOf (receiverOf state) p (length store) .refusal
     unfolding receiveOf
     granted = rw (eq-eqb _ 0 e) refl
 
-    pub receives : {event : ℕ} {after memory : List ℕ} → event ≡ eventNumber (receiveOf (receiverOf state) p (length store) .event)
+    pub receives : {t : Told} {after memory : List ℕ} → t ≡ told (receiveOf (receiverOf state) p (length store) .event)
         → after ≡ receiverBytes (receiveOf (receiverOf state) p (length store) .state) → memory ≡ receiveStore (receiverOf state) p store
-        → Receives 0 event after memory
-    unfolding lentRefusal ofLength receiveRefused receiveEvent receiveState receiveMemory
-    receives v a m =
+        → Receives 0 (t .event) (t .remainder) after memory
+    unfolding lentRefusal ofLength receiveRefused receiveTold receiveState receiveMemory
+    receives {t} v a m =
         let same = eq-eqb (length state) receiverLength l in
+        let does : t ≡ receiveTold state p store = rw same v in
         let said : 0 ≡ receiveRefused state p store = rw same granted in
-        (said, (rw same v, (a ∙ written said _ state refl, rw same m)))
+        (said, (ap (λ (x : Told). x .event) does, (ap (λ (x : Told). x .remainder) does, (a ∙ written said _ state refl, rw same m))))
 
 -- ---- hand out
 

@@ -12,3 +12,4 @@ pub mod Coding
 pub mod Answers
 pub mod Uncoded
 pub mod OnBytes
+pub mod Remainders

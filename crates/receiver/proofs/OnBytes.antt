@@ -23,10 +23,10 @@ use Rattle.receiver.specs.declared.Event.{Event}
 use Rattle.receiver.specs.declared.Stage.{Stage}
 use Rattle.receiver.specs.Packed.{packed}
 use Rattle.receiver.specs.Table.{Sort, good, broken, other}
-use Rattle.receiver.specs.Arriving.{sortOf}
+use Rattle.receiver.specs.Arriving.{shownRemainder, sortOf}
 use Rattle.receiver.specs.Receiving.{Receiver, Received, moved, renumbered, receiverAfter, receiveRefusal, rowFor, receiveOf, receiveStore}
-use Rattle.receiver.specs.Bytes.{receiverLength, stageBytes, receiverBytes, receiverOf, Codable, eventNumber}
-use Rattle.receiver.specs.Calls.{lentRefusal, receiveRefused, receiveEvent, receiveState, receiveMemory, handOutRefused, handOutPackets, handOutMemory}
+use Rattle.receiver.specs.Bytes.{receiverLength, stageBytes, receiverBytes, receiverOf, Codable}
+use Rattle.receiver.specs.Calls.{lentRefusal, receiveRefused, receiveTold, receiveState, receiveMemory, handOutRefused, handOutPackets, handOutMemory}
 use Rattle.receiver.specs.Demands.{OnBytes, CallsOnBytes}
 use Rattle.receiver.proofs.Packing.{length-packed}
 use Rattle.receiver.proofs.Bytes.{stage-length}
@@ -62,7 +62,7 @@ module _ (c : Receiver) (h : Codable c) where
   there = eq-eqb (length b) receiverLength (length-receiver c)
 
   on-bytes : OnBytes c
-  unfolding receiveRefused receiveEvent receiveState receiveMemory handOutRefused handOutPackets handOutMemory lentRefusal ofLength receiveOf
+  unfolding receiveRefused receiveTold receiveState receiveMemory handOutRefused handOutPackets handOutMemory lentRefusal ofLength receiveOf
   on-bytes =
       record {
         receives = λ p store. rw (there, receiver-back c h) (refl, (refl, (left receiverBytes (receiveRefusal c (length p) (length store)) (rowFor c p .event) _ c, refl)));
@@ -77,7 +77,7 @@ numbers-said kind pid p e = (length-resized lastSlot _, fit-four kind (numbers-f
 kept-with : (c : Receiver) → Codable c → (sort : Sort) (stage : Stage) (said : List ℕ) → (sort ≡ good → Array lastSlot 4 said) → Codable (receiverAfter c sort stage said)
 unfolding receiverAfter moved renumbered
 kept-with c h good stage said a = record { pid = h .pid; numbers = a refl; before = h .numbers }
-kept-with c h broken stage said a = record { pid = h .pid; numbers = h .numbers; before = h .before }
+kept-with c h (broken r) stage said a = record { pid = h .pid; numbers = h .numbers; before = h .before }
 kept-with c h other stage said a = record { pid = h .pid; numbers = h .numbers; before = h .before }
 
 module _ (kind : Kind) (pid : ℕ) (p : List ℕ) where
@@ -88,16 +88,16 @@ module _ (kind : Kind) (pid : ℕ) (p : List ℕ) where
     where
       isGood : Sort → Bool
       isGood good = true
-      isGood broken = false
+      isGood (broken r) = false
       isGood other = false
 
-      bad : (b : Bool) → cond b broken other ≡ good → ⊥
+      bad : (b : Bool) → cond b (broken (shownRemainder kind pid p)) other ≡ good → ⊥
       bad true q = false≢true (ap isGood q)
       bad false q = false≢true (ap isGood q)
 
       by-refusal : Dec (readRefusal kind pid p ≡ 0) → readRefusal kind pid p ≡ 0
       by-refusal (yes z) = z
-      by-refusal (no d) = absurd (bad (unfit pid p) (sym (ap (λ (b : Bool). cond b good (cond (unfit pid p) broken other)) (ne-eqb (readRefusal kind pid p) 0 d)) ∙ e))
+      by-refusal (no d) = absurd (bad (unfit pid p) (sym (ap (λ (b : Bool). cond b good (cond (unfit pid p) (broken (shownRemainder kind pid p)) other)) (ne-eqb (readRefusal kind pid p) 0 d)) ∙ e))
 
 -- of two receipts
 one-of : (b : Bool) (n : ℕ) (event : Event) (new old : Receiver) → Codable new → Codable old

@@ -48,8 +48,8 @@ other-counter slots Stage.Waiting to = refl
 other-counter slots (Stage.Open from k) to = refl
 other-counter slots (Stage.Ready from) to = refl
 
-pub broken-counter : (slots : ℕ) (stage : Stage) (to : ℕ) → rowOf slots stage broken 0 ≡ rowOf slots stage broken to
+pub broken-counter : (slots r : ℕ) (stage : Stage) (to : ℕ) → rowOf slots stage (broken r) 0 ≡ rowOf slots stage (broken r) to
 unfolding rowOf openRow
-broken-counter slots Stage.Waiting to = refl
-broken-counter slots (Stage.Open from k) to = refl
-broken-counter slots (Stage.Ready from) to = refl
+broken-counter slots r Stage.Waiting to = refl
+broken-counter slots r (Stage.Open from k) to = refl
+broken-counter slots r (Stage.Ready from) to = refl
