@@ -66,9 +66,9 @@ module _ (c : Receiver) (p : List ℕ) (store : ℕ) where
       unfolding receiverAfter
       other-receipt s r = ap keeping (r ∙ other-counter (slotsOf (c .kind)) (c .stage) (reading (c .kind) p .«continuity_counter»)) ∙ sym (taken-receipt s)
 
-      pub broken-receipt : sortOf (c .kind) (c .pid) p ≡ broken → row ≡ rowOf (slotsOf (c .kind)) (c .stage) broken 0 → keeping row ≡ receiveOf c p store
+      pub broken-receipt : (x : ℕ) → sortOf (c .kind) (c .pid) p ≡ broken x → row ≡ rowOf (slotsOf (c .kind)) (c .stage) (broken x) 0 → keeping row ≡ receiveOf c p store
       unfolding receiverAfter
-      broken-receipt s r = ap keeping (r ∙ broken-counter (slotsOf (c .kind)) (c .stage) (reading (c .kind) p .«continuity_counter»)) ∙ sym (taken-receipt s)
+      broken-receipt x s r = ap keeping (r ∙ broken-counter (slotsOf (c .kind)) x (c .stage) (reading (c .kind) p .«continuity_counter»)) ∙ sym (taken-receipt s)
 
       pub good-receipt : sortOf (c .kind) (c .pid) p ≡ good → (said : Setting) → said ≡ reading (c .kind) p → row ≡ rowOf (slotsOf (c .kind)) (c .stage) good (said .«continuity_counter»)
           → renumbering row said ≡ receiveOf c p store

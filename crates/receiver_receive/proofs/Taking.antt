@@ -17,13 +17,14 @@ use Rattle.packet.specs.Packets.{packetLength, unfit}
 use Rattle.receiver.specs.declared.Stage.{Stage}
 use Rattle.receiver.specs.declared.Event.{Event}
 use Rattle.receiver.specs.declared.Row.{Row}
+use Rattle.receiver.specs.declared.Told.{Told}
 use Rattle.receiver.specs.Table.{other, row, rowOf, openRow, storedOf}
 use Rattle.receiver.proofs.Rows.{kept, long}
 use Rattle.receiver.specs.Packed.{packedLength, packed}
 use Rattle.receiver.specs.Store.{storeLength}
 use Rattle.receiver.specs.Arriving.{storeAfter}
 use Rattle.receiver.specs.Receiving.{Receiver, Received, receiverChecks, receiveRefusal, receiveOf, receiveStore}
-use Rattle.receiver.specs.Bytes.{kindAt, stageAt, counterAt, storedAt, numbersAt, receiverLength, stageBytes, receiverBytes, receiverOf, eventNumber}
+use Rattle.receiver.specs.Bytes.{kindAt, stageAt, counterAt, storedAt, numbersAt, receiverLength, stageBytes, receiverBytes, receiverOf, told}
 use Rattle.receiver.specs.Calls.{lentRefusal, stateRefused}
 use Rattle.receiver.proofs.LentRefusal.{one-anyway}
 use Rattle.receiver.proofs.Standing.{Stands, waits, opens, readies, standing, has-kind}
@@ -61,24 +62,24 @@ module _ (b : List ℕ) (packet store : ℕ) where
 
 -- a row's answer that keeps the numbers, and one that takes a header's, over the bytes
 module _ (b p : List ℕ) (store : ℕ) (l : length b ≡ receiverLength) (w : someAtLeast (2 ^ 8) b ≡ false) (e : receiveRefusal (receiverOf b) (length p) store ≡ 0) where
-  abbrev pub Moves : ℕ → List ℕ → Type 0
-  Moves event after = (event ≡ eventNumber (receiveOf (receiverOf b) p store .event)) × (after ≡ receiverBytes (receiveOf (receiverOf b) p store .state))
+  abbrev pub Moves : Told → List ℕ → Type 0
+  Moves does after = (does ≡ told (receiveOf (receiverOf b) p store .event)) × (after ≡ receiverBytes (receiveOf (receiverOf b) p store .state))
 
   kind-is : isKind (getD b kindAt 0) ≡ true
   kind-is = has-kind b (sound-state (receiverOf b) (length p) store e)
 
-  module _ (r : Row) {event : ℕ} (v : event ≡ eventNumber (r .event)) {after : List ℕ} where
+  module _ (r : Row) {does : Told} (v : does ≡ told (r .event)) {after : List ℕ} where
     pub keeps : keeping (receiverOf b) p store r ≡ receiveOf (receiverOf b) p store → after ≡ take stageAt b ++ (stageBytes (r .stage) ++ drop numbersAt b)
-        → Moves event after
+        → Moves does after
     keeps t a =
-        (v ∙ ap (λ (u : Received). eventNumber (u .event)) t, a ∙ moved-bytes b l w kind-is (r .stage) ∙ ap (λ (u : Received). receiverBytes (u .state)) t)
+        (v ∙ ap (λ (u : Received). told (u .event)) t, a ∙ moved-bytes b l w kind-is (r .stage) ∙ ap (λ (u : Received). receiverBytes (u .state)) t)
 
     pub renews : (said : Setting) → renumbering (receiverOf b) p store r said ≡ receiveOf (receiverOf b) p store
         → {opened : List ℕ} → packed (said .«relative_ts_number») ≡ opened
         → after ≡ take stageAt b ++ (stageBytes (r .stage) ++ (opened ++ take packedLength (drop numbersAt b)))
-        → Moves event after
+        → Moves does after
     renews said t o a = (
-      v ∙ ap (λ (u : Received). eventNumber (u .event)) t,
+      v ∙ ap (λ (u : Received). told (u .event)) t,
       a ∙ renumbered-bytes b l w kind-is (r .stage) (said .«relative_ts_number») o ∙ ap (λ (u : Received). receiverBytes (u .state)) t,
     )
 
@@ -121,7 +122,7 @@ module _ (b p store : List ℕ) (l : length b ≡ receiverLength) (w : someAtLea
 
   abbrev Takes : ℕ → List ℕ → List ℕ → Type 0
   Takes event after memory =
-      (event ≡ eventNumber (receiveOf c p (length store) .event))
+      (told (receiveOf c p (length store) .event) ≡ record { event = event; remainder = 0 })
       × ((after ≡ receiverBytes (receiveOf c p (length store) .state)) × (memory ≡ receiveStore c p store))
 
   abbrev slots : ℕ
@@ -130,21 +131,21 @@ module _ (b p store : List ℕ) (l : length b ≡ receiverLength) (w : someAtLea
   stood : Stands slots (getD b stageAt 0) (getD b counterAt 0) (getD b storedAt 0) (c .stage)
   stood = standing b (sound-state c (length p) (length store) e)
 
-  by-row : (r : Row) → r ≡ rowOf slots (c .stage) other 0 → {after memory : List ℕ} → after ≡ take stageAt b ++ (stageBytes (r .stage) ++ drop numbersAt b)
-      → memory ≡ storeAfter slots (c .stage) other p store → Takes (eventNumber (r .event)) after memory
-  by-row r t a m =
+  by-row : (r : Row) {event : ℕ} → told (r .event) ≡ record { event = event; remainder = 0 } → r ≡ rowOf slots (c .stage) other 0 → {after memory : List ℕ} → after ≡ take stageAt b ++ (stageBytes (r .stage) ++ drop numbersAt b)
+      → memory ≡ storeAfter slots (c .stage) other p store → Takes event after memory
+  by-row r v t a m =
       let sort = other-sort (c .kind) (c .pid) p u in
       let moves = keeps b p (length store) l w e r refl (other-receipt c p (length store) e sort t) a in
-      (moves .0, (moves .1, other-store c p store e sort m))
+      (sym (moves .0) ∙ v, (moves .1, other-store c p store e sort m))
 
   -- none is open: nothing happens
   pub waiting-on : getD b stageAt 0 ≡ 0 → Takes 0 b store
-  unfolding rowOf stageBytes storeAfter storedOf eventNumber
+  unfolding rowOf stageBytes storeAfter storedOf told
   waiting-on z = by-standing stood
     where
       by-standing : Stands slots (getD b stageAt 0) (getD b counterAt 0) (getD b storedAt 0) (c .stage) → Takes 0 b store
       by-standing (waits t f k s) =
-          by-row (row Event.Nothing Stage.Waiting) (rw s refl) (unstaged b (omega (arith, l)) t f k) (rw s (rw (le-ltb slots slots (omega arith)) refl))
+          by-row (row Event.Nothing Stage.Waiting) refl (rw s refl) (unstaged b (omega (arith, l)) t f k) (rw s (rw (le-ltb slots slots (omega arith)) refl))
       by-standing (opens t k s) = absurd (omega (arith, t, z))
       by-standing (readies t k s) = absurd (omega (arith, t, z))
 
@@ -162,9 +163,9 @@ module _ (b p store : List ℕ) (l : length b ≡ receiverLength) (w : someAtLea
 
     -- no room: the frame is dropped
     pub too-long : slots ≤ getD b storedAt 0 → {zeros : List ℕ} → zeros ≡ replicate (length (take 3 (drop stageAt b))) 0 → Takes 6 (put stageAt 3 b zeros) store
-    unfolding stageBytes storeAfter eventNumber
+    unfolding stageBytes storeAfter told
     too-long h n =
-        by-row (row Event.Long Stage.Waiting) (sym (opened .0 ∙ long slots (getD b counterAt 0) (getD b storedAt 0) 0 h))
+        by-row (row Event.Long Stage.Waiting) refl (sym (opened .0 ∙ long slots (getD b counterAt 0) (getD b storedAt 0) 0 h))
         (ap₂ (λ (x y : List ℕ). take stageAt b ++ (x ++ y))
         (n ∙ ap (λ (m : ℕ). replicate m 0) (length-take-le 3 (drop stageAt b) (rw length-drop (omega (arith, l))))) (drop-drop 3 stageAt b))
         (rw (opened .1, le-ltb (getD b storedAt 0) slots h) refl)
@@ -172,8 +173,8 @@ module _ (b p store : List ℕ) (l : length b ≡ receiverLength) (w : someAtLea
     -- stored behind those that are
     pub stored-on : getD b storedAt 0 < slots
         → Takes 2 (set (set b stageAt 1) storedAt (getD b storedAt 0 + 1)) (over (packetLength * getD b storedAt 0) p store)
-    unfolding stageBytes storeAfter eventNumber
+    unfolding stageBytes storeAfter told
     stored-on h =
-        by-row (row Event.Stored (Stage.Open (getD b counterAt 0) (getD b storedAt 0 + 1)))
+        by-row (row Event.Stored (Stage.Open (getD b counterAt 0) (getD b storedAt 0 + 1))) refl
         (sym (opened .0 ∙ kept slots (getD b counterAt 0) (getD b storedAt 0) 0 h)) (counted b (getD b storedAt 0 + 1) (omega (arith, l)))
         (rw (opened .1, lt-ltb (getD b storedAt 0) slots h) refl)

@@ -12,6 +12,7 @@ use receiver::RECEIVER_BYTES;
 use receiver::Row;
 use receiver::STAGE;
 use receiver::STORED;
+use receiver::Told;
 use receiver::events;
 use setting::Kind;
 ghost use mathlib.Core.Path.{_≡_};
@@ -27,22 +28,35 @@ ghost use Rattle.header_layout.specs.Header.{reading};
 ghost use Rattle.receiver.specs.Packed.{packedLength, packed};
 ghost use Rattle.receiver.specs.Store.{storeLength};
 ghost use Rattle.receiver.specs.Receiving.{receiveRefusal, receiveOf, receiveStore};
-ghost use Rattle.receiver.specs.Bytes.{stageAt, storedAt, receiverLength, stageBytes, receiverOf, receiverBytes, eventNumber};
-ghost use Rattle.receiver.specs.Calls.{lentRefusal, receiveRefused, receiveEvent, receiveState, receiveMemory};
+ghost use Rattle.receiver.specs.Bytes.{stageAt, storedAt, receiverLength, stageBytes, receiverOf, receiverBytes, told};
+ghost use Rattle.receiver.specs.Calls.{lentRefusal, receiveRefused, receiveEvent, receiveRemainder, receiveState, receiveMemory};
 
-// What a packet did, as a number.
-fn event_number(event: Event) -> u8
-    ensures { λ r. ⌜ r ≡ eventNumber event ⌝ }
+// An event's number, with remainder 0.
+fn quiet(event: u8) -> Told
+    ensures { λ r. ⌜ r ≡ record { event = event; remainder = 0 } ⌝ }
+{
+    Told {
+        event,
+        remainder: 0,
+    }
+}
+
+// What a packet did, as the call answers it.
+fn told(event: Event) -> Told
+    ensures { λ r. ⌜ r ≡ told event ⌝ }
 {
     match event {
-        Event::Nothing => events::NOTHING,
-        Event::Opened => events::OPENED,
-        Event::Stored => events::STORED,
-        Event::Ready => events::READY,
-        Event::Short => events::SHORT,
-        Event::Jump => events::JUMP,
-        Event::Long => events::LONG,
-        Event::Broken => events::BROKEN,
+        Event::Nothing => quiet(events::NOTHING),
+        Event::Opened => quiet(events::OPENED),
+        Event::Stored => quiet(events::STORED),
+        Event::Ready => quiet(events::READY),
+        Event::Short => quiet(events::SHORT),
+        Event::Jump => quiet(events::JUMP),
+        Event::Long => quiet(events::LONG),
+        Event::Broken(remainder) => Told {
+            event: events::BROKEN,
+            remainder,
+        },
     }
 }
 
@@ -76,11 +90,12 @@ fn store_next(state: &mut [u8], packet: &[u8], store: &mut [u8])
     state[STORED] = k + 1;
 }
 
-// Takes a packet that may stand in a slot: stores it if a frame is open and has room. Answers what it did.
+// Takes a packet that may stand in a slot: stores it if a frame is open and has room. Answers what it did, as a number: no remainder stands
+// beside it.
 fn take_packet(state: &mut [u8], packet: &[u8], store: &mut [u8]) -> u8
     requires { ⌜ (length (now state) ≡ receiverLength) × (someAtLeast (2 ^ 8) (now state) ≡ false) ⌝ }
     requires { ⌜ (unfit (receiverOf (now state) .pid) (now packet) ≡ false) × (receiveRefusal (receiverOf (now state)) (length (now packet)) (length (now store)) ≡ 0) ⌝ }
-    ensures { λ r. ⌜ r ≡ eventNumber (receiveOf (receiverOf (now (state .entry))) (now (packet .entry)) (length (now (store .entry))) .event) ⌝ }
+    ensures { λ r. ⌜ told (receiveOf (receiverOf (now (state .entry))) (now (packet .entry)) (length (now (store .entry))) .event) ≡ record { event = r; remainder = 0 } ⌝ }
     ensures { λ _. ⌜ now (state .exit) ≡ receiverBytes (receiveOf (receiverOf (now (state .entry))) (now (packet .entry)) (length (now (store .entry))) .state) ⌝ }
     ensures { λ _. ⌜ now (store .exit) ≡ receiveStore (receiverOf (now (state .entry))) (now (packet .entry)) (now (store .entry)) ⌝ }
 {
@@ -143,30 +158,34 @@ fn renumber(numbers: &mut [u8], packet: &[u8], kind: Kind)
 }
 
 // Writes the stage that a row of the table gives. Answers what happened.
-fn move_on(state: &mut [u8], row: Row) -> u8
+fn move_on(state: &mut [u8], row: Row) -> Told
     requires { ⌜ length (now state) ≡ receiverLength ⌝ }
-    ensures { λ r. ⌜ r ≡ eventNumber (row .event) ⌝ }
+    ensures { λ r. ⌜ r ≡ told (row .event) ⌝ }
     ensures { λ _. ⌜ now (state .exit) ≡ over stageAt (stageBytes (row .stage)) (now (state .entry)) ⌝ }
 {
     let event = row.event;
     let stage = row.stage;
     receiver_stage::write_stage(&mut state[STAGE..NUMBERS], stage);
-    event_number(event)
+    told(event)
 }
 
 // Takes a packet that may not stand in a slot: a good header, which opens a frame, or a broken packet. Answers what it did.
-fn take_header(state: &mut [u8], packet: &[u8]) -> u8
+fn take_header(state: &mut [u8], packet: &[u8]) -> Told
     requires { ⌜ (length (now state) ≡ receiverLength) × (someAtLeast (2 ^ 8) (now state) ≡ false) ⌝ }
     requires { ⌜ (unfit (receiverOf (now state) .pid) (now packet) ≡ true) × (receiveRefusal (receiverOf (now state)) (length (now packet)) (storeLength (slotsOf (receiverOf (now state) .kind))) ≡ 0) ⌝ }
-    ensures { λ r. ⌜ r ≡ eventNumber (receiveOf (receiverOf (now (state .entry))) (now (packet .entry)) (storeLength (slotsOf (receiverOf (now (state .entry)) .kind))) .event) ⌝ }
+    ensures { λ r. ⌜ r ≡ told (receiveOf (receiverOf (now (state .entry))) (now (packet .entry)) (storeLength (slotsOf (receiverOf (now (state .entry)) .kind))) .event) ⌝ }
     ensures { λ _. ⌜ now (state .exit) ≡ receiverBytes (receiveOf (receiverOf (now (state .entry))) (now (packet .entry)) (storeLength (slotsOf (receiverOf (now (state .entry)) .kind))) .state) ⌝ }
 {
     let pid = bits::word(state[PID], state[PID_LOW]);
     let kind = setting_bytes::kind_of(state[KIND]);
     let stage = receiver_stage::stage_in(state);
     let said = header_check::check(packet, pid, kind);
-    if said.refusal != 0 {
-        return move_on(state, receiver_table::broken_row(stage));
+    let refusal = said.refusal;
+    if refusal.number != 0 {
+        return move_on(
+            state,
+            receiver_table::broken_row(stage, refusal.remainder),
+        );
     }
     let size = setting::size_of(kind);
     renumber(&mut state[NUMBERS..RECEIVER_BYTES], packet, kind);
@@ -176,29 +195,35 @@ fn take_header(state: &mut [u8], packet: &[u8]) -> u8
     )
 }
 
-// Takes one packet. `are_bytes` tells the proof that the state holds bytes; with that, those that this call leaves alone are the new state's.
+// Takes one packet. The remainder is 0, unless a header with a wrong CRC broke the open frame. `are_bytes` tells the proof that the state holds bytes; with that, those that this call leaves alone are the new state's.
 #[no_mangle]
 pub extern "C" fn niranbok_receiver_receive(
     state: &mut [u8],
     packet: &[u8],
     store: &mut [u8],
     event: &mut u8,
+    remainder: &mut u32,
 ) -> u8
     ensures { λ r. ⌜ r ≡ receiveRefused (now (state .entry)) (now (packet .entry)) (now (store .entry)) ⌝ }
     ensures { λ _. ⌜ now (event .exit) ≡ receiveEvent (now (state .entry)) (now (packet .entry)) (now (store .entry)) ⌝ }
+    ensures { λ _. ⌜ now (remainder .exit) ≡ receiveRemainder (now (state .entry)) (now (packet .entry)) (now (store .entry)) ⌝ }
     ensures { λ _. ⌜ now (state .exit) ≡ receiveState (now (state .entry)) (now (packet .entry)) (now (store .entry)) ⌝ }
     ensures { λ _. ⌜ now (store .exit) ≡ receiveMemory (now (state .entry)) (now (packet .entry)) (now (store .entry)) ⌝ }
 {
     let refusal = receive_refusal(state, packet.len(), store.len());
     if refusal != 0 {
         *event = events::NOTHING;
+        *remainder = 0;
         return refusal;
     }
     slices::are_bytes(state);
     if packet::place_refusal(packet, bits::word(state[PID], state[PID_LOW])) == 0 {
         *event = take_packet(state, packet, store);
+        *remainder = 0;
         return 0;
     }
-    *event = take_header(state, packet);
+    let told = take_header(state, packet);
+    *event = told.event;
+    *remainder = told.remainder;
     0
 }

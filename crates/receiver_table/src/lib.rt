@@ -44,9 +44,10 @@ fn vouch(slots: u8, from: u8, k: u8, to: u8) -> Row
     }
 }
 
-// What a broken packet does, however many slots there are: it lacks 0x47, or bears the header PID without being a good header.
-pub fn broken_row(stage: Stage) -> Row
-    ensures { λ r. ⌜ ((slots : ℕ) → r ≡ rowOf slots stage broken 0) ⌝ }
+// What a broken packet does, however many slots there are: it lacks 0x47, or bears the header PID without being a good header. Its remainder
+// goes with 'broken'; a receiver that waits has no use for it.
+pub fn broken_row(stage: Stage, remainder: u32) -> Row
+    ensures { λ r. ⌜ ((slots : ℕ) → r ≡ rowOf slots stage (broken remainder) 0) ⌝ }
 {
     match stage {
         Stage::Waiting => Row {
@@ -54,11 +55,11 @@ pub fn broken_row(stage: Stage) -> Row
             stage: Stage::Waiting,
         },
         Stage::Open(_, _) => Row {
-            event: Event::Broken,
+            event: Event::Broken(remainder),
             stage: Stage::Waiting,
         },
         Stage::Ready(_) => Row {
-            event: Event::Broken,
+            event: Event::Broken(remainder),
             stage: Stage::Waiting,
         },
     }

@@ -22,8 +22,8 @@ part-write-stage-end c = search needs
 write-stage-requires : tie.Need-write-stage-requires
 write-stage-requires c κs = search needs
 
-event-number-requires : tie.Need-event-number-requires
-event-number-requires c κs = search needs
+told-requires : tie.Need-told-requires
+told-requires c κs = search needs
 
 same-length : tie.Need-same-length
 same-length c = search needs
@@ -33,7 +33,7 @@ returns c =
     let call = c .before .before .before in
     let s = call .before .before .before in
     let written = call .write-stage .ensures ∙ copied-over _ _ (length-take-le 3 (drop stageAt (s .args .state .now)) (rw length-drop (omega (arith, s .pre))) ∙ sym (stage-length _)) in
-    (c .event-number .ensures, put-over stageAt 3 (s .args .state .now) written (stage-length _))
+    (c .told .ensures, put-over stageAt 3 (s .args .state .now) written (stage-length _))
 
 pub move-on-spec : {M : Type 1} → statement M
 move-on-spec =
@@ -43,6 +43,6 @@ move-on-spec =
     part-write-stage-start
     part-write-stage-end
     write-stage-requires
-    event-number-requires
+    told-requires
     same-length
     returns)

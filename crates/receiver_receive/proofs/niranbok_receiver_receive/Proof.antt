@@ -8,7 +8,7 @@ use Rattle.packet.specs.Packets.{packetLength, unfit, placeRefusal}
 use Rattle.packet.proofs.Fit.{may-stand, may-not-stand}
 use Rattle.receiver.specs.Store.{storeLength}
 use Rattle.receiver.specs.Receiving.{receiveRefusal, receiveOf}
-use Rattle.receiver.specs.Bytes.{receiverLength, receiverOf, eventNumber, receiverBytes}
+use Rattle.receiver.specs.Bytes.{receiverLength, receiverOf, told, receiverBytes}
 use Rattle.receiver.proofs.Answers.{receive-refused, receives}
 use Rattle.receiver.proofs.LentRefusal.{lent-accepted}
 use Rattle.receiver_receive.proofs.Receipts.{whole-packet, whole-store, unfit-store}
@@ -78,7 +78,7 @@ returns-2 c =
     let k = call .before .before .before .before .before .before .before .before .before .before in
     let a = s k .args in
     let g = granted k in
-    receives (a .state .now) (a .packet .now) (a .store .now) (g .0) (g .1) (call .take-packet .ensures .0) (call .take-packet .ensures .1 .0) (call .take-packet .ensures .1 .1)
+    receives (a .state .now) (a .packet .now) (a .store .now) (g .0) (g .1) (sym (call .take-packet .ensures .0)) (call .take-packet .ensures .1 .0) (call .take-packet .ensures .1 .1)
 
 take-header-requires : tie.Need-take-header-requires
 take-header-requires c κs =
@@ -111,7 +111,7 @@ returns-3 c =
     let whole = sym (whole-store w _ _ (g .1)) in
     let unfit-one = may-not-stand (w .pid) p (whole-packet w _ _ (g .1)) (λ e. unfits .if2 .left (asked (unfits .before) ∙ e)) in
     receives (a .state .now) p (a .store .now) (g .0) (g .1)
-    (call .take-header .ensures .0 ∙ ap (λ (n : ℕ). eventNumber (receiveOf w p n .event)) whole)
+    (call .take-header .ensures .0 ∙ ap (λ (n : ℕ). told (receiveOf w p n .event)) whole)
     (call .take-header .ensures .1 ∙ ap (λ (n : ℕ). receiverBytes (receiveOf w p n .state)) whole)
     (unfit-store w p (a .store .now) (g .1) unfit-one)
 

@@ -16,10 +16,11 @@ use Rattle.receiver.specs.declared.Stage.{Stage}
 use Rattle.receiver.specs.Table.{good, broken, rowOf}
 use Rattle.receiver.specs.Packed.{packedLength, packed}
 use Rattle.receiver.specs.Store.{storeLength}
+use Rattle.receiver.specs.Arriving.{shownRemainder}
 use Rattle.receiver.specs.Bytes.{receiverOf, receiverLength, numbersAt}
 use Rattle.receiver.proofs.Bytes.{over-stage}
 use Rattle.receiver.proofs.Packing.{length-packed}
-use Rattle.receiver_receive.proofs.Sorts.{broken-sort, good-sort, checked-refusal, checked-counter}
+use Rattle.receiver_receive.proofs.Sorts.{broken-sort, good-sort, checked-refusal, checked-remainder, checked-counter}
 use Rattle.receiver_receive.proofs.Receipts.{whole-packet, broken-receipt, good-receipt}
 use Rattle.receiver_receive.proofs.Taking.{keeps, renews, renewed, renewed-length}
 use Rattle.receiver_receive.proofs.take_header.Statement.{statement}
@@ -58,8 +59,11 @@ module _ (c : tie.After-check) where
   checked : c .check .result ≡ checkedOf (receiverOf b .kind) (receiverOf b .pid) (start c .args .packet .now)
   checked = c .check .ensures ∙ ap₂ (λ (k : Kind) (n : ℕ). checkedOf k n (start c .args .packet .now)) said-kind said-pid
 
-  said-refusal : c .check .result .refusal ≡ readRefusal (receiverOf b .kind) (receiverOf b .pid) (start c .args .packet .now)
+  said-refusal : c .check .result .refusal .number ≡ readRefusal (receiverOf b .kind) (receiverOf b .pid) (start c .args .packet .now)
   said-refusal = checked-refusal (receiverOf b .kind) (receiverOf b .pid) (start c .args .packet .now) checked
+
+  said-remainder : c .check .result .refusal .remainder ≡ shownRemainder (receiverOf b .kind) (receiverOf b .pid) (start c .args .packet .now)
+  said-remainder = checked-remainder (receiverOf b .kind) (receiverOf b .pid) (start c .args .packet .now) checked
 
 slice-read-word : tie.Need-slice-read-word
 slice-read-word c = search needs
@@ -95,14 +99,16 @@ returns : tie.Need-returns
 returns c =
     let move = c .before .before in
     let row = move .before in
-    let check = row .before .before .before .before in
+    let test = row .before .before in
+    let check = test .before .before .before in
     let s = start check in
     let a = s .args in
     let w = receiverOf (a .state .now) in
     let long-store = storeLength (slotsOf (w .kind)) in
-    let sort = broken-sort (w .kind) (w .pid) (a .packet .now) (s .pre .1 .0) (λ e. row .before .before .if1 .taken (said-refusal check ∙ e)) in
+    let sort = broken-sort (w .kind) (w .pid) (a .packet .now) (s .pre .1 .0) (λ e. test .if1 .taken (said-refusal check ∙ e)) in
     keeps (a .state .now) (a .packet .now) long-store (s .pre .0 .0) (s .pre .0 .1) (s .pre .1 .1) (row .broken-row .result) (move .move-on .ensures .0)
-    (broken-receipt w (a .packet .now) long-store (s .pre .1 .1) sort (row .broken-row .ensures (slotsOf (w .kind)) ∙ ap (λ (t : Stage). rowOf (slotsOf (w .kind)) t broken 0) (said-stage check)))
+    (broken-receipt w (a .packet .now) long-store (s .pre .1 .1) (shownRemainder (w .kind) (w .pid) (a .packet .now)) sort
+    (row .broken-row .ensures (slotsOf (w .kind)) ∙ ap₂ (λ (t : Stage) (n : ℕ). rowOf (slotsOf (w .kind)) t (broken n) 0) (said-stage check) (said-remainder check)))
     (move .move-on .ensures .1 ∙ over-stage (a .state .now) (row .broken-row .result .stage))
 
 size-of-requires : tie.Need-size-of-requires
@@ -119,7 +125,7 @@ part-renumber-end c = search needs
 
 renumber-requires : tie.Need-renumber-requires
 renumber-requires c κs =
-    let s = start (c .before .before .before .before) in
+    let s = start (c .before .before .before .before .before) in
     (length-take-le (packedLength + packedLength) (drop numbersAt (s .args .state .now)) (rw length-drop (omega (arith, s .pre .0 .0))), whole-packet _ _ _ (s .pre .1 .1))
 
 header-row-requires : tie.Need-header-row-requires
@@ -128,7 +134,7 @@ header-row-requires c κs = search needs
 move-on-requires-2 : tie.Need-move-on-requires-2
 move-on-requires-2 c κs =
     let renew = c .before .before .before .before in
-    let s = start (renew .before .before .before .before .before) in
+    let s = start (renew .before .before .before .before .before .before) in
     renewed-length (s .args .state .now) _ (packed _) (s .pre .0 .0) (length-packed _) (renew .renumber .ensures)
 
 same-length-2 : tie.Need-same-length-2
@@ -141,7 +147,7 @@ returns-2 c =
     let renew = row .before .before .before .before in
     let asked = renew .before .before in
     let accepted = asked .before in
-    let check = accepted .before .before in
+    let check = accepted .before .before .before in
     let s = start check in
     let a = s .args in
     let w = receiverOf (a .state .now) in
