@@ -11,6 +11,8 @@ use lib.Seq.{take-nil, drop-nil}
 use Rattle.slices.specs.Slices.{copied}
 use Rattle.counters.specs.Counters.{lastCarrier}
 use Rattle.bond_places.specs.Walk.{mostFrames}
+use Rattle.header_check.specs.declared.Refusal.{Refusal}
+use Rattle.header_check.specs.Checking.{bare}
 use Rattle.bond_group.specs.declared.Bond.{Bond}
 use Rattle.bond_group.specs.declared.headers.Headers.{Headers}
 use Rattle.bond_group.specs.declared.headers.Shown.{Shown}
@@ -147,11 +149,11 @@ module _ {b : Bond} {group frames₀ slots₀ frames slots : List ℕ} {is-carri
       })
 
   -- all headers
-  pub written-all : j ≡ framesIn group
-      → Leaves (record { refusal = 0; plan = planAfter b group (framesIn group) }) (record { refusal = 0; «is_carried» = is-carried; packets = packets }) frames₀ slots₀ frames slots
-  written-all e = (
+  pub written-all : {r : Refusal} → r ≡ bare 0 → j ≡ framesIn group
+      → Leaves (record { refusal = bare 0; plan = planAfter b group (framesIn group) }) (record { refusal = r; «is_carried» = is-carried; packets = packets }) frames₀ slots₀ frames slots
+  written-all z e = (
     λ i. record {
-      refusal = 0;
+      refusal = z i;
       «is_carried» = (w .carried-is ∙ ap (λ (n : ℕ). planAfter b group n .«is_carried») e) i;
       packets = (w .packets-are ∙ ap (λ (n : ℕ). planAfter b group n .packets) e) i;
     },
@@ -162,7 +164,7 @@ module _ {b : Bond} {group frames₀ slots₀ frames slots : List ℕ} {is-carri
   )
 
   -- a refusal behind some headers
-  pub written-refused : (x : ℕ) {h : Headers} {frames′ slots′ : List ℕ} → Leaves (noPlan x) h frames slots frames′ slots′ → Leaves (noPlan x) h frames₀ slots₀ frames′ slots′
+  pub written-refused : (x : Refusal) {h : Headers} {frames′ slots′ : List ℕ} → Leaves (noPlan x) h frames slots frames′ slots′ → Leaves (noPlan x) h frames₀ slots₀ frames′ slots′
   written-refused x l = (
     l .0,
     (

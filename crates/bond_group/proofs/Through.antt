@@ -15,19 +15,20 @@ use Rattle.counters.specs.Counters.{lastSlot, lastPosition, lastCarrier}
 use Rattle.setting.specs.Setting.{blank}
 use Rattle.setting.specs.Refusal.{Check, NoneHolds, firstOf}
 use Rattle.setting.specs.Rules.{pidAllowed}
-use Rattle.setting.proofs.Refusals.{answers, first-none, onward, at-once, none-append, none-before, none-behind, none-first}
+use Rattle.setting.proofs.Refusals.{answers, first-none, onward, at-once, none-append, none-before, none-behind, none-first, never-first}
 use Rattle.header_check.specs.declared.Checked.{Checked}
 use Rattle.header_layout.specs.Header.{headerLength, reading}
-use Rattle.header_check.specs.Checking.{readChecks, readRefusal, partsOf, checkedOf}
+use Rattle.header_check.specs.declared.Refusal.{Refusal}
+use Rattle.header_check.specs.Checking.{readChecks, readRefusal, bare, refusalBy, partsOf, checkedOf}
 use Rattle.header_check.proofs.Accepted.{numbered-read}
-use Rattle.header_check.proofs.Asked.{refusal-is, parts-are}
+use Rattle.header_check.proofs.Asked.{refusal-shown, refusal-is, parts-are, refused-bare}
 use Rattle.header_layout.proofs.Calls.{right-call}
 use Rattle.packet.specs.Packets.{packetLength, frameLength, slot}
 use Rattle.bond_group.specs.declared.Bond.{Bond}
 use Rattle.bond_group.specs.declared.headers.Shown.{Shown}
 use Rattle.bond_places.specs.Order.{framePackets}
 use Rattle.bond_group.specs.Group.{framesIn, said}
-use Rattle.bond_group.specs.Standing.{shownBy, before, isEnd, standingChecks, headerChecks, headersChecks, groupChecks}
+use Rattle.bond_group.specs.Standing.{shownBy, before, isEnd, standingChecks, headerChecks, headersChecks, groupChecks, refusedFrom, refusedHeader, groupRefusal}
 use Rattle.bond_group.specs.Plan.{nothingSeen, noPlan, planAfter, plannedBy}
 use Rattle.bond_group.proofs.Standing.{Stands, stands, headers-each}
 use Rattle.bond_group.proofs.Grouping.{framed-short}
@@ -56,6 +57,21 @@ module _ (b : Bond) (group : List ℕ) where
       ∙ onward (headersChecks b group (s + 1) (j + suc k) ++ rest) (none-before (headerChecks b group s) (headersChecks b group (s + 1) j) n)
       ∙ refused-at (s + 1) j k rest (none-behind (headerChecks b group s) n) d′
       ∙ ap (λ (x : ℕ). firstOf (headerChecks b group x)) (sym f)
+
+  -- and it is the first frame that is refused
+  refused-first : (s j k : ℕ) → NoneHolds (headersChecks b group s j) → (firstOf (headerChecks b group (s + j)) ≡ 0 → ⊥) → refusedFrom b group s (j + suc k) ≡ s + j
+  unfolding headersChecks refusedFrom
+  refused-first s zero k n d =
+      let e : zero + suc k ≡ suc k = omega arith in
+      let f : s + 0 ≡ s = omega arith in
+      let d′ : firstOf (headerChecks b group s) ≡ 0 → ⊥ = subst (λ (x : ℕ). firstOf (headerChecks b group x) ≡ 0 → ⊥) f d in
+      ap (refusedFrom b group s) e ∙ rw (ne-eqb _ 0 d′) (sym f)
+  refused-first s (suc j) k n d =
+      let e : suc j + suc k ≡ suc (j + suc k) = omega arith in
+      let f : s + suc j ≡ s + 1 + j = omega arith in
+      let d′ : firstOf (headerChecks b group (s + 1 + j)) ≡ 0 → ⊥ = subst (λ (x : ℕ). firstOf (headerChecks b group x) ≡ 0 → ⊥) f d in
+      ap (refusedFrom b group s) e
+      ∙ rw (first-none (none-before (headerChecks b group s) (headersChecks b group (s + 1) j) n)) (refused-first (s + 1) j k (none-behind (headerChecks b group s) n) d′ ∙ sym f)
 
   -- one more passes
   headers-more : (s j : ℕ) → NoneHolds (headersChecks b group s j) → NoneHolds (headerChecks b group (s + j)) → NoneHolds (headersChecks b group s (suc j))
@@ -147,8 +163,8 @@ module _ (b : Bond) (group : List ℕ) where
     part-said = ap (reading Kind.Extended) (part-is j)
 
     -- what an accepted header says
-    pub said-is : (r : Checked) → r ≡ checkedOf Kind.Extended (b .pid) (part j) → r .refusal ≡ 0 → r ≡ partsOf 0 (said group j)
-    said-is r e z = parts-are Kind.Extended (b .pid) (part j) r e z ∙ ap (partsOf 0) part-said
+    pub said-is : (r : Checked) → r ≡ checkedOf Kind.Extended (b .pid) (part j) → r .refusal .number ≡ 0 → r ≡ partsOf (bare 0) (said group j)
+    said-is r e z = parts-are Kind.Extended (b .pid) (part j) r e z ∙ ap (partsOf (bare 0)) part-said
 
     module _ (behind : Shown) (group-id : ℕ) (t : Through behind group-id j) where
       -- the answer where this header is refused
@@ -162,13 +178,33 @@ module _ (b : Bond) (group : List ℕ) where
           ap (λ (n : ℕ). firstOf (headersChecks b group 0 n ++ ((14, not (isEnd (b .carriers) (before group (framesIn group)))) ∷ []))) f
           ∙ refused-at 0 j k ((14, not (isEnd (b .carriers) (before group (framesIn group)))) ∷ []) (t .passed) (λ z. d (sym e′ ∙ z)) ∙ e′
 
-      -- refused as a header
-      pub read-refused : (r : Checked) → r ≡ checkedOf Kind.Extended (b .pid) (part j) → (r .refusal ≡ 0 → ⊥) → firstOf (groupChecks b group) ≡ r .refusal
-      read-refused r e d =
-          let f : r .refusal ≡ firstOf (ofRead j) = sym (refusal-is Kind.Extended (b .pid) (part j) r e) ∙ read-refusal in
-          answer (r .refusal) (ap firstOf split ∙ at-once (ofRead j) standing (λ z. d (f ∙ z)) ∙ sym f) d
+      -- this is then the header which is refused
+      frame-is : (firstOf (headerChecks b group j) ≡ 0 → ⊥) → part j ≡ refusedHeader b group
+      unfolding refusedHeader
+      frame-is d =
+          let k = framesIn group - suc j in
+          let f : framesIn group ≡ j + suc k = omega arith in
+          let o : 0 + j ≡ j = omega arith in
+          let d′ : firstOf (headerChecks b group (0 + j)) ≡ 0 → ⊥ = subst (λ (i : ℕ). firstOf (headerChecks b group i) ≡ 0 → ⊥) (sym o) d in
+          part-is j
+          ∙ ap (λ (i : ℕ). slot (framePackets * i) group) (sym (ap (refusedFrom b group 0) f ∙ refused-first 0 j k (t .passed) d′ ∙ o))
 
-      module _ (r : Checked) (e : r ≡ checkedOf Kind.Extended (b .pid) (part j)) (z : r .refusal ≡ 0) where
+      -- refused as a header
+      module _ (r : Checked) (e : r ≡ checkedOf Kind.Extended (b .pid) (part j)) (d : r .refusal .number ≡ 0 → ⊥) where
+        here : firstOf (headerChecks b group j) ≡ r .refusal .number
+        here =
+            let f : r .refusal .number ≡ firstOf (ofRead j) = sym (refusal-is Kind.Extended (b .pid) (part j) r e) ∙ read-refusal in
+            ap firstOf split ∙ at-once (ofRead j) standing (λ z. d (f ∙ z)) ∙ sym f
+
+        pub read-refused : firstOf (groupChecks b group) ≡ r .refusal .number
+        read-refused = answer (r .refusal .number) here d
+
+        pub read-shows : r .refusal ≡ groupRefusal b group (r .refusal .number)
+        read-shows =
+            refusal-shown Kind.Extended (b .pid) (part j) r e
+            ∙ ap₂ refusalBy (refusal-is Kind.Extended (b .pid) (part j) r e) (frame-is (λ z. d (sym here ∙ z)))
+
+      module _ (r : Checked) (e : r ≡ checkedOf Kind.Extended (b .pid) (part j)) (z : r .refusal .number ≡ 0) where
         accepted : NoneHolds (ofRead j)
         accepted = read-none (sym read-refusal ∙ refusal-is Kind.Extended (b .pid) (part j) r e ∙ z)
 
@@ -233,15 +269,20 @@ module _ (b : Bond) (group : List ℕ) where
 
 -- ---- the plan as it is answered
 
-module _ (b : Bond) (group : List ℕ) where
-  pub planned-refused : (x : ℕ) → firstOf (groupChecks b group) ≡ x → (x ≡ 0 → ⊥) → noPlan x ≡ plannedBy b group
-  unfolding plannedBy
-  planned-refused x e d =
-      let f : cond (eqb (firstOf (groupChecks b group)) 0) (planAfter b group (framesIn group)) nothingSeen ≡ nothingSeen = rw (e, ne-eqb x 0 d) refl in
-      λ i. record { refusal = sym e i; plan = sym f i }
+-- a frame that does not stand as it should is not refused by 7
+pub not-of-standing : (carriers group-id : ℕ) (behind h : Shown) → firstOf (standingChecks carriers group-id behind h) ≡ 7 → ⊥
+unfolding standingChecks
+not-of-standing carriers group-id behind h e = never-first 7 _ (omega arith) refl e
 
-  pub planned-all : firstOf (groupChecks b group) ≡ 0 → record { refusal = 0; plan = planAfter b group (framesIn group) } ≡ plannedBy b group
+module _ (b : Bond) (group : List ℕ) where
+  pub planned-refused : (x : ℕ) {f : Refusal} → f ≡ groupRefusal b group x → firstOf (groupChecks b group) ≡ x → (x ≡ 0 → ⊥) → noPlan f ≡ plannedBy b group
+  unfolding plannedBy
+  planned-refused x r e d =
+      let f : cond (eqb (firstOf (groupChecks b group)) 0) (planAfter b group (framesIn group)) nothingSeen ≡ nothingSeen = rw (e, ne-eqb x 0 d) refl in
+      λ i. record { refusal = (r ∙ ap (groupRefusal b group) (sym e)) i; plan = sym f i }
+
+  pub planned-all : firstOf (groupChecks b group) ≡ 0 → record { refusal = bare 0; plan = planAfter b group (framesIn group) } ≡ plannedBy b group
   unfolding plannedBy
   planned-all e =
       let f : cond (eqb (firstOf (groupChecks b group)) 0) (planAfter b group (framesIn group)) nothingSeen ≡ planAfter b group (framesIn group) = rw e refl in
-      λ i. record { refusal = sym e i; plan = sym f i }
+      λ i. record { refusal = refused-bare 0 (refusedHeader b group) refl (omega arith) (sym e) i; plan = sym f i }

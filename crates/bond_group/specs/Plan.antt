@@ -9,11 +9,12 @@ use Rattle.slot_bits.specs.Bits.{slotsAsBits}
 use Rattle.counters.specs.Counters.{firstSlot, lastSlot, lastCarrier}
 use Rattle.setting.specs.declared.Setting.{Setting}
 use Rattle.setting.specs.Refusal.{firstOf}
+use Rattle.header_check.specs.declared.Refusal.{Refusal}
 use Rattle.bond_group.specs.declared.Bond.{Bond}
 use Rattle.bond_group.specs.declared.headers.Headers.{Headers}
 use Rattle.bond_places.specs.Walk.{mostFrames}
 use Rattle.bond_group.specs.Group.{framesIn, said, carries, bondedSlot}
-use Rattle.bond_group.specs.Standing.{groupChecks, planChecks}
+use Rattle.bond_group.specs.Standing.{groupChecks, planChecks, groupRefusal}
 
 -- what the headers say of the group and the stream: each carrier's number of frames; the bonded slots of each frame, slot i in bit i;
 -- whether one of them carries the stream; and how many bonded slots there are
@@ -23,9 +24,9 @@ pub record Plan : Type 0 where
   pub «is_carried» : Bool
   pub packets : ℕ
 
--- refusal 0 and the plan, or the refusal's number and an empty plan
+-- refusal 0 and the plan, or the refusal and an empty plan
 pub record Planned : Type 0 where
-  pub refusal : ℕ
+  pub refusal : Refusal
   pub plan : Plan
 
 -- what a call answers of that
@@ -47,7 +48,7 @@ nothingSeen =
     record { frames = replicate lastCarrier 0; slots = replicate mostFrames 0; «is_carried» = false; packets = 0 }
 
 -- a refusal and an empty plan
-abbrev pub noPlan : ℕ → Planned
+abbrev pub noPlan : Refusal → Planned
 noPlan refusal = record { refusal = refusal; plan = nothingSeen }
 
 -- the plan with the header of frame j added
@@ -66,8 +67,8 @@ planAfter b group (suc j) = seen b (planAfter b group j) j (said group j)
 
 -- with refusal 0 the plan of the whole group, with any other number an empty plan
 abbrev pub planBeside : ℕ → Bond → List ℕ → Planned
-planBeside refusal b group =
-    record { refusal = refusal; plan = cond (eqb refusal 0) (planAfter b group (framesIn group)) nothingSeen }
+planBeside n b group =
+    record { refusal = groupRefusal b group n; plan = cond (eqb n 0) (planAfter b group (framesIn group)) nothingSeen }
 
 -- what the headers of a group lead to, and what a call answers that reads them
 unfoldable pub plannedBy : Bond → List ℕ → Planned

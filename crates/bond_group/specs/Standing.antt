@@ -9,9 +9,10 @@ use Rattle.setting.specs.declared.Kind.{Kind}
 use Rattle.setting.specs.declared.Setting.{Setting}
 use Rattle.counters.specs.Counters.{firstPosition, within, lastSlot, lastCarrier}
 use Rattle.setting.specs.Setting.{blank}
-use Rattle.setting.specs.Refusal.{Check}
+use Rattle.setting.specs.Refusal.{Check, firstOf}
 use Rattle.setting.specs.Rules.{pidAllowed}
-use Rattle.header_check.specs.Checking.{readChecks}
+use Rattle.header_check.specs.declared.Refusal.{Refusal}
+use Rattle.header_check.specs.Checking.{readChecks, refusalBy}
 use Rattle.packet.specs.Packets.{frameLength, slot}
 use Rattle.bond_group.specs.declared.Bond.{Bond}
 use Rattle.bond_group.specs.declared.headers.Shown.{Shown}
@@ -92,6 +93,22 @@ groupChecks b group =
 -- all checks of a group: those of the call itself, then those of the headers
 unfoldable pub planChecks : Bond → List ℕ → List Check
 planChecks b group = callChecks b (length group) ++ groupChecks b group
+
+-- the first of n frames from frame j on whose header is refused
+unfoldable pub refusedFrom : Bond → List ℕ → ℕ → ℕ → ℕ
+refusedFrom b group j zero = j
+refusedFrom b group j (suc n) = cond (eqb (firstOf (headerChecks b group j)) 0) (refusedFrom b group (j + 1) n) j
+
+-- the first frame of the group whose header is refused, and that header
+abbrev pub refusedFrame : Bond → List ℕ → ℕ
+refusedFrame b group = refusedFrom b group 0 (framesIn group)
+
+unfoldable pub refusedHeader : Bond → List ℕ → List ℕ
+refusedHeader b group = slot (framePackets * refusedFrame b group) group
+
+-- the refusal of a group by this number: beside 7 stands the remainder of the header which is refused
+abbrev pub groupRefusal : Bond → List ℕ → ℕ → Refusal
+groupRefusal b group n = refusalBy n (refusedHeader b group)
 
 -- whether some header carries the stream
 unfoldable pub someCarries : Bond → List ℕ → Bool

@@ -6,6 +6,7 @@ use counters::RelativeNumberAnswer;
 use counters::SLOTS;
 use counters::STREAMS;
 use header_check::Checked;
+use header_check::Refusal;
 use packet::FRAME_BYTES;
 use packet::PACKET_BYTES;
 use setting::Kind;
@@ -24,7 +25,7 @@ ghost use Rattle.setting.specs.Refusal.{firstOf};
 ghost use Rattle.setting.specs.Rules.{pidAllowed};
 ghost use Rattle.setting_pairs.specs.Identifiers.{idsApart, idsLength};
 ghost use Rattle.header_layout.specs.Header.{headerLength, reading};
-ghost use Rattle.header_check.specs.Checking.{partsOf};
+ghost use Rattle.header_check.specs.Checking.{bare, partsOf};
 ghost use Rattle.packet.specs.Packets.{frameLength};
 ghost use Rattle.bond_places.specs.Order.{framePackets};
 ghost use Rattle.bond_group.specs.Group.{hasNumber, numberOf, carries};
@@ -46,9 +47,9 @@ pub struct Shown {
 }
 
 // What the headers of a group say of a stream: refusal 0, whether one of them carries it, and how many bonded slots there are; or the
-// refusal's number and zeros.
+// refusal and zeros.
 pub struct Headers {
-    pub refusal: u8,
+    pub refusal: Refusal,
     pub is_carried: bool,
     pub packets: usize,
 }
@@ -102,7 +103,7 @@ struct Bonded {
 
 fn bonded_by(packet: &[u8], heard: Checked, b: Bond) -> Bonded
     requires { ⌜ length (now packet) ≡ headerLength ⌝ }
-    requires { ⌜ heard ≡ partsOf 0 (reading Kind.Extended (now packet)) ⌝ }
+    requires { ⌜ heard ≡ partsOf (bare 0) (reading Kind.Extended (now packet)) ⌝ }
     ensures { λ r. ⌜ (r .«is_carried» ≡ carries b (reading Kind.Extended (now (packet .entry)))) × (r .marks ≡ marks b (reading Kind.Extended (now (packet .entry)))) ⌝ }
     ensures { λ r. ⌜ ones (r .marks) ≤ framePackets ⌝ }
 {
@@ -141,7 +142,7 @@ fn nothing_shown() -> Shown
 }
 
 fn shown_by(heard: Checked) -> Shown
-    ensures { λ r. ⌜ ((s : Setting) → heard ≡ partsOf 0 s → r ≡ shownBy s) ⌝ }
+    ensures { λ r. ⌜ ((s : Setting) → heard ≡ partsOf (bare 0) s → r ≡ shownBy s) ⌝ }
 {
     let frame_position = heard.frame_position;
     Shown {
@@ -257,7 +258,7 @@ fn clear(frames: &mut [u8], slots: &mut [u64])
 }
 
 // A refusal leaves an empty plan, whatever was read before it.
-pub(crate) fn refused(refusal: u8, frames: &mut [u8], slots: &mut [u64]) -> Headers
+pub(crate) fn refused(refusal: Refusal, frames: &mut [u8], slots: &mut [u64]) -> Headers
     ensures { λ r. ⌜ r ≡ headersOf (noPlan refusal) ⌝ }
     ensures { λ _. ⌜ now (frames .exit) ≡ copied (now (frames .entry)) (nothingSeen .frames) ⌝ }
     ensures { λ _. ⌜ now (slots .exit) ≡ copied (now (slots .entry)) (nothingSeen .slots) ⌝ }
@@ -290,8 +291,9 @@ pub(crate) fn plan_of(group: &[u8], b: Bond, frames: &mut [u8], slots: &mut [u64
         let at = FRAME_BYTES * j;
         let header = &group[at..at + PACKET_BYTES];
         let heard = header_check::check(header, b.pid, Kind::Extended);
-        if heard.refusal != 0 {
-            return refused(heard.refusal, frames, slots);
+        let refusal = heard.refusal;
+        if refusal.number != 0 {
+            return refused(refusal, frames, slots);
         }
         let shown = shown_by(heard);
         if j == 0 {
@@ -299,7 +301,7 @@ pub(crate) fn plan_of(group: &[u8], b: Bond, frames: &mut [u8], slots: &mut [u64
         }
         let standing = standing_refusal(shown, behind, b.carriers, group_id);
         if standing != 0 {
-            return refused(standing, frames, slots);
+            return refused(Refusal::bare(standing), frames, slots);
         }
         let bonded = bonded_by(header, heard, b);
         let carrier = shown.carrier_sequence as usize - 1;
@@ -311,10 +313,10 @@ pub(crate) fn plan_of(group: &[u8], b: Bond, frames: &mut [u8], slots: &mut [u64
         j += 1;
     }
     if !is_end(behind, b.carriers) {
-        return refused(14, frames, slots);
+        return refused(Refusal::bare(14), frames, slots);
     }
     Headers {
-        refusal: 0,
+        refusal: Refusal::bare(0),
         is_carried,
         packets,
     }

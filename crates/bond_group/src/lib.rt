@@ -2,6 +2,7 @@
 mod checks;
 pub mod headers;
 
+use header_check::Refusal;
 use headers::Headers;
 ghost use mathlib.Core.Path.{_≡_};
 ghost use Rattle.slices.specs.Slices.{copied};
@@ -15,7 +16,7 @@ pub struct Bond {
     pub original_network_id: u16,
 }
 
-// Reads the headers of the group, once each. Answers refusal 0 and what they say of the stream, or the refusal's number and zeros. Writes
+// Reads the headers of the group, once each. Answers refusal 0 and what they say of the stream, or the refusal and zeros. Writes
 // the plan of the bonded slots into what the caller lends: each carrier's number of frames, and the bonded slots of each frame, slot i in
 // bit i; zeros if it refuses. As many numbers are written as there is room for.
 pub fn read_headers(group: &[u8], b: Bond, frames: &mut [u8], slots: &mut [u64]) -> Headers
@@ -25,7 +26,7 @@ pub fn read_headers(group: &[u8], b: Bond, frames: &mut [u8], slots: &mut [u64])
 {
     let call = checks::call_refusal(b, group.len());
     if call != 0 {
-        return headers::refused(call, frames, slots);
+        return headers::refused(Refusal::bare(call), frames, slots);
     }
     headers::plan_of(group, b, frames, slots)
 }

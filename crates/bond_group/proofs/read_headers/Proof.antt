@@ -16,6 +16,9 @@ start c = c .before .before .before .before
 call-refusal-requires : tie.Need-call-refusal-requires
 call-refusal-requires c κs = search needs
 
+bare-requires : tie.Need-bare-requires
+bare-requires c κs = search needs
+
 refused-requires : tie.Need-refused-requires
 refused-requires c κs = search needs
 
@@ -28,10 +31,11 @@ same-length-2 c = search needs
 returns : tie.Need-returns
 returns c =
     let o = c .before .before .before .before in
-    let t = o .before .before .before in
+    let shown = o .before .before .before in
+    let t = shown .before in
     let k = t .before in
     let a = start k .args in
-    leaves-by (a .frames .now) (a .slots .now) (call-refused (a .b) (a .group .now) (k .call-refusal .result) (k .call-refusal .ensures) (t .if1 .taken)) (o .refused .ensures)
+    leaves-by (a .frames .now) (a .slots .now) (call-refused (a .b) (a .group .now) (k .call-refusal .result) (shown .bare .ensures) (k .call-refusal .ensures) (t .if1 .taken)) (o .refused .ensures)
 
 -- the call's own checks passed
 asked : (c : tie.Else1) → NoneHolds (callChecks (start (c .before) .args .b) (length (start (c .before) .args .group .now)))
@@ -64,6 +68,7 @@ read-headers-spec =
     tie.close
     (tie.spec
     call-refusal-requires
+    bare-requires
     refused-requires
     same-length
     same-length-2

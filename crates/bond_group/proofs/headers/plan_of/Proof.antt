@@ -1,6 +1,6 @@
 -- `plan_of` meets its contract: behind j headers the plan of j headers is written. Assumes nothing.
 use Prim.Native.Nat.{ℕ, _-_, _*_, _≤_, _<_}
-use mathlib.Core.Path.{_≡_, sym, ap, _∙_}
+use mathlib.Core.Path.{_≡_, refl, sym, ap, _∙_}
 use mathlib.Core.Logic.{⊎-elim}
 use mathlib.Core.List.{List}
 use native.Mathlib.Omega.{arith}
@@ -8,20 +8,21 @@ use borrow.Author.Needs.{needs}
 use borrow.Author.Tests.{not-true, not-false}
 use Rattle.setting.specs.declared.Kind.{Kind}
 use Rattle.setting.specs.Refusal.{firstOf}
-use Rattle.header_check.specs.Checking.{partsOf}
-use Rattle.header_check.proofs.Asked.{parts-are}
+use Rattle.header_check.specs.declared.Refusal.{Refusal}
+use Rattle.header_check.specs.Checking.{bare, partsOf}
+use Rattle.header_check.proofs.Asked.{parts-are, refused-bare}
 use Rattle.bond_places.specs.Order.{framePackets}
 use Rattle.counters.specs.Counters.{lastCarrier}
 use Rattle.bond_places.specs.Walk.{mostFrames}
 use Rattle.bond_group.specs.declared.headers.Headers.{Headers}
 use Rattle.bond_group.specs.declared.headers.Shown.{Shown}
 use Rattle.bond_group.specs.Group.{framesIn, said, carries}
-use Rattle.bond_group.specs.Standing.{shownBy, before, standingChecks, groupChecks}
+use Rattle.bond_group.specs.Standing.{shownBy, before, standingChecks, groupChecks, groupRefusal}
 use Rattle.bond_group.specs.Plan.{marks, noPlan, plannedBy}
 use Rattle.bond_group.proofs.Grouping.{sequence-few, frames-fit}
 use Rattle.bond_group.proofs.Planned.{packets-few}
 use Rattle.bond_group.proofs.Lent.{as-long, Leaves, leaves-by, Written, written-none, written-lent, written-more, written-all, written-refused}
-use Rattle.bond_group.proofs.Through.{Through, through-none, part-long, part-said, said-is, read-refused, standing-refused, stand-each, through-more, behind-few, missing, none-missing, planned-refused, planned-all}
+use Rattle.bond_group.proofs.Through.{Through, through-none, part-long, part-said, said-is, read-refused, read-shows, standing-refused, not-of-standing, stand-each, through-more, behind-few, missing, none-missing, planned-refused, planned-all}
 use Rattle.bond_group.proofs.headers.plan_of.Statement.{statement}
 use Rattle.bond_group.proofs.headers.plan_of.Tie as tie
 
@@ -46,12 +47,13 @@ written k =
     written-lent (start k .args .frames .now) (start k .args .slots .now) (cleared .0) (cleared .1) (k .loop .inv .1)
 
 -- what is left where the group is refused
-left-refused : (k : tie.At-loop Inv-loop μ-loop) (x : ℕ) {h : Headers} {frames slots : List ℕ} → firstOf (groupChecks (start k .args .b) (start k .args .group .now)) ≡ x → (x ≡ 0 → ⊥)
-    → Leaves (noPlan x) h (k .loop .frames) (k .loop .slots) frames slots
+left-refused : (k : tie.At-loop Inv-loop μ-loop) (x : ℕ) {f : Refusal} {h : Headers} {frames slots : List ℕ} → f ≡ groupRefusal (start k .args .b) (start k .args .group .now) x
+    → firstOf (groupChecks (start k .args .b) (start k .args .group .now)) ≡ x → (x ≡ 0 → ⊥)
+    → Leaves (noPlan f) h (k .loop .frames) (k .loop .slots) frames slots
     → Leaves (plannedBy (start k .args .b) (start k .args .group .now)) h (start k .args .frames .now) (start k .args .slots .now) frames slots
-left-refused k x e d l =
+left-refused k x {f} r e d l =
     let a = start k .args in
-    leaves-by (a .frames .now) (a .slots .now) (planned-refused (a .b) (a .group .now) x e d) (written-refused (written k) x l)
+    leaves-by (a .frames .now) (a .slots .now) (planned-refused (a .b) (a .group .now) x r e d) (written-refused (written k) f l)
 
 clear-requires : tie.Need-clear-requires Inv-loop μ-loop
 clear-requires c κs = search needs
@@ -89,10 +91,11 @@ returns : tie.Need-returns Inv-loop μ-loop
 returns c =
     let o = c .before .before .before .before in
     let t = o .before .before .before in
-    let r = t .before .before in
+    let r = t .before .before .before in
     let k = r .before .before .before in
     let s = start k in
-    left-refused k (r .check .result .refusal)
+    left-refused k (r .check .result .refusal .number)
+    (read-shows (s .args .b) (s .args .group .now) (s .pre .0 .1) (k .loop .j) (omega arith) (k .loop .behind) (k .loop .group-id) (k .loop .inv .0) (r .check .result) (r .check .ensures) (t .if1 .taken))
     (read-refused (s .args .b) (s .args .group .now) (s .pre .0 .1) (k .loop .j) (omega arith) (k .loop .behind) (k .loop .group-id) (k .loop .inv .0) (r .check .result) (r .check .ensures) (t .if1 .taken))
     (t .if1 .taken) (o .refused .ensures)
 
@@ -107,7 +110,7 @@ shown-by-requires c κs = search needs
 
 -- the turn that a header is read in
 abbrev turn₁ : tie.Else1 Inv-loop μ-loop → tie.At-loop Inv-loop μ-loop
-turn₁ c = c .before .before .before .before .before
+turn₁ c = c .before .before .before .before .before .before
 
 abbrev turn₂ : tie.Joined2 Inv-loop μ-loop → tie.At-loop Inv-loop μ-loop
 turn₂ c = turn₁ (c .before .before)
@@ -122,9 +125,9 @@ standing-refusal-requires c κs =
     behind-few (s .args .b) (s .args .group .now) (k .loop .behind) (k .loop .group-id) (k .loop .j) (k .loop .inv .0)
 
 -- what the header said
-said-so : (c : tie.Else1 Inv-loop μ-loop) → c .before .before .check .result ≡ partsOf 0 (said (start (turn₁ c) .args .group .now) (turn₁ c .loop .j))
+said-so : (c : tie.Else1 Inv-loop μ-loop) → c .before .before .before .check .result ≡ partsOf (bare 0) (said (start (turn₁ c) .args .group .now) (turn₁ c .loop .j))
 said-so c =
-    let r = c .before .before in
+    let r = c .before .before .before in
     let k = turn₁ c in
     let s = start k in
     said-is (s .args .b) (s .args .group .now) (s .pre .0 .1) (k .loop .j) (omega arith) (r .check .result) (r .check .ensures) (c .if1 .left)
@@ -156,18 +159,23 @@ standing-is c =
     c .standing-refusal .ensures
     ∙ (λ i. firstOf (standingChecks (s .args .b .carriers) (group-so (c .before) i) (k .loop .inv .0 .behind-is i) (shown-so (c .before .before) i)))
 
+bare-requires : tie.Need-bare-requires Inv-loop μ-loop
+bare-requires c κs = search needs
+
 refused-requires-2 : tie.Need-refused-requires-2 Inv-loop μ-loop
 refused-requires-2 c κs = search needs
 
 returns-2 : tie.Need-returns-2 Inv-loop μ-loop
 returns-2 c =
     let o = c .before .before .before .before in
-    let f = o .before .before .before in
+    let shown = o .before .before .before in
+    let f = shown .before in
     let t = f .before in
-    let r = t .before .before .before .before .before in
+    let r = t .before .before .before .before .before .before in
     let k = turn₂ (t .before) in
     let s = start k in
     left-refused k (t .standing-refusal .result)
+    (refused-bare (t .standing-refusal .result) _ (shown .bare .ensures) (λ z. not-of-standing _ _ _ _ (sym (standing-is t) ∙ z)) refl)
     (standing-refused (s .args .b) (s .args .group .now) (s .pre .0 .1) (k .loop .j) (omega arith) (k .loop .behind) (k .loop .group-id) (k .loop .inv .0)
     (r .check .result) (r .check .ensures) (t .before .before .before .if1 .left) (t .standing-refusal .result) (standing-is t) (f .if3 .taken))
     (f .if3 .taken) (o .refused2 .ensures)
@@ -189,7 +197,7 @@ room : (c : tie.Else3 Inv-loop μ-loop) → Room (turn₃ c .loop .j) (turn₃ c
 unfolding shownBy
 room c =
     let t = c .before in
-    let r = t .before .before .before .before .before in
+    let r = t .before .before .before .before .before .before in
     let k = turn₃ c in
     let s = start k in
     let each = stand-each (s .args .b) (s .args .group .now) (s .pre .0 .1) (k .loop .j) (omega arith) (k .loop .behind) (k .loop .group-id) (k .loop .inv .0)
@@ -206,7 +214,7 @@ room c =
 bonded-by-requires : tie.Need-bonded-by-requires Inv-loop μ-loop
 bonded-by-requires c κs =
     let t = c .before in
-    let r = t .before .before .before .before .before in
+    let r = t .before .before .before .before .before .before in
     let k = turn₃ c in
     let s = start k in (
       part-long (s .args .b) (s .args .group .now) (s .pre .0 .1) (k .loop .j) (omega arith),
@@ -249,7 +257,7 @@ loop-again c =
     let bonds = heard c in
     let passed = bonds .before in
     let t = passed .before in
-    let r = t .before .before .before .before .before in
+    let r = t .before .before .before .before .before .before in
     let k = turn₃ passed in
     let s = start k in
     let same = part-said (s .args .b) (s .args .group .now) (s .pre .0 .1) (k .loop .j) (omega arith) in
@@ -268,17 +276,21 @@ loop-again c =
 is-end-requires : tie.Need-is-end-requires Inv-loop μ-loop
 is-end-requires c κs = search needs
 
+bare-requires-2 : tie.Need-bare-requires-2 Inv-loop μ-loop
+bare-requires-2 c κs = search needs
+
 refused-requires-3 : tie.Need-refused-requires-3 Inv-loop μ-loop
 refused-requires-3 c κs = search needs
 
 returns-3 : tie.Need-returns-3 Inv-loop μ-loop
 returns-3 c =
     let o = c .before .before .before .before in
-    let f = o .before .before .before in
+    let shown = o .before .before .before in
+    let f = shown .before in
     let e = f .before in
     let k = e .before .before in
     let s = start k in
-    left-refused k 14
+    left-refused k 14 (refused-bare 14 _ (shown .bare2 .ensures) (omega arith) refl)
     (missing (s .args .b) (s .args .group .now) (k .loop .behind) (k .loop .group-id) (k .loop .j) (k .loop .inv .0) (omega arith) (sym (e .is-end .ensures) ∙ not-true _ (f .if4 .taken)))
     (λ z. omega arith) (o .refused3 .ensures)
 
@@ -288,9 +300,13 @@ same-length-5 c = as-long _ _ (returns-3 c .1 .0)
 same-length-6 : tie.Need-same-length-6 Inv-loop μ-loop
 same-length-6 c = as-long _ _ (returns-3 c .1 .1)
 
+bare-requires-3 : tie.Need-bare-requires-3 Inv-loop μ-loop
+bare-requires-3 c κs = search needs
+
 returns-4 : tie.Need-returns-4 Inv-loop μ-loop
 returns-4 c =
-    let e = c .before in
+    let shown = c .before in
+    let e = shown .before in
     let k = e .before .before in
     let s = start k in
     let a = s .args in
@@ -298,8 +314,8 @@ returns-4 c =
     let all : k .loop .j ≡ framesIn (a .group .now) = omega arith in
     leaves-by (a .frames .now) (a .slots .now)
     (planned-all (a .b) (a .group .now)
-    (none-missing (a .b) (a .group .now) (k .loop .behind) (k .loop .group-id) (k .loop .j) (k .loop .inv .0) (omega arith) (sym (e .is-end .ensures) ∙ not-false _ (c .if4 .left))))
-    (written-all (written k) all)
+    (none-missing (a .b) (a .group .now) (k .loop .behind) (k .loop .group-id) (k .loop .j) (k .loop .inv .0) (omega arith) (sym (e .is-end .ensures) ∙ not-false _ (shown .if4 .left))))
+    (written-all (written k) (c .bare3 .ensures) all)
 
 same-length-7 : tie.Need-same-length-7 Inv-loop μ-loop
 same-length-7 c = as-long _ _ (returns-4 c .1 .0)
@@ -328,6 +344,7 @@ plan-of-spec =
     returns
     shown-by-requires
     standing-refusal-requires
+    bare-requires
     refused-requires-2
     same-length-3
     same-length-4
@@ -343,10 +360,12 @@ plan-of-spec =
     loop-less
     loop-again
     is-end-requires
+    bare-requires-2
     refused-requires-3
     same-length-5
     same-length-6
     returns-3
+    bare-requires-3
     same-length-7
     same-length-8
     returns-4)

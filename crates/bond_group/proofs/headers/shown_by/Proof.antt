@@ -2,12 +2,12 @@
 use mathlib.Core.Path.{_≡_}
 use Rattle.setting.specs.declared.Setting.{Setting}
 use Rattle.header_check.specs.declared.Checked.{Checked}
-use Rattle.header_check.specs.Checking.{partsOf}
+use Rattle.header_check.specs.Checking.{bare, partsOf}
 use Rattle.bond_group.specs.Standing.{shownBy}
 use Rattle.bond_group.proofs.headers.shown_by.Statement.{statement}
 use Rattle.bond_group.proofs.headers.shown_by.Tie as tie
 
-shown : (h : Checked) (s : Setting) → h ≡ partsOf 0 s
+shown : (h : Checked) (s : Setting) → h ≡ partsOf (bare 0) s
     → record {
       «group_id» = h .«group_id»;
       «number_of_carriers» = h .«number_of_carriers»;
