@@ -5,3 +5,4 @@ pub mod Planned
 pub mod Passing
 pub mod Lent
 pub mod Through
+pub mod Remainders

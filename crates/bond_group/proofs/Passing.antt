@@ -29,7 +29,7 @@ use Rattle.bond_group.proofs.Standing.{at-least}
 -- ---- no check has the number 0
 
 module _ (b : Bond) (group : List ℕ) where
-  numbered-header : (j : ℕ) → numbered (headerChecks b group j) ≡ true
+  pub numbered-header : (j : ℕ) → numbered (headerChecks b group j) ≡ true
   unfolding headerChecks standingChecks
   numbered-header j = numbered-append (readChecks Kind.Extended (b .pid) (slot (framePackets * j) group)) _ (numbered-read Kind.Extended (b .pid) (slot (framePackets * j) group)) refl
 
@@ -73,7 +73,7 @@ unfolding callChecks
 call-none b group e = none-first (callChecks b group) refl e
 
 -- no check of the call itself has the number 7
-not-of-call : (b : Bond) (group : ℕ) → firstOf (callChecks b group) ≡ 7 → ⊥
+pub not-of-call : (b : Bond) (group : ℕ) → firstOf (callChecks b group) ≡ 7 → ⊥
 unfolding callChecks
 not-of-call b group e = never-first 7 (callChecks b group) (omega arith) refl e
 

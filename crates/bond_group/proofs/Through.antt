@@ -138,11 +138,12 @@ module _ (b : Bond) (group : List ℕ) where
     header-long =
         length-take-le packetLength (drop (packetLength * (framePackets * j)) group) (rw length-drop (omega arith))
 
-    read-refusal : readRefusal Kind.Extended (b .pid) (part j) ≡ firstOf (ofRead j)
+    pub header-refusal : readRefusal Kind.Extended (b .pid) (slot (framePackets * j) group) ≡ firstOf (ofRead j)
     unfolding readRefusal
-    read-refusal =
-        ap (readRefusal Kind.Extended (b .pid)) (part-is j)
-        ∙ right-call (b .pid) (length (slot (framePackets * j) group)) _ header-long allowed
+    header-refusal = right-call (b .pid) (length (slot (framePackets * j) group)) _ header-long allowed
+
+    read-refusal : readRefusal Kind.Extended (b .pid) (part j) ≡ firstOf (ofRead j)
+    read-refusal = ap (readRefusal Kind.Extended (b .pid)) (part-is j) ∙ header-refusal
 
     abbrev standing : List Check
     standing = standingChecks (b .carriers) (said group 0 .«group_id») (before group j) (shownBy (said group j))

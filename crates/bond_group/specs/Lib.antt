@@ -2,3 +2,4 @@
 pub mod Group
 pub mod Standing
 pub mod Plan
+pub mod Demands
