@@ -16,7 +16,7 @@ use Rattle.counters.specs.Counters.{lastSlot, firstPosition}
 use Rattle.setting.specs.Refusal.{Check, NoneHolds, none, more, firstOf}
 use Rattle.setting.proofs.Refusals.{first-none, none-at, none-append, none-before, none-behind}
 use Rattle.header_layout.specs.Header.{reading}
-use Rattle.header_check.specs.Checking.{readChecks}
+use Rattle.header_check.specs.Checking.{readChecks, bare, refusalBy}
 use Rattle.packet.specs.Packets.{packetLength, frameLength, slot, unfit, someUnfitIn}
 use Rattle.bond_group.specs.declared.Bond.{Bond}
 use Rattle.bond_group.specs.declared.headers.Shown.{Shown}
@@ -173,8 +173,8 @@ module _ (b : Bond) (group stream : List ℕ) (w : WellFormed b group) (l : leng
     unfolding spreadRefusal
     granted = first-none (spread-passes f)
 
-    spread-answer : spreadOf b group stream ≡ record { refusal = 0; packets = length (order b group) }
-    unfolding spreadOf
+    spread-answer : spreadOf b group stream ≡ record { refusal = bare 0; packets = length (order b group) }
+    unfolding spreadOf refusalBy
     spread-answer = rw granted refl
 
     spread-made : spreadGroup b group stream ≡ spread
@@ -189,8 +189,8 @@ module _ (b : Bond) (group : List ℕ) (w : WellFormed b group) (out : List ℕ)
       (none-append (none-append (w .called) (w .headers))
       (more (ap not (w .carried)) (more (le-ltb (length out) (packetLength * length (order b group)) room) none)))
 
-  gather-answer : gatherOf b group (length out) ≡ record { refusal = 0; packets = length (order b group) }
-  unfolding gatherOf
+  gather-answer : gatherOf b group (length out) ≡ record { refusal = bare 0; packets = length (order b group) }
+  unfolding gatherOf refusalBy
   gather-answer = rw gather-granted refl
 
   gather-made : gatherBuffer b group out ≡ copied out (gathered (order b group) group)
@@ -212,7 +212,7 @@ comes-back b group stream out w f room =
     let back : gathered (order b g) g ≡ stream =
     ap (λ (ms : List ℕ). gathered ms g) o ∙ spread-gathered (order b group) stream group (order-apart b group w) (in-group b group w) l in (
       spread-answer b group stream w l f,
-      rw made (gather-answer b g v out long ∙ ap (λ (ms : List ℕ). record { refusal = 0; packets = length ms }) o),
+      rw made (gather-answer b g v out long ∙ ap (λ (ms : List ℕ). record { refusal = bare 0; packets = length ms }) o),
       rw made (gather-made b g v out long ∙ ap (copied out) back ∙ ap (λ (s : List ℕ). s ++ drop (length stream) out) (take-all (length out) stream room)),
     )
 
@@ -266,5 +266,5 @@ nothing-else b group stream = by-answer (eqb (firstOf (spreadChecks b group stre
     by-answer false e = (refl, (λ m f. refl), λ j. refl)
 
 pub refused-by-table : RefusedByTable
-unfolding spreadOf spreadRefusal gatherOf gatherRefusal
+unfolding spreadOf spreadRefusal gatherOf gatherRefusal refusalBy
 refused-by-table b group stream out = (spread-none b group stream, first-none, gather-none b group out, first-none)

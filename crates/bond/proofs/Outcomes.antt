@@ -12,12 +12,14 @@ use Rattle.slices.specs.Slices.{copied}
 use Rattle.slices.proofs.Front.{copied-over}
 use Rattle.counters.specs.Counters.{lastCarrier}
 use Rattle.setting.specs.Refusal.{Check, NoneHolds, firstOf}
-use Rattle.setting.proofs.Refusals.{answers, passed, onward, at-once, none-first, none-at, none-before, none-behind}
+use Rattle.setting.proofs.Refusals.{answers, passed, onward, at-once, none-first, none-at, none-before, none-behind, never-first}
+use Rattle.header_check.specs.declared.Refusal.{Refusal}
+use Rattle.header_check.specs.Checking.{refusalBy}
 use Rattle.packet.specs.Packets.{packetLength, someUnfitIn}
 use Rattle.bond_group.specs.declared.Bond.{Bond}
 use Rattle.bond_group.specs.declared.headers.Headers.{Headers}
 use Rattle.bond_group.specs.Group.{framesIn, order}
-use Rattle.bond_group.specs.Standing.{callChecks, groupChecks, planChecks, someCarries}
+use Rattle.bond_group.specs.Standing.{callChecks, groupChecks, planChecks, groupRefusal, someCarries}
 use Rattle.bond.specs.Bonding.{spreadChecks, gatherChecks, spreadOver, gathered, spreadRefusal, spreadOf, spreadGroup, gatherRefusal, gatherOf, gatherBuffer}
 use Rattle.bond_places.specs.Order.{framePackets}
 use Rattle.bond_places.specs.Walk.{mostFrames, framesBefore, isMarked, Walkable}
@@ -40,6 +42,13 @@ spreadRest b is-carried n stream = (13, not is-carried) ∷ (15, not (eqb (lengt
 abbrev pub gatherRest : Bool → ℕ → ℕ → List Check
 gatherRest is-carried n out = (13, not is-carried) ∷ (15, ltb out (packetLength * n)) ∷ []
 
+-- none of them has the number 7
+pub not-of-spread : (b : Bond) (is-carried : Bool) (n : ℕ) (stream : List ℕ) → firstOf (spreadRest b is-carried n stream) ≡ 7 → ⊥
+not-of-spread b is-carried n stream e = never-first 7 (spreadRest b is-carried n stream) (omega arith) refl e
+
+pub not-of-gather : (is-carried : Bool) (n out : ℕ) → firstOf (gatherRest is-carried n out) ≡ 7 → ⊥
+not-of-gather is-carried n out e = never-first 7 (gatherRest is-carried n out) (omega arith) refl e
+
 -- a group that was not refused: what its headers answered, and the plan that they left
 pub record Known (b : Bond) (group : List ℕ) (h : Headers) (frames slots : List ℕ) : Type 0 where
   pub none-holds : NoneHolds (planChecks b group)
@@ -51,11 +60,18 @@ pub record Known (b : Bond) (group : List ℕ) (h : Headers) (frames slots : Lis
   pub packets-are : h .packets ≡ length (order b group)
 
 module _ (b : Bond) (group : List ℕ) {h : Headers} (e : h ≡ headersOf (plannedOf b group)) where
-  pub refusal-is : h .refusal ≡ firstOf (planChecks b group)
+  pub refusal-shown : h .refusal ≡ groupRefusal b group (firstOf (planChecks b group))
   unfolding plannedOf
-  refusal-is = ap (λ (x : Headers). x .refusal) e
+  refusal-shown = ap (λ (x : Headers). x .refusal) e
 
-  module _ (z : h .refusal ≡ 0) where
+  pub refusal-is : h .refusal .number ≡ firstOf (planChecks b group)
+  unfolding refusalBy
+  refusal-is = ap (λ (x : Refusal). x .number) refusal-shown
+
+  module _ (z : h .refusal .number ≡ 0) where
+    pub no-refusal : h .refusal ≡ groupRefusal b group 0
+    no-refusal = refusal-shown ∙ ap (groupRefusal b group) (sym refusal-is ∙ z)
+
     plan-known : plannedOf b group .plan ≡ planAfter b group (framesIn group)
     unfolding plannedOf
     plan-known = rw (sym refusal-is ∙ z) refl
@@ -122,11 +138,11 @@ module _ (b : Bond) (group : List ℕ) {h : Headers} {frames slots : List ℕ} (
 -- ---- spread
 
 module _ (b : Bond) (group stream : List ℕ) where
-  pub spread-refused : (x : ℕ) → spreadRefusal b group stream ≡ x → (x ≡ 0 → ⊥) → record { refusal = x; packets = 0 } ≡ spreadOf b group stream
+  pub spread-refused : (x : ℕ) → spreadRefusal b group stream ≡ x → (x ≡ 0 → ⊥) → {f : Refusal} → f ≡ groupRefusal b group x → record { refusal = f; packets = 0 } ≡ spreadOf b group stream
   unfolding spreadOf
-  spread-refused x e d =
+  spread-refused x e d r =
       let f : cond (eqb (spreadRefusal b group stream) 0) (length (order b group)) 0 ≡ 0 = rw (e, ne-eqb x 0 d) refl in
-      λ i. record { refusal = sym e i; packets = sym f i }
+      λ i. record { refusal = (r ∙ ap (groupRefusal b group) (sym e)) i; packets = sym f i }
 
   pub spread-left : (x : ℕ) → spreadRefusal b group stream ≡ x → (x ≡ 0 → ⊥) → group ≡ spreadGroup b group stream
   unfolding spreadGroup
@@ -149,9 +165,9 @@ module _ (b : Bond) (group stream : List ℕ) where
       unfolding spreadRefusal spreadChecks
       spread-rest = passed 1 _ cut ∙ onward _ (k .none-holds) ∙ sym (λ i. firstOf (spreadRest b (k .carried-is i) (k .packets-are i) stream))
 
-  pub spread-granted : (n : ℕ) → spreadRefusal b group stream ≡ 0 → n ≡ length (order b group) → record { refusal = 0; packets = n } ≡ spreadOf b group stream
+  pub spread-granted : (n : ℕ) → spreadRefusal b group stream ≡ 0 → n ≡ length (order b group) → {f : Refusal} → f ≡ groupRefusal b group 0 → record { refusal = f; packets = n } ≡ spreadOf b group stream
   unfolding spreadOf
-  spread-granted n e h = (λ i. record { refusal = 0; packets = h i }) ∙ sym (rw e refl)
+  spread-granted n e h r = (λ i. record { refusal = r i; packets = h i }) ∙ sym (rw e refl)
 
   pub spread-made : spreadRefusal b group stream ≡ 0 → spreadOver (order b group) stream group ≡ spreadGroup b group stream
   unfolding spreadGroup
@@ -174,11 +190,11 @@ module _ (b : Bond) (group stream : List ℕ) where
 -- ---- gather
 
 module _ (b : Bond) (group out : List ℕ) where
-  pub gather-refused : (x : ℕ) → gatherRefusal b group (length out) ≡ x → (x ≡ 0 → ⊥) → record { refusal = x; packets = 0 } ≡ gatherOf b group (length out)
+  pub gather-refused : (x : ℕ) → gatherRefusal b group (length out) ≡ x → (x ≡ 0 → ⊥) → {f : Refusal} → f ≡ groupRefusal b group x → record { refusal = f; packets = 0 } ≡ gatherOf b group (length out)
   unfolding gatherOf
-  gather-refused x e d =
+  gather-refused x e d r =
       let f : cond (eqb (gatherRefusal b group (length out)) 0) (length (order b group)) 0 ≡ 0 = rw (e, ne-eqb x 0 d) refl in
-      λ i. record { refusal = sym e i; packets = sym f i }
+      λ i. record { refusal = (r ∙ ap (groupRefusal b group) (sym e)) i; packets = sym f i }
 
   pub gather-left : (x : ℕ) → gatherRefusal b group (length out) ≡ x → (x ≡ 0 → ⊥) → out ≡ gatherBuffer b group out
   unfolding gatherBuffer
@@ -193,9 +209,9 @@ module _ (b : Bond) (group out : List ℕ) where
     unfolding gatherRefusal gatherChecks
     gather-rest = onward _ (k .none-holds) ∙ sym (λ i. firstOf (gatherRest (k .carried-is i) (k .packets-are i) (length out)))
 
-  pub gather-granted : (n : ℕ) → gatherRefusal b group (length out) ≡ 0 → n ≡ length (order b group) → record { refusal = 0; packets = n } ≡ gatherOf b group (length out)
+  pub gather-granted : (n : ℕ) → gatherRefusal b group (length out) ≡ 0 → n ≡ length (order b group) → {f : Refusal} → f ≡ groupRefusal b group 0 → record { refusal = f; packets = n } ≡ gatherOf b group (length out)
   unfolding gatherOf
-  gather-granted n e h = (λ i. record { refusal = 0; packets = h i }) ∙ sym (rw e refl)
+  gather-granted n e h r = (λ i. record { refusal = r i; packets = h i }) ∙ sym (rw e refl)
 
   pub gather-made : gatherRefusal b group (length out) ≡ 0 → copied out (gathered (order b group) group) ≡ gatherBuffer b group out
   unfolding gatherBuffer

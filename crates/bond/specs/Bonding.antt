@@ -10,7 +10,7 @@ use Rattle.packet.specs.Packets.{packetLength, slot, someUnfitIn}
 use Rattle.bond_group.specs.declared.Bond.{Bond}
 use Rattle.bond.specs.declared.Moved.{Moved}
 use Rattle.bond_group.specs.Group.{order}
-use Rattle.bond_group.specs.Standing.{planChecks, someCarries}
+use Rattle.bond_group.specs.Standing.{planChecks, groupRefusal, someCarries}
 
 -- the checks of a spread: 1 for the stream's length, all checks of the group, then 13, 15 and 12
 unfoldable pub spreadChecks : Bond → List ℕ → List ℕ → List Check
@@ -29,9 +29,9 @@ gatherChecks b group out =
 
 -- ---- the calls
 
--- a refusal answers its number and 0
-abbrev pub answered : ℕ → ℕ → Moved
-answered refusal packets = record { refusal = refusal; packets = cond (eqb refusal 0) packets 0 }
+-- what is answered by a refusal's number: with 0 how many packets the group takes, with any other number none
+abbrev pub answered : Bond → List ℕ → ℕ → Moved
+answered b group n = record { refusal = groupRefusal b group n; packets = cond (eqb n 0) (length (order b group)) 0 }
 
 -- the stream's packets written to these packets of the group, one after another
 unfoldable pub spreadOver : List ℕ → List ℕ → List ℕ → List ℕ
@@ -49,7 +49,7 @@ unfoldable pub spreadRefusal : Bond → List ℕ → List ℕ → ℕ
 spreadRefusal b group stream = firstOf (spreadChecks b group stream)
 
 unfoldable pub spreadOf : Bond → List ℕ → List ℕ → Moved
-spreadOf b group stream = answered (spreadRefusal b group stream) (length (order b group))
+spreadOf b group stream = answered b group (spreadRefusal b group stream)
 
 -- what a spread leaves in the group
 unfoldable pub spreadGroup : Bond → List ℕ → List ℕ → List ℕ
@@ -60,7 +60,7 @@ unfoldable pub gatherRefusal : Bond → List ℕ → ℕ → ℕ
 gatherRefusal b group out = firstOf (gatherChecks b group out)
 
 unfoldable pub gatherOf : Bond → List ℕ → ℕ → Moved
-gatherOf b group out = answered (gatherRefusal b group out) (length (order b group))
+gatherOf b group out = answered b group (gatherRefusal b group out)
 
 -- what a gather leaves in the output buffer
 unfoldable pub gatherBuffer : Bond → List ℕ → List ℕ → List ℕ

@@ -6,14 +6,15 @@ mod rounds;
 use bond_group::Bond;
 use bond_group::headers::CARRIERS;
 use bond_group::headers::FRAMES;
+use header_check::Refusal;
 use packet::PACKET_BYTES;
 ghost use mathlib.Core.Path.{_≡_};
 ghost use lib.ListN.{length};
 ghost use Rattle.bond.specs.Bonding.{spreadOf, spreadGroup, gatherOf, gatherBuffer};
 
-// What a spread or a gather answers: refusal 0 and the number of packets, or the refusal's number and 0.
+// What a spread or a gather answers: refusal 0 and the number of packets, or the refusal and 0.
 pub struct Moved {
-    pub refusal: u8,
+    pub refusal: Refusal,
     pub packets: usize,
 }
 
@@ -24,29 +25,30 @@ pub fn spread(group: &mut [u8], stream: &[u8], b: Bond) -> Moved
 {
     if stream.len() % PACKET_BYTES != 0 {
         return Moved {
-            refusal: 1,
+            refusal: Refusal::bare(1),
             packets: 0,
         };
     }
     let mut frames = [0u8; CARRIERS];
     let mut slots = [0u64; FRAMES];
     let headers = bond_group::read_headers(group, b, &mut frames, &mut slots);
-    if headers.refusal != 0 {
+    let refusal = headers.refusal;
+    if refusal.number != 0 {
         return Moved {
-            refusal: headers.refusal,
+            refusal,
             packets: 0,
         };
     }
     let last = checks::spread_refusal(headers.is_carried, headers.packets, stream, b.pid);
     if last != 0 {
         return Moved {
-            refusal: last,
+            refusal: Refusal::bare(last),
             packets: 0,
         };
     }
     moving::spread_over(group, stream, b.carriers as usize, &frames, &slots);
     Moved {
-        refusal: 0,
+        refusal,
         packets: headers.packets,
     }
 }
@@ -59,22 +61,23 @@ pub fn gather(group: &[u8], out: &mut [u8], b: Bond) -> Moved
     let mut frames = [0u8; CARRIERS];
     let mut slots = [0u64; FRAMES];
     let headers = bond_group::read_headers(group, b, &mut frames, &mut slots);
-    if headers.refusal != 0 {
+    let refusal = headers.refusal;
+    if refusal.number != 0 {
         return Moved {
-            refusal: headers.refusal,
+            refusal,
             packets: 0,
         };
     }
     let last = checks::gather_refusal(headers.is_carried, headers.packets, out.len());
     if last != 0 {
         return Moved {
-            refusal: last,
+            refusal: Refusal::bare(last),
             packets: 0,
         };
     }
     moving::gather_over(out, group, b.carriers as usize, &frames, &slots);
     Moved {
-        refusal: 0,
+        refusal,
         packets: headers.packets,
     }
 }
