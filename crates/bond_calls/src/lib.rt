@@ -1,4 +1,5 @@
-// The calls that read the headers of a group, spread a stream over it and gather it again. A bond is passed as its four numbers.
+// The calls that read the headers of a group, spread a stream over it and gather it again. A bond is passed as its four numbers. Each writes
+// the remainder too: that of the header which is refused if the answer is 7, else 0.
 use bond_group::Bond;
 ghost use mathlib.Core.Path.{_≡_};
 ghost use mathlib.Core.Bool.{cond};
@@ -17,8 +18,10 @@ pub extern "C" fn niranbok_read_headers(
     original_network_id: u16,
     is_carried: &mut u8,
     packets: &mut usize,
+    remainder: &mut u32,
 ) -> u8
-    ensures { λ r. ⌜ r ≡ plannedOf (bondOf carriers pid «ts_id» «original_network_id») (now (group .entry)) .refusal ⌝ }
+    ensures { λ r. ⌜ r ≡ plannedOf (bondOf carriers pid «ts_id» «original_network_id») (now (group .entry)) .refusal .number ⌝ }
+    ensures { λ _. ⌜ now (remainder .exit) ≡ plannedOf (bondOf carriers pid «ts_id» «original_network_id») (now (group .entry)) .refusal .remainder ⌝ }
     ensures { λ _. ⌜ now («is_carried» .exit) ≡ cond (plannedOf (bondOf carriers pid «ts_id» «original_network_id») (now (group .entry)) .plan .«is_carried») 1 0 ⌝ }
     ensures { λ _. ⌜ now (packets .exit) ≡ plannedOf (bondOf carriers pid «ts_id» «original_network_id») (now (group .entry)) .plan .packets ⌝ }
 {
@@ -36,12 +39,14 @@ pub extern "C" fn niranbok_read_headers(
         &mut frames[0..0],
         &mut slots[0..0],
     );
+    let refusal = headers.refusal;
+    *remainder = refusal.remainder;
+    *packets = headers.packets;
     *is_carried = 0;
     if headers.is_carried {
         *is_carried = 1;
     }
-    *packets = headers.packets;
-    headers.refusal
+    refusal.number
 }
 
 // Writes a stream's packets into the bonded slots of a group, in order.
@@ -54,8 +59,10 @@ pub extern "C" fn niranbok_spread(
     ts_id: u16,
     original_network_id: u16,
     packets: &mut usize,
+    remainder: &mut u32,
 ) -> u8
-    ensures { λ r. ⌜ r ≡ spreadOf (bondOf carriers pid «ts_id» «original_network_id») (now (group .entry)) (now (stream .entry)) .refusal ⌝ }
+    ensures { λ r. ⌜ r ≡ spreadOf (bondOf carriers pid «ts_id» «original_network_id») (now (group .entry)) (now (stream .entry)) .refusal .number ⌝ }
+    ensures { λ _. ⌜ now (remainder .exit) ≡ spreadOf (bondOf carriers pid «ts_id» «original_network_id») (now (group .entry)) (now (stream .entry)) .refusal .remainder ⌝ }
     ensures { λ _. ⌜ now (packets .exit) ≡ spreadOf (bondOf carriers pid «ts_id» «original_network_id») (now (group .entry)) (now (stream .entry)) .packets ⌝ }
     ensures { λ _. ⌜ now (group .exit) ≡ spreadGroup (bondOf carriers pid «ts_id» «original_network_id») (now (group .entry)) (now (stream .entry)) ⌝ }
 {
@@ -70,7 +77,9 @@ pub extern "C" fn niranbok_spread(
         },
     );
     *packets = spread.packets;
-    spread.refusal
+    let refusal = spread.refusal;
+    *remainder = refusal.remainder;
+    refusal.number
 }
 
 // Copies the bonded slots of a group, in order, to the front of `out`.
@@ -83,8 +92,10 @@ pub extern "C" fn niranbok_gather(
     ts_id: u16,
     original_network_id: u16,
     packets: &mut usize,
+    remainder: &mut u32,
 ) -> u8
-    ensures { λ r. ⌜ r ≡ gatherOf (bondOf carriers pid «ts_id» «original_network_id») (now (group .entry)) (length (now (out .entry))) .refusal ⌝ }
+    ensures { λ r. ⌜ r ≡ gatherOf (bondOf carriers pid «ts_id» «original_network_id») (now (group .entry)) (length (now (out .entry))) .refusal .number ⌝ }
+    ensures { λ _. ⌜ now (remainder .exit) ≡ gatherOf (bondOf carriers pid «ts_id» «original_network_id») (now (group .entry)) (length (now (out .entry))) .refusal .remainder ⌝ }
     ensures { λ _. ⌜ now (packets .exit) ≡ gatherOf (bondOf carriers pid «ts_id» «original_network_id») (now (group .entry)) (length (now (out .entry))) .packets ⌝ }
     ensures { λ _. ⌜ now (out .exit) ≡ gatherBuffer (bondOf carriers pid «ts_id» «original_network_id») (now (group .entry)) (now (out .entry)) ⌝ }
 {
@@ -99,5 +110,7 @@ pub extern "C" fn niranbok_gather(
         },
     );
     *packets = gathered.packets;
-    gathered.refusal
+    let refusal = gathered.refusal;
+    *remainder = refusal.remainder;
+    refusal.number
 }
