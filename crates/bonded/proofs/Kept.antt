@@ -14,6 +14,7 @@ use Rattle.packet.specs.Packets.{packetLength, slot, unfit}
 use Rattle.receiver.specs.declared.Stage.{Stage}
 use Rattle.receiver.specs.declared.Event.{Event}
 use Rattle.receiver.specs.declared.Row.{Row}
+use Rattle.receiver.specs.declared.Told.{Told}
 use Rattle.receiver.specs.Store.{storeLength}
 use Rattle.receiver.specs.Table.{makesReady, good, broken, other, row, openRow, rowOf}
 use Rattle.receiver.specs.Receiving.{receiveOf}
@@ -29,8 +30,9 @@ use Rattle.runs.proofs.Values.{waiting-stage}
 use Rattle.runs.proofs.Demands.{all-arrive}
 use Rattle.runs.proofs.Tuned.{Tuned, tuned-heard, codable, says-ready}
 use Rattle.receiver.proofs.OnBytes.{calls-on-bytes}
-use Rattle.receiver.specs.Bytes.{eventNumber}
-use Rattle.receiver.specs.Calls.{receiveEvent}
+use Rattle.receiver.specs.Bytes.{told, eventNumber}
+use Rattle.receiver.specs.Arriving.{shownRemainder}
+use Rattle.receiver.specs.Calls.{receiveTold, receiveEvent}
 use Rattle.runs.specs.Firmware.{Demultiplexer, heard}
 use Rattle.bonded.specs.Carriers.{opensFrame, framesKept}
 
@@ -45,7 +47,7 @@ opensBy Event.Ready = true
 opensBy Event.Short = true
 opensBy Event.Jump = true
 opensBy Event.Long = false
-opensBy Event.Broken = false
+opensBy (Event.Broken r) = false
 
 unfoldable framesHeld : List ℕ → Reception → List (List ℕ) → List (List ℕ)
 framesHeld held w [] = []
@@ -77,8 +79,8 @@ module _ (number pid : ℕ) where
   unfolding openRow
   stored-event from k w p s (l, u) o h =
       let to = reading (w .state .kind) p .«continuity_counter» in
-      let r : rowOf slots (w .state .stage) (cond (unfit pid p) broken other) to ≡ row Event.Stored (Stage.Open from (k + 1)) =
-      ap (λ (b : Bool). rowOf slots (w .state .stage) (cond b broken other) to) u ∙ row-opens slots other to o ∙ rw (lt-ltb k slots h) in
+      let r : rowOf slots (w .state .stage) (cond (unfit pid p) (broken (shownRemainder kind pid p)) other) to ≡ row Event.Stored (Stage.Open from (k + 1)) =
+      ap (λ (b : Bool). rowOf slots (w .state .stage) (cond b (broken (shownRemainder kind pid p)) other) to) u ∙ row-opens slots other to o ∙ rw (lt-ltb k slots h) in
       event-is kind pid w s p l ∙ ap (λ (x : Row). x .event) (bad-row kind pid w s p l (not-good kind pid p u) ∙ r)
 
   -- they make no frame ready and open none
@@ -188,7 +190,7 @@ module _ (number pid : ℕ) where
 -- ---- over a receiver's bytes
 
 opens-number : (e : Event) → opensFrame (eventNumber e) ≡ opensBy e
-unfolding eventNumber
+unfolding told
 opens-number Event.Nothing = refl
 opens-number Event.Opened = refl
 opens-number Event.Stored = refl
@@ -196,7 +198,7 @@ opens-number Event.Ready = refl
 opens-number Event.Short = refl
 opens-number Event.Jump = refl
 opens-number Event.Long = refl
-opens-number Event.Broken = refl
+opens-number (Event.Broken r) = refl
 
 module _ (kind : Kind) (pid : ℕ) where
   kept-alike : (held : List ℕ) (b : Demultiplexer) (w : Reception) → Tuned kind pid b w → (ps : List (List ℕ)) → framesKept held b ps ≡ framesHeld held w ps
@@ -206,7 +208,7 @@ module _ (kind : Kind) (pid : ℕ) where
       let next = tuned-heard kind pid b w t p in
       let on = calls-on-bytes (w .state) (codable kind pid w (t .set)) .0 .receives p (w .store) in
       let event : receiveEvent (b .state) p (b .store) ≡ eventNumber (receiveOf (w .state) p (length (w .store)) .event) =
-      ap₂ (λ (x y : List ℕ). receiveEvent x p y) (t .state-is) (t .store-is) ∙ on .1 .0 in
+      ap (λ (d : Told). d .event) (ap₂ (λ (x y : List ℕ). receiveTold x p y) (t .state-is) (t .store-is) ∙ on .1 .0) in
       let opens : opensFrame (receiveEvent (b .state) p (b .store)) ≡ opensBy (receiveOf (w .state) p (length (w .store)) .event) =
       ap opensFrame event ∙ opens-number (receiveOf (w .state) p (length (w .store)) .event) in
       ap₂ (λ (x y : List (List ℕ)). x ++ y)

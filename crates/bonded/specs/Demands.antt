@@ -3,6 +3,7 @@ use Prim.Native.Nat.{ℕ, _≤_, _<_}
 use mathlib.Core.Path.{_≡_}
 use mathlib.Core.List.{List, _++_}
 use lib.ListN.{length, drop}
+use Rattle.header_check.specs.Checking.{bare}
 use Rattle.runs.specs.Runs.{Each}
 use Rattle.bond_group.specs.declared.Bond.{Bond}
 use Rattle.bond_group.specs.Group.{order}
@@ -30,7 +31,7 @@ abbrev pub BackFromItsCarriers : Type 0
 BackFromItsCarriers =
     (b : Bond) (carriers : List (Carrier (b .pid))) (rounds : ℕ) (streams : ℕ → List ℕ) → Bonded b carriers rounds streams
     → (k : ℕ) → k < rounds → (out : List ℕ) → length (streams k) ≤ length out
-    → (gatherOf b (broughtAt b carriers streams k) (length out) ≡ record { refusal = 0; packets = length (order b (groupAt k carriers)) })
+    → (gatherOf b (broughtAt b carriers streams k) (length out) ≡ record { refusal = bare 0; packets = length (order b (groupAt k carriers)) })
     × (gatherBuffer b (broughtAt b carriers streams k) out ≡ streams k ++ drop (length (streams k)) out)
 
 -- the conditions can be met: there are carriers composed by the calls, and streams for two super frames in a row, of a packet each

@@ -18,6 +18,7 @@ use Rattle.setting.proofs.Sizes.{sized, length-resized}
 use Rattle.setting.proofs.Refusals.{none-at}
 use Rattle.setting.proofs.Fields.{at-most, narrow}
 use Rattle.header_layout.specs.Header.{header}
+use Rattle.header_check.specs.Checking.{bare}
 use Rattle.header_read.specs.Reader.{readOf}
 use Rattle.header_layout.specs.Meets.{MeetsRules}
 use Rattle.header_codec.proofs.RoundTrip.{written-and-read-back}
@@ -158,7 +159,7 @@ module _ (kind : Kind) (pid : ℕ) (h : Setting × Work) (g : Good kind pid h) w
   unfolding frameOf
   frame-header = slot-first (header kind pid (h .0)) (slotsFilled front (h .1 .lent)) (length-header kind pid (h .0))
 
-  pub header-read : readOf kind pid (slot 0 (frameOf kind pid h)) ≡ record { refusal = 0; setting = h .0 }
+  pub header-read : readOf kind pid (slot 0 (frameOf kind pid h)) ≡ record { refusal = bare 0; setting = h .0 }
   header-read =
       let w = written-and-read-back kind pid (h .0) nullPacket (g .typed) (g .meets) length-null in
       ap (readOf kind pid) (frame-header ∙ made kind pid (h .0) nullPacket (w .0)) ∙ w .1
@@ -194,7 +195,7 @@ each-good kind pid calls e t = headed-good kind pid e (worksOf (started kind pid
 pub headers-read : HeadersRead
 headers-read kind pid calls e t =
     ap (map (λ f. readOf kind pid (slot 0 f))) (hold kind pid calls e t)
-    ∙ map-each (λ f. readOf kind pid (slot 0 f)) (frameOf kind pid) (λ h. record { refusal = 0; setting = h .0 })
+    ∙ map-each (λ f. readOf kind pid (slot 0 f)) (frameOf kind pid) (λ h. record { refusal = bare 0; setting = h .0 })
     (each (header-read kind pid) (each-good kind pid calls e t))
 
 pub fronts-placed : FrontsPlaced

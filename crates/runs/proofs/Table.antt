@@ -25,7 +25,7 @@ use Rattle.receiver.specs.declared.Row.{Row}
 use Rattle.slices.specs.Slices.{over}
 use Rattle.receiver.specs.Store.{storeLength}
 use Rattle.receiver.specs.Table.{makesReady, Sort, good, broken, other, row, openRow, rowOf, stageChecks, storedOf}
-use Rattle.receiver.specs.Arriving.{sortOf, storeAfter}
+use Rattle.receiver.specs.Arriving.{shownRemainder, sortOf, storeAfter}
 use Rattle.receiver.specs.Receiving.{Receiver, moved, receiverAfter, receiverChecks, receiveRefusal, rowFor, receiveOf, receiveStore}
 use Rattle.receiver.proofs.Sorts.{not-good}
 use Rattle.runs.specs.Runs.{Each, none, more}
@@ -122,13 +122,13 @@ record Calm (slots : ℕ) (stage : Stage) (r : Row) : Type 0 where
   in-range : InRange slots (r .stage)
   follows : Follows slots stage (r .stage)
 
-abbrev badSort : Bool → Sort
-badSort b = cond b broken other
+abbrev badSort : ℕ → Bool → Sort
+badSort r b = cond b (broken r) other
 
-calm-open : {slots : ℕ} {stage : Stage} (from k : ℕ) → Opens stage from k → from < 2 ^ 4 → k ≤ slots → (b : Bool) (to : ℕ) → Calm slots stage (openRow slots from k (badSort b) to)
+calm-open : {slots : ℕ} {stage : Stage} (from k : ℕ) → Opens stage from k → from < 2 ^ 4 → k ≤ slots → (r : ℕ) (b : Bool) (to : ℕ) → Calm slots stage (openRow slots from k (badSort r b) to)
 unfolding openRow
-calm-open from k o h l true to = record { not-ready = refl; in-range = waits; follows = dropped }
-calm-open {slots} {stage} from k o h l false to = by-room (decLt k slots)
+calm-open from k o h l r true to = record { not-ready = refl; in-range = waits; follows = dropped }
+calm-open {slots} {stage} from k o h l r false to = by-room (decLt k slots)
   where
     by-room : Dec (k < slots) → Calm slots stage (cond (ltb k slots) (row Event.Stored (Stage.Open from (k + 1))) (row Event.Long Stage.Waiting))
     by-room (yes q) =
@@ -140,11 +140,11 @@ calm-open {slots} {stage} from k o h l false to = by-room (decLt k slots)
         })
     by-room (no q) = rw (le-ltb k slots (omega arith)) (record { not-ready = refl; in-range = waits; follows = dropped })
 
-calm : {slots : ℕ} {stage : Stage} → InRange slots stage → (b : Bool) (to : ℕ) → Calm slots stage (rowOf slots stage (badSort b) to)
+calm : {slots : ℕ} {stage : Stage} → InRange slots stage → (r : ℕ) (b : Bool) (to : ℕ) → Calm slots stage (rowOf slots stage (badSort r b) to)
 unfolding rowOf
-calm waits true to = record { not-ready = refl; in-range = waits; follows = dropped }
-calm waits false to = record { not-ready = refl; in-range = waits; follows = dropped }
-calm {slots} {stage} (opens from k o h l) b to = subst (Calm slots stage) (sym (row-opens slots (badSort b) to o)) (calm-open from k o h l b to)
+calm waits r true to = record { not-ready = refl; in-range = waits; follows = dropped }
+calm waits r false to = record { not-ready = refl; in-range = waits; follows = dropped }
+calm {slots} {stage} (opens from k o h l) r b to = subst (Calm slots stage) (sym (row-opens slots (badSort r b) to o)) (calm-open from k o h l r b to)
 
 length-over : (at : ℕ) (p bytes : List ℕ) → at + length p ≤ length bytes → length (over at p bytes) ≡ length bytes
 unfolding over
@@ -152,36 +152,36 @@ length-over at p bytes h =
     length-append (take at bytes) (p ++ drop (at + length p) bytes)
     ∙ omega (arith, length-take-le at bytes (omega arith), length-append p (drop (at + length p) bytes), length-drop (at + length p) bytes)
 
-bad-store : (slots : ℕ) (stage : Stage) (b : Bool) (p store : List ℕ) → length p ≡ packetLength → length store ≡ storeLength slots
-    → length (storeAfter slots stage (badSort b) p store) ≡ storeLength slots
+bad-store : (slots : ℕ) (stage : Stage) (r : ℕ) (b : Bool) (p store : List ℕ) → length p ≡ packetLength → length store ≡ storeLength slots
+    → length (storeAfter slots stage (badSort r b) p store) ≡ storeLength slots
 unfolding storeAfter
-bad-store slots stage true p store l h = h
-bad-store slots stage false p store l h = by-room (decLt (storedOf slots stage) slots)
+bad-store slots stage r true p store l h = h
+bad-store slots stage r false p store l h = by-room (decLt (storedOf slots stage) slots)
   where
     by-room : Dec (storedOf slots stage < slots)
         → length (cond (ltb (storedOf slots stage) slots) (over (packetLength * storedOf slots stage) p store) store) ≡ storeLength slots
     by-room (yes q) = rw (lt-ltb (storedOf slots stage) slots q) (length-over (packetLength * storedOf slots stage) p store (omega arith) ∙ h)
     by-room (no q) = rw (le-ltb (storedOf slots stage) slots (omega arith)) h
 
-bad-moved : (c : Receiver) (b : Bool) (stage : Stage) (said : List ℕ) → receiverAfter c (badSort b) stage said ≡ moved c stage
+bad-moved : (c : Receiver) (r : ℕ) (b : Bool) (stage : Stage) (said : List ℕ) → receiverAfter c (badSort r b) stage said ≡ moved c stage
 unfolding receiverAfter
-bad-moved c true stage said = refl
-bad-moved c false stage said = refl
+bad-moved c r true stage said = refl
+bad-moved c r false stage said = refl
 
 module _ (kind : Kind) (pid : ℕ) (w : Reception) (s : Set kind pid w) (p : List ℕ) (l : length p ≡ packetLength) (d : readRefusal kind pid p ≡ 0 → ⊥) where
-  bad-sort : sortOf (w .state .kind) (w .state .pid) p ≡ badSort (unfit pid p)
+  bad-sort : sortOf (w .state .kind) (w .state .pid) p ≡ badSort (shownRemainder kind pid p) (unfit pid p)
   unfolding sortOf
-  bad-sort = ap₂ (λ (a : Kind) (b : ℕ). cond (eqb (readRefusal a b p) 0) good (cond (unfit b p) broken other)) (s .kind-is) (s .pid-is) ∙ rw (ne-eqb (readRefusal kind pid p) 0 d)
+  bad-sort = ap₂ (λ (a : Kind) (b : ℕ). cond (eqb (readRefusal a b p) 0) good (cond (unfit b p) (broken (shownRemainder a b p)) other)) (s .kind-is) (s .pid-is) ∙ rw (ne-eqb (readRefusal kind pid p) 0 d)
 
-  pub bad-row : rowFor (w .state) p ≡ rowOf (slotsOf kind) (w .state .stage) (badSort (unfit pid p)) (reading (w .state .kind) p .«continuity_counter»)
+  pub bad-row : rowFor (w .state) p ≡ rowOf (slotsOf kind) (w .state .stage) (badSort (shownRemainder kind pid p) (unfit pid p)) (reading (w .state .kind) p .«continuity_counter»)
   unfolding rowFor
   bad-row = rw (bad-sort, s .kind-is) refl
 
   -- the receiver and its store then
   bad-after : afterPacket w p
       ≡ record {
-        state = moved (w .state) (rowOf (slotsOf kind) (w .state .stage) (badSort (unfit pid p)) (reading (w .state .kind) p .«continuity_counter») .stage);
-        store = storeAfter (slotsOf kind) (w .state .stage) (badSort (unfit pid p)) p (w .store);
+        state = moved (w .state) (rowOf (slotsOf kind) (w .state .stage) (badSort (shownRemainder kind pid p) (unfit pid p)) (reading (w .state .kind) p .«continuity_counter») .stage);
+        store = storeAfter (slotsOf kind) (w .state .stage) (badSort (shownRemainder kind pid p) (unfit pid p)) p (w .store);
       }
   bad-after =
       after-is kind pid w s p l
@@ -189,12 +189,12 @@ module _ (kind : Kind) (pid : ℕ) (w : Reception) (s : Set kind pid w) (p : Lis
         state = receiverAfter (w .state) a (r .stage) (reading (w .state .kind) p .«relative_ts_number»);
         store = storeAfter (slotsOf kind) (w .state .stage) a p (w .store);
       }) bad-sort bad-row
-      ∙ ap (λ (c : Receiver). record { state = c; store = storeAfter (slotsOf kind) (w .state .stage) (badSort (unfit pid p)) p (w .store) })
-      (bad-moved (w .state) (unfit pid p) (rowOf (slotsOf kind) (w .state .stage) (badSort (unfit pid p)) (reading (w .state .kind) p .«continuity_counter») .stage)
+      ∙ ap (λ (c : Receiver). record { state = c; store = storeAfter (slotsOf kind) (w .state .stage) (badSort (shownRemainder kind pid p) (unfit pid p)) p (w .store) })
+      (bad-moved (w .state) (shownRemainder kind pid p) (unfit pid p) (rowOf (slotsOf kind) (w .state .stage) (badSort (shownRemainder kind pid p) (unfit pid p)) (reading (w .state .kind) p .«continuity_counter») .stage)
       (reading (w .state .kind) p .«relative_ts_number»))
 
-  is-calm : Calm (slotsOf kind) (w .state .stage) (rowOf (slotsOf kind) (w .state .stage) (badSort (unfit pid p)) (reading (w .state .kind) p .«continuity_counter»))
-  is-calm = calm (s .stage-is) (unfit pid p) (reading (w .state .kind) p .«continuity_counter»)
+  is-calm : Calm (slotsOf kind) (w .state .stage) (rowOf (slotsOf kind) (w .state .stage) (badSort (shownRemainder kind pid p) (unfit pid p)) (reading (w .state .kind) p .«continuity_counter»))
+  is-calm = calm (s .stage-is) (shownRemainder kind pid p) (unfit pid p) (reading (w .state .kind) p .«continuity_counter»)
 
   -- nothing is handed out
   pub bad-quiet : (r : ℕ) (out : List ℕ) (ps : List (List ℕ)) → handedOut r out w (p ∷ ps) ≡ handedOut r out (afterPacket w p) ps
@@ -218,7 +218,7 @@ module _ (kind : Kind) (pid : ℕ) (w : Reception) (s : Set kind pid w) (p : Lis
         before-fit = s .before-fit;
         before-long = s .before-long;
         before-pass = s .before-pass;
-        store-long = bad-store (slotsOf kind) (w .state .stage) (unfit pid p) p (w .store) l (s .store-long);
+        store-long = bad-store (slotsOf kind) (w .state .stage) (shownRemainder kind pid p) (unfit pid p) p (w .store) l (s .store-long);
       })
 
   pub bad-numbers : afterPacket w p .state .numbers ≡ w .state .numbers
@@ -234,15 +234,15 @@ module _ (kind : Kind) (pid : ℕ) (w : Reception) (s : Set kind pid w) (p : Lis
   unfolding moved openRow
   stored-stage from k o h u =
       let to = reading (w .state .kind) p .«continuity_counter» in
-      let r : rowOf (slotsOf kind) (w .state .stage) (badSort (unfit pid p)) to ≡ row Event.Stored (Stage.Open from (k + 1)) =
-      ap (λ (b : Bool). rowOf (slotsOf kind) (w .state .stage) (badSort b) to) u ∙ row-opens (slotsOf kind) other to o ∙ rw (lt-ltb k (slotsOf kind) h) in
+      let r : rowOf (slotsOf kind) (w .state .stage) (badSort (shownRemainder kind pid p) (unfit pid p)) to ≡ row Event.Stored (Stage.Open from (k + 1)) =
+      ap (λ (b : Bool). rowOf (slotsOf kind) (w .state .stage) (badSort (shownRemainder kind pid p) b) to) u ∙ row-opens (slotsOf kind) other to o ∙ rw (lt-ltb k (slotsOf kind) h) in
       subst (λ (v : Reception). Opens (v .state .stage) from (k + 1)) (sym bad-after) (subst (λ (x : Row). Opens (x .stage) from (k + 1)) (sym r) (open-at from (k + 1)))
 
   pub stored-store : (from k : ℕ) → Opens (w .state .stage) from k → k < slotsOf kind → unfit pid p ≡ false → afterPacket w p .store ≡ over (packetLength * k) p (w .store)
   unfolding storeAfter
   stored-store from k o h u =
       ap (λ (v : Reception). v .store) bad-after
-      ∙ ap (λ (b : Bool). storeAfter (slotsOf kind) (w .state .stage) (badSort b) p (w .store)) u
+      ∙ ap (λ (b : Bool). storeAfter (slotsOf kind) (w .state .stage) (badSort (shownRemainder kind pid p) b) p (w .store)) u
       ∙ ap (λ (n : ℕ). cond (ltb n (slotsOf kind)) (over (packetLength * n) p (w .store)) (w .store)) (stored-opens (slotsOf kind) o) ∙ rw (lt-ltb k (slotsOf kind) h)
 
 -- ---- packets that are stored one behind the other

@@ -17,20 +17,21 @@ use Rattle.setting.proofs.Sizes.{fit-four}
 use Rattle.counters.specs.Counters.{firstStream}
 use Rattle.setting.specs.Size.{slotsOf}
 use Rattle.header_layout.specs.Header.{reading}
-use Rattle.header_check.specs.Checking.{readRefusal}
+use Rattle.header_check.specs.Checking.{readRefusal, refusalBy}
 use Rattle.header_check.proofs.Accepted.{shown, meets}
 use Rattle.header_read.specs.Reader.{readOf}
 use Rattle.packet.specs.Packets.{packetLength}
 use Rattle.receiver.specs.declared.Stage.{Stage}
 use Rattle.receiver.specs.declared.Event.{Event}
 use Rattle.receiver.specs.declared.Row.{Row}
+use Rattle.receiver.specs.declared.Told.{Told}
 use Rattle.receiver.specs.Store.{storeLength, slotsFor}
 use Rattle.receiver.specs.Table.{Sort, good, broken, other, row, openRow, rowOf, counterStep, isReady, makesReady}
 use Rattle.receiver.specs.Arriving.{sortOf}
 use Rattle.receiver.proofs.Store.{for-at-most}
 use Rattle.receiver.specs.Receiving.{Receiver, moved, renumbered, receiverAfter, receiveRefusal, rowFor, receiveOf, receiveStore}
-use Rattle.receiver.specs.Bytes.{eventNumber, receiverBytes, receiverOf, Codable}
-use Rattle.receiver.specs.Calls.{receiveEvent, receiveState, receiveMemory, handOutPackets, handOutMemory}
+use Rattle.receiver.specs.Bytes.{told, eventNumber, receiverBytes, receiverOf, Codable}
+use Rattle.receiver.specs.Calls.{receiveTold, receiveState, receiveMemory, handOutPackets, handOutMemory}
 use Rattle.receiver.proofs.Coding.{receiver-back}
 use Rattle.receiver.proofs.OnBytes.{numbers-said, calls-on-bytes}
 use Rattle.runs.proofs.Reception.{Reception, afterPacket, handed, handedOut}
@@ -47,7 +48,7 @@ unfolding afterPacket receiveOf receiveStore leaves receiveRefusal firstOf
 refused-packet w p d = rw (ne-eqb (length p) packetLength d) (refl, refl)
 
 good-header : (kind : Kind) (pid : ℕ) (p : List ℕ) → readRefusal kind pid p ≡ 0 → GoodHeader kind pid (reading kind p .«continuity_counter») p
-unfolding readOf
+unfolding readOf refusalBy
 good-header kind pid p e =
     let s = shown kind pid p e in
     let n = narrow kind (none-before (widthChecks kind (reading kind p)) (ruleChecks kind (reading kind p)) (meets kind pid p s .fields)) in
@@ -94,7 +95,7 @@ module _ (kind : Kind) (pid : ℕ) (b : Demultiplexer) (w : Reception) (t : Tune
       }
 
   ready-number : (e : Event) → eqb (eventNumber e) (eventNumber Event.Ready) ≡ makesReady e
-  unfolding eventNumber
+  unfolding told
   ready-number Event.Nothing = refl
   ready-number Event.Opened = refl
   ready-number Event.Stored = refl
@@ -102,12 +103,12 @@ module _ (kind : Kind) (pid : ℕ) (b : Demultiplexer) (w : Reception) (t : Tune
   ready-number Event.Short = refl
   ready-number Event.Jump = refl
   ready-number Event.Long = refl
-  ready-number Event.Broken = refl
+  ready-number (Event.Broken r) = refl
 
   pub says-ready : (p : List ℕ) → saysReady b p ≡ makesReady (receiveOf (w .state) p (length (w .store)) .event)
   says-ready p =
       let on = calls-on-bytes (w .state) (codable kind pid w (t .set)) .0 .receives p (w .store) in
-      ap (λ (n : ℕ). eqb n (eventNumber Event.Ready)) (ap₂ (λ (x y : List ℕ). receiveEvent x p y) (t .state-is) (t .store-is) ∙ on .1 .0)
+      ap (λ (n : ℕ). eqb n (eventNumber Event.Ready)) (ap (λ (d : Told). d .event) (ap₂ (λ (x y : List ℕ). receiveTold x p y) (t .state-is) (t .store-is) ∙ on .1 .0))
       ∙ ready-number (receiveOf (w .state) p (length (w .store)) .event)
 
   given-is : (r : ℕ) (out : List ℕ) → given r out b ≡ handed r out w
@@ -124,7 +125,7 @@ module _ (kind : Kind) (pid : ℕ) (b : Demultiplexer) (w : Reception) (t : Tune
 
 ready-open : (slots from k : ℕ) (sort : Sort) (to : ℕ) → makesReady (openRow slots from k sort to .event) ≡ true → isReady (openRow slots from k sort to .stage) ≡ true
 unfolding openRow
-ready-open slots from k broken to e = absurd (false≢true e)
+ready-open slots from k (broken r) to e = absurd (false≢true e)
 ready-open slots from k good to e = by-test (eqb k slots && eqb (counterStep from to) 1) (ltb k slots) e
   where
     by-test : (a b : Bool) → makesReady (cond {A = Row} a (row Event.Ready (Stage.Ready to)) (row (cond b Event.Short Event.Jump) (Stage.Open to 0)) .event) ≡ true
@@ -142,7 +143,7 @@ ready-open slots from k other to e = by-room (ltb k slots) e
 ready-row : (slots : ℕ) (stage : Stage) (sort : Sort) (to : ℕ) → makesReady (rowOf slots stage sort to .event) ≡ true → isReady (rowOf slots stage sort to .stage) ≡ true
 unfolding rowOf
 ready-row slots Stage.Waiting good to e = absurd (false≢true e)
-ready-row slots Stage.Waiting broken to e = absurd (false≢true e)
+ready-row slots Stage.Waiting (broken r) to e = absurd (false≢true e)
 ready-row slots Stage.Waiting other to e = absurd (false≢true e)
 ready-row slots (Stage.Open from k) sort to e = ready-open slots from k sort to e
 ready-row slots (Stage.Ready from) sort to e = ready-open slots from 0 sort to e
@@ -151,7 +152,7 @@ ready-row slots (Stage.Ready from) sort to e = ready-open slots from 0 sort to e
 row-stage : (c : Receiver) (sort : Sort) (stage : Stage) (said : List ℕ) → receiverAfter c sort stage said .stage ≡ stage
 unfolding receiverAfter moved renumbered
 row-stage c good stage said = refl
-row-stage c broken stage said = refl
+row-stage c (broken r) stage said = refl
 row-stage c other stage said = refl
 
 pub ready-then : (kind : Kind) (pid : ℕ) (w : Reception) → Set kind pid w → (p : List ℕ)

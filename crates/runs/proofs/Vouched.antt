@@ -19,7 +19,7 @@ use Rattle.setting.specs.Size.{sizeOf, slotsOf, streamsOf}
 use Rattle.setting.proofs.Refusals.{first-none, none-append, none-at}
 use Rattle.header_read.specs.declared.Reading.{Reading}
 use Rattle.header_layout.specs.Header.{reading}
-use Rattle.header_check.specs.Checking.{readRefusal}
+use Rattle.header_check.specs.Checking.{readRefusal, bare, refusalBy}
 use Rattle.header_read.specs.Reader.{readOf}
 use Rattle.packet.specs.Packets.{packetLength, slot, unfit}
 use Rattle.receiver.specs.declared.Stage.{Stage}
@@ -28,7 +28,7 @@ use Rattle.receiver.specs.declared.Row.{Row}
 use Rattle.slices.specs.Slices.{over}
 use Rattle.receiver.specs.Store.{storeLength, numbered, slotsFor}
 use Rattle.receiver.specs.Table.{makesReady, Sort, good, broken, other, counterStep, row, openRow, rowOf, isReady}
-use Rattle.receiver.specs.Arriving.{sortOf, storeAfter}
+use Rattle.receiver.specs.Arriving.{shownRemainder, sortOf, storeAfter}
 use Rattle.receiver.specs.Receiving.{renumbered, receiverAfter, rowFor, receiveOf, handOutRefusal, handOutOf, handOutBuffer}
 use Rattle.receiver.proofs.Said.{said-passes}
 use Rattle.receiver.proofs.Store.{length-numbered, has-packets, for-at-most}
@@ -76,7 +76,7 @@ handed-is kind pid r out w s a e =
 -- an accepted header: this counter, and numbers in range
 pub record GoodHeader (kind : Kind) (pid n : ℕ) (p : List ℕ) : Type 0 where
   pub setting : Setting
-  pub read : readOf kind pid p ≡ record { refusal = 0; setting = setting }
+  pub read : readOf kind pid p ≡ record { refusal = bare 0; setting = setting }
   pub counter : setting .«continuity_counter» ≡ n
   pub small : n < 2 ^ 4
   pub numbers-fit : Fit 4 (setting .«relative_ts_number»)
@@ -89,11 +89,11 @@ pub record GoodFrame (kind : Kind) (pid n : ℕ) (f : List ℕ) : Type 0 where
   pub long : length f ≡ packetLength * (slotsOf kind + 1)
   pub fit : (i : ℕ) → i < slotsOf kind → unfit pid (slot i (drop packetLength f)) ≡ false
 
-pub accepted-reading : (kind : Kind) (pid : ℕ) (p : List ℕ) (s : Setting) → readOf kind pid p ≡ record { refusal = 0; setting = s }
+pub accepted-reading : (kind : Kind) (pid : ℕ) (p : List ℕ) (s : Setting) → readOf kind pid p ≡ record { refusal = bare 0; setting = s }
     → (readRefusal kind pid p ≡ 0) × (reading kind p ≡ s)
-unfolding readOf
+unfolding readOf refusalBy
 accepted-reading kind pid p s e =
-    let z : readRefusal kind pid p ≡ 0 = ap (λ (x : Reading). x .refusal) e in
+    let z : readRefusal kind pid p ≡ 0 = ap (λ (x : Reading). x .refusal .number) e in
     let t : cond (eqb (readRefusal kind pid p) 0) (reading kind p) _ ≡ s = ap (λ (x : Reading). x .setting) e in
     (z, sym (rw z) ∙ t)
 
@@ -104,8 +104,8 @@ module _ (kind : Kind) (pid n : ℕ) (p : List ℕ) (w : Reception) (s : Set kin
   good-sort : sortOf (w .state .kind) (w .state .pid) p ≡ good
   unfolding sortOf
   good-sort =
-      ap₂ (λ (a : Kind) (b : ℕ). cond (eqb (readRefusal a b p) 0) good (cond (unfit b p) broken other)) (s .kind-is) (s .pid-is)
-      ∙ ap (λ (x : ℕ). cond (eqb x 0) good (cond (unfit pid p) broken other)) (facts .0)
+      ap₂ (λ (a : Kind) (b : ℕ). cond (eqb (readRefusal a b p) 0) good (cond (unfit b p) (broken (shownRemainder a b p)) other)) (s .kind-is) (s .pid-is)
+      ∙ ap (λ (x : ℕ). cond (eqb x 0) good (cond (unfit pid p) (broken (shownRemainder kind pid p)) other)) (facts .0)
 
   said-is : reading (w .state .kind) p ≡ g .setting
   said-is = ap (λ (a : Kind). reading a p) (s .kind-is) ∙ facts .1

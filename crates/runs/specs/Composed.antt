@@ -10,6 +10,7 @@ use Rattle.setting.specs.declared.Setting.{Setting}
 use Rattle.counters.specs.Counters.{firstStream, firstSlot}
 use Rattle.setting.specs.Size.{slotsOf, resized}
 use Rattle.setting.specs.Rules.{pidAllowed}
+use Rattle.header_check.specs.Checking.{bare}
 use Rattle.header_read.specs.Reader.{readOf}
 use Rattle.packet.specs.Packets.{packetLength, frameLength, slot, unfit}
 use Rattle.receiver.specs.Store.{numbered, slotsFor}
@@ -51,7 +52,7 @@ abbrev pub HeadersRead : Type 0
 HeadersRead =
     (kind : Kind) (pid : ℕ) (calls : List Call) → pidAllowed pid ≡ true → Each OfTypes calls
     → map (λ f. readOf kind pid (slot 0 f)) (framesOf (started kind pid) calls)
-    ≡ map (λ h. record { refusal = 0; setting = h .0 }) (headedBy kind pid calls)
+    ≡ map (λ h. record { refusal = bare 0; setting = h .0 }) (headedBy kind pid calls)
 
 -- 'the placed packets of each stream, in order, are the front of what was lent for it': as many as it has slots, or all
 abbrev pub FrontsPlaced : Type 0
