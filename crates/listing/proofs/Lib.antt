@@ -3,3 +3,4 @@ pub mod Decimal
 pub mod Packets
 pub mod Blocks
 pub mod Calls
+pub mod Hexadecimal

@@ -8,11 +8,12 @@ use lib.ListN.{length, take, drop}
 use Rattle.setting.specs.declared.Kind.{Kind}
 use Rattle.setting.specs.Refusal.{Check, firstOf}
 use Rattle.counters.specs.Counters.{countAvailable}
+use Rattle.header_check.specs.declared.Refusal.{Refusal}
 use Rattle.header_read.specs.declared.Reading.{Reading}
 use Rattle.header_read.specs.Reader.{readOf}
 use Rattle.packet.specs.Packets.{packetLength}
 use Rattle.listing.specs.declared.Listed.{Listed}
-use Rattle.listing.specs.Text.{space, lineFeed, decimal, field}
+use Rattle.listing.specs.Text.{space, lineFeed, decimal, hexadecimal, field}
 
 -- the header PID of a recording that is listed
 abbrev pub listedPid : ℕ
@@ -40,9 +41,11 @@ headerWord = 104 ∷ 101 ∷ 97 ∷ 100 ∷ 101 ∷ 114 ∷ []
 abbrev pub tailWord : List ℕ
 tailWord = 116 ∷ 97 ∷ 105 ∷ 108 ∷ []
 
--- what is said of a packet that is not a good header
-unfoldable pub refusedFields : ℕ → List ℕ
-refusedFields refusal = field refusedWord space ++ field (decimal refusal) lineFeed
+-- what is said of a packet that is not a good header: the refusal's number, and behind 7 the remainder
+unfoldable pub refusedFields : Refusal → List ℕ
+refusedFields r =
+    field refusedWord space
+    ++ cond (eqb (r .number) 7) (field (decimal (r .number)) space ++ field (hexadecimal (r .remainder)) lineFeed) (field (decimal (r .number)) lineFeed)
 
 -- what is said of a header: its counter, its version and how many streams are available
 unfoldable pub headerFields : ℕ → ℕ → ℕ → List ℕ
@@ -53,7 +56,7 @@ headerFields counter version available =
 -- what is said of a packet that was read
 unfoldable pub readingFields : Reading → List ℕ
 readingFields r =
-    cond (eqb (r .refusal) 0)
+    cond (eqb (r .refusal .number) 0)
     (headerFields (r .setting .«continuity_counter») (r .setting .«version_number») (countAvailable (r .setting .availability)))
     (refusedFields (r .refusal))
 

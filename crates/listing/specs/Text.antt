@@ -1,10 +1,11 @@
--- Text as bytes: numbers in decimal, fields, and text put into a buffer.
+-- Text as bytes: numbers in decimal and in hexadecimal, fields, and text put into a buffer.
 use Prim.Native.Nat.{ℕ, zero, suc, _+_, _/_, _%_}
 use mathlib.Core.Path.{_≡_}
 use mathlib.Core.Bool.{cond}
 use mathlib.Core.List.{List, [], _∷_, _++_}
 use lib.Dec.{ltb}
 use lib.ListN.{length, take, drop}
+use Rattle.io.specs.Digits.{digits}
 
 abbrev pub space : ℕ
 space = 32
@@ -20,6 +21,10 @@ digitsWithin (suc most) n = cond (ltb n 10) [] (digitsWithin most (n / 10)) ++ (
 -- n in decimal. A number of 64 bits has at most twenty digits
 unfoldable pub decimal : ℕ → List ℕ
 decimal n = digitsWithin 20 n
+
+-- n in hexadecimal: eight digits, the highest first, `a` to `f` in lower case
+unfoldable pub hexadecimal : ℕ → List ℕ
+hexadecimal n = digits 16 8 n
 
 -- a field and the byte behind it
 unfoldable pub field : List ℕ → ℕ → List ℕ

@@ -1,6 +1,8 @@
 // The lines of a listing, put into a lent buffer.
 use crate::text::put_field;
+use crate::text::put_hex;
 use crate::text::put_number;
+use header_check::Refusal;
 use packet::PACKET_BYTES;
 use setting::Kind;
 ghost use Prim.Native.Nat.{_+_, _≤_, _^_};
@@ -11,13 +13,20 @@ ghost use Rattle.listing.specs.Listing.{lineRoom, roomFor, packetsIn, re
 // The header PID of a recording that is listed.
 const PID: u16 = 0x1FF0;
 
-fn put_refused(out: &mut [u8], at: usize, refusal: u8) -> usize
-    requires { ⌜ at + 29 ≤ length (now out) ⌝ }
+// The number of the only refusal that has a remainder.
+const WRONG_CRC: u8 = 7;
+
+fn put_refused(out: &mut [u8], at: usize, refusal: Refusal) -> usize
+    requires { ⌜ at + 38 ≤ length (now out) ⌝ }
     ensures { λ r. ⌜ Puts (now (out .entry)) at (refusedFields refusal) (now (out .exit)) r ⌝ }
-    ensures { λ r. ⌜ r ≤ at + 29 ⌝ }
+    ensures { λ r. ⌜ r ≤ at + 38 ⌝ }
 {
-    let next = put_field(out, at, b"refused", b' ');
-    put_number(out, next, refusal as u64, b'\n')
+    let second = put_field(out, at, b"refused", b' ');
+    if refusal.number == WRONG_CRC {
+        let third = put_number(out, second, WRONG_CRC as u64, b' ');
+        return put_hex(out, third, refusal.remainder, b'\n');
+    }
+    put_number(out, second, refusal.number as u64, b'\n')
 }
 
 fn put_header(out: &mut [u8], at: usize, counter: u8, version: u8, available: u32) -> usize
@@ -39,8 +48,9 @@ fn put_line(out: &mut [u8], at: usize, number: u64, packet: &[u8]) -> usize
 {
     let reading = header_read::read(packet, PID, Kind::Plain);
     let next = put_number(out, at, number, b' ');
-    if reading.refusal != 0 {
-        return put_refused(out, next, reading.refusal);
+    let refusal = reading.refusal;
+    if refusal.number != 0 {
+        return put_refused(out, next, refusal);
     }
     let setting = reading.setting;
     let available = counters::count_available(setting.availability);

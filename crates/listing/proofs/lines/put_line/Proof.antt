@@ -21,11 +21,12 @@ same-length c = omega arith
 returns : tie.Need-returns
 unfolding line readingFields
 returns c =
-    let read = c .before .before .before .before .before .before .before .before .before .before .read in
-    let number = c .before .before .before .before .before .before .before .before .put-number in
-    let refused = c .before .before .put-refused in (
-      rw (← read .ensures, ne-eqb _ _ (c .before .before .before .before .if1 .taken)) (puts-then (number .ensures .0) (refused .ensures .0) (omega arith)),
-      omega arith,
+    let read = c .before .before .before .before .before .before .before .before .before .before .before .read in
+    let number = c .before .before .before .before .before .before .before .before .before .put-number in
+    let refused = c .before .before .put-refused in
+    let start = c .before .before .before .before .before .before .before .before .before .before .before .before .before .before in (
+      rw (← read .ensures, ne-eqb _ _ (c .before .before .before .before .if1 .taken)) (puts-then (number .ensures .0) (refused .ensures .0) (omega (arith, number .ensures .1, start .pre))),
+      omega (arith, number .ensures .1),
     )
 
 count-available-requires : tie.Need-count-available-requires
@@ -40,10 +41,10 @@ same-length-2 c = omega arith
 returns-2 : tie.Need-returns-2
 unfolding line readingFields
 returns-2 c =
-    let read = c .before .before .before .before .before .before .before .before .before .before .before .before .read in
-    let number = c .before .before .before .before .before .before .before .before .before .before .put-number in
+    let read = c .before .before .before .before .before .before .before .before .before .before .before .before .before .read in
+    let number = c .before .before .before .before .before .before .before .before .before .before .before .put-number in
     let header = c .before .before .put-header in
-    let start = c .before .before .before .before .before .before .before .before .before .before .before .before .before .before .before in (
+    let start = c .before .before .before .before .before .before .before .before .before .before .before .before .before .before .before .before in (
       rw (← read .ensures, eq-eqb _ _ (c .before .before .before .before .before .before .if1 .left), ← c .before .before .before .before .count-available .ensures) (puts-then (number .ensures .0) (header .ensures .0) (omega (arith, number .ensures .1, start .pre))),
       omega (arith, number .ensures .1),
     )
