@@ -7,6 +7,7 @@ use reference::Asked;
 /// Numbers that a call has to write stand so before it, and would show.
 const UNWRITTEN: usize = 0xA5A5_A5A5;
 const UNWRITTEN_BYTE: u8 = 0xA5;
+const UNWRITTEN_REMAINDER: u32 = 0xA5A5_A5A5;
 
 extern "C" {
     fn niranbok_crc(bytes: *const u8, length: usize) -> u32;
@@ -34,6 +35,7 @@ extern "C" {
         kind: u8,
         setting: *mut u8,
         setting_length: usize,
+        remainder: *mut u32,
     ) -> u8;
     fn niranbok_place_refusal(packet: *const u8, packet_length: usize, pid: u16) -> u8;
     fn niranbok_composer_start(state: *mut u8, state_length: usize, pid: u16, kind: u8) -> u8;
@@ -71,6 +73,7 @@ extern "C" {
         store: *mut u8,
         store_length: usize,
         event: *mut u8,
+        remainder: *mut u32,
     ) -> u8;
     fn niranbok_receiver_hand_out(
         state: *const u8,
@@ -91,6 +94,7 @@ extern "C" {
         original_network_id: u16,
         is_carried: *mut u8,
         packets: *mut usize,
+        remainder: *mut u32,
     ) -> u8;
     fn niranbok_spread(
         group: *mut u8,
@@ -102,6 +106,7 @@ extern "C" {
         ts_id: u16,
         original_network_id: u16,
         packets: *mut usize,
+        remainder: *mut u32,
     ) -> u8;
     fn niranbok_gather(
         group: *const u8,
@@ -113,6 +118,7 @@ extern "C" {
         ts_id: u16,
         original_network_id: u16,
         packets: *mut usize,
+        remainder: *mut u32,
     ) -> u8;
 }
 
@@ -161,10 +167,21 @@ pub fn header_write(packet: &mut [u8], pid: u16, kind: u8, setting: &[u8]) -> u8
     unsafe { niranbok_header_write(bytes, length, pid, kind, setting.as_ptr(), setting.len()) }
 }
 
-pub fn header_read(packet: &[u8], pid: u16, kind: u8, setting: &mut [u8]) -> u8 {
-    let (bytes, length) = (packet.as_ptr(), packet.len());
-    let (fields, fields_length) = (setting.as_mut_ptr(), setting.len());
-    unsafe { niranbok_header_read(bytes, length, pid, kind, fields, fields_length) }
+/// The refusal, and the remainder.
+pub fn header_read(packet: &[u8], pid: u16, kind: u8, setting: &mut [u8]) -> (u8, u32) {
+    let mut remainder = UNWRITTEN_REMAINDER;
+    let refusal = unsafe {
+        niranbok_header_read(
+            packet.as_ptr(),
+            packet.len(),
+            pid,
+            kind,
+            setting.as_mut_ptr(),
+            setting.len(),
+            &mut remainder,
+        )
+    };
+    (refusal, remainder)
 }
 
 pub fn place_refusal(packet: &[u8], pid: u16) -> u8 {
@@ -219,9 +236,10 @@ pub fn receiver_start(state: &mut [u8], pid: u16, kind: u8) -> u8 {
     unsafe { niranbok_receiver_start(state.as_mut_ptr(), state.len(), pid, kind) }
 }
 
-/// The refusal, and the event.
-pub fn receiver_receive(state: &mut [u8], packet: &[u8], store: &mut [u8]) -> (u8, u8) {
+/// The refusal, the event, and the remainder.
+pub fn receiver_receive(state: &mut [u8], packet: &[u8], store: &mut [u8]) -> (u8, u8, u32) {
     let mut event = UNWRITTEN_BYTE;
+    let mut remainder = UNWRITTEN_REMAINDER;
     let refusal = unsafe {
         niranbok_receiver_receive(
             state.as_mut_ptr(),
@@ -231,9 +249,10 @@ pub fn receiver_receive(state: &mut [u8], packet: &[u8], store: &mut [u8]) -> (u
             store.as_mut_ptr(),
             store.len(),
             &mut event,
+            &mut remainder,
         )
     };
-    (refusal, event)
+    (refusal, event, remainder)
 }
 
 /// The refusal, and how many packets were copied.
@@ -254,10 +273,12 @@ pub fn receiver_hand_out(state: &[u8], store: &[u8], out: &mut [u8], r: u8) -> (
     (refusal, packets)
 }
 
-/// The refusal, whether the stream is carried, and how many slots it has.
-pub fn read_headers(group: &[u8], asked: &Asked) -> (u8, u8, usize) {
+/// The refusal, whether the stream is carried, how many slots it has, and the
+/// remainder.
+pub fn read_headers(group: &[u8], asked: &Asked) -> (u8, u8, usize, u32) {
     let mut is_carried = UNWRITTEN_BYTE;
     let mut packets = UNWRITTEN;
+    let mut remainder = UNWRITTEN_REMAINDER;
     let refusal = unsafe {
         niranbok_read_headers(
             group.as_ptr(),
@@ -268,14 +289,16 @@ pub fn read_headers(group: &[u8], asked: &Asked) -> (u8, u8, usize) {
             asked.original_network_id,
             &mut is_carried,
             &mut packets,
+            &mut remainder,
         )
     };
-    (refusal, is_carried, packets)
+    (refusal, is_carried, packets, remainder)
 }
 
-/// The refusal, and how many packets were written.
-pub fn spread(group: &mut [u8], stream: &[u8], asked: &Asked) -> (u8, usize) {
+/// The refusal, how many packets were written, and the remainder.
+pub fn spread(group: &mut [u8], stream: &[u8], asked: &Asked) -> (u8, usize, u32) {
     let mut packets = UNWRITTEN;
+    let mut remainder = UNWRITTEN_REMAINDER;
     let refusal = unsafe {
         niranbok_spread(
             group.as_mut_ptr(),
@@ -287,14 +310,16 @@ pub fn spread(group: &mut [u8], stream: &[u8], asked: &Asked) -> (u8, usize) {
             asked.ts_id,
             asked.original_network_id,
             &mut packets,
+            &mut remainder,
         )
     };
-    (refusal, packets)
+    (refusal, packets, remainder)
 }
 
-/// The refusal, and how many packets were copied.
-pub fn gather(group: &[u8], out: &mut [u8], asked: &Asked) -> (u8, usize) {
+/// The refusal, how many packets were copied, and the remainder.
+pub fn gather(group: &[u8], out: &mut [u8], asked: &Asked) -> (u8, usize, u32) {
     let mut packets = UNWRITTEN;
+    let mut remainder = UNWRITTEN_REMAINDER;
     let refusal = unsafe {
         niranbok_gather(
             group.as_ptr(),
@@ -306,7 +331,8 @@ pub fn gather(group: &[u8], out: &mut [u8], asked: &Asked) -> (u8, usize) {
             asked.ts_id,
             asked.original_network_id,
             &mut packets,
+            &mut remainder,
         )
     };
-    (refusal, packets)
+    (refusal, packets, remainder)
 }

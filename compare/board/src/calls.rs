@@ -1,7 +1,7 @@
 //! Each call of niranbok.h made on both sides and judged. The answer is that
 //! of both.
 
-use crate::judge::{Call, Judge};
+use crate::judge::{Call, Judge, BROKEN, WRONG_CRC};
 use crate::lent::Lent;
 use crate::{archive, mirror};
 use reference::Asked;
@@ -95,13 +95,21 @@ impl Judge {
         answers[1]
     }
 
-    pub fn header_read(&mut self, packet: &mut Lent, pid: u16, kind: u8, setting: &mut Lent) -> u8 {
+    pub fn header_read(
+        &mut self,
+        packet: &mut Lent,
+        pid: u16,
+        kind: u8,
+        setting: &mut Lent,
+    ) -> (u8, u32) {
         let answers = [
             archive::header_read(packet.archives(), pid, kind, setting.archives()),
             mirror::header_read(packet.ours(), pid, kind, setting.ours()),
         ];
         let lent = &mut [("packet", packet), ("setting", setting)];
-        self.judge(Call::HeaderRead, answers[1], answers, lent);
+        let (refusal, remainder) = answers[1];
+        self.judge(Call::HeaderRead, refusal, answers, lent);
+        self.judge_remainder(Call::HeaderRead, refusal == WRONG_CRC, remainder);
         answers[1]
     }
 
@@ -186,14 +194,18 @@ impl Judge {
         state: &mut Lent,
         packet: &mut Lent,
         store: &mut Lent,
-    ) -> (u8, u8) {
+    ) -> (u8, u8, u32) {
         let answers = [
             archive::receiver_receive(state.archives(), packet.archives(), store.archives()),
             mirror::receiver_receive(state.ours(), packet.ours(), store.ours()),
         ];
         let lent = &mut [("state", state), ("packet", packet), ("store", store)];
-        self.judge(Call::ReceiverReceive, answers[1].0, answers, lent);
-        if let (0, event) = answers[1] {
+        let (refusal, event, remainder) = answers[1];
+        self.judge(Call::ReceiverReceive, refusal, answers, lent);
+        // What is broken may have another cause, and then 0.
+        let is_due = event == BROKEN && remainder != 0;
+        self.judge_remainder(Call::ReceiverReceive, is_due, remainder);
+        if refusal == 0 {
             self.events[usize::from(event)] += 1;
         }
         answers[1]
@@ -215,33 +227,44 @@ impl Judge {
         answers[1]
     }
 
-    pub fn read_headers(&mut self, group: &mut Lent, asked: &Asked) -> (u8, u8, usize) {
+    pub fn read_headers(&mut self, group: &mut Lent, asked: &Asked) -> (u8, u8, usize, u32) {
         let answers = [
             archive::read_headers(group.archives(), asked),
             mirror::read_headers(group.ours(), asked),
         ];
         let lent = &mut [("group", group)];
-        self.judge(Call::ReadHeaders, answers[1].0, answers, lent);
+        let (refusal, _, _, remainder) = answers[1];
+        self.judge(Call::ReadHeaders, refusal, answers, lent);
+        self.judge_remainder(Call::ReadHeaders, refusal == WRONG_CRC, remainder);
         answers[1]
     }
 
-    pub fn spread(&mut self, group: &mut Lent, stream: &mut Lent, asked: &Asked) -> (u8, usize) {
+    pub fn spread(
+        &mut self,
+        group: &mut Lent,
+        stream: &mut Lent,
+        asked: &Asked,
+    ) -> (u8, usize, u32) {
         let answers = [
             archive::spread(group.archives(), stream.archives(), asked),
             mirror::spread(group.ours(), stream.ours(), asked),
         ];
         let lent = &mut [("group", group), ("stream", stream)];
-        self.judge(Call::Spread, answers[1].0, answers, lent);
+        let (refusal, _, remainder) = answers[1];
+        self.judge(Call::Spread, refusal, answers, lent);
+        self.judge_remainder(Call::Spread, refusal == WRONG_CRC, remainder);
         answers[1]
     }
 
-    pub fn gather(&mut self, group: &mut Lent, out: &mut Lent, asked: &Asked) -> (u8, usize) {
+    pub fn gather(&mut self, group: &mut Lent, out: &mut Lent, asked: &Asked) -> (u8, usize, u32) {
         let answers = [
             archive::gather(group.archives(), out.archives(), asked),
             mirror::gather(group.ours(), out.ours(), asked),
         ];
         let lent = &mut [("group", group), ("out", out)];
-        self.judge(Call::Gather, answers[1].0, answers, lent);
+        let (refusal, _, remainder) = answers[1];
+        self.judge(Call::Gather, refusal, answers, lent);
+        self.judge_remainder(Call::Gather, refusal == WRONG_CRC, remainder);
         answers[1]
     }
 }

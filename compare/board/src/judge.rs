@@ -56,6 +56,12 @@ pub const EVENTS: [&str; 8] = [
     "nothing", "opened", "stored", "ready", "short", "jump", "long", "broken",
 ];
 
+/// The one that a remainder may go with.
+pub const BROKEN: u8 = 7;
+
+/// The refusal that a remainder goes with.
+pub const WRONG_CRC: u8 = 7;
+
 /// What was drawn when a difference showed: a round of a family of inputs.
 #[derive(Clone, Copy, Default)]
 pub struct Round {
@@ -98,6 +104,17 @@ impl Judge {
             }
         }
         self.count(call, refusal);
+    }
+
+    /// A remainder is not 0 exactly where one is due.
+    pub fn judge_remainder(&self, call: Call, is_due: bool, remainder: u32) {
+        if is_due != (remainder != 0) {
+            let due = if is_due { "one is" } else { "none is" };
+            self.fail(
+                call,
+                &format!("the remainder is {remainder:08x} where {due} due"),
+            );
+        }
     }
 
     fn count(&mut self, call: Call, refusal: u8) {

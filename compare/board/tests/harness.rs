@@ -64,6 +64,26 @@ fn numbers_that_a_call_does_not_refuse_with() {
     assert!(said.contains("15 is not a number it refuses with"));
 }
 
+/// What a judge says of a remainder, nothing if it is where one is due.
+fn said_of_remainder(is_due: bool, remainder: u32) -> Option<String> {
+    let judge = Judge::default();
+    let judged = catch_unwind(AssertUnwindSafe(|| {
+        judge.judge_remainder(Call::Gather, is_due, remainder);
+    }));
+    judged.err().map(|said| *said.downcast().unwrap())
+}
+
+#[test]
+fn remainders() {
+    assert_eq!(said_of_remainder(true, 0x1A2B), None);
+    assert_eq!(said_of_remainder(false, 0), None);
+    let said = said_of_remainder(false, 0x1A2B).unwrap();
+    let expected = "gather: the remainder is 00001a2b where none is due; ";
+    assert!(said.starts_with(expected), "{said}");
+    let said = said_of_remainder(true, 0).unwrap();
+    assert!(said.contains("00000000 where one is due"), "{said}");
+}
+
 #[test]
 fn changes_between_calls() {
     let mut lent = Lent::shifted(&[1, 2, 3], 5);

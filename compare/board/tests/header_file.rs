@@ -5,6 +5,7 @@ use board::judge::{CALLS, EVENTS};
 use reference::{Kind, Setting, FRAME_BYTES, PACKET_BYTES, STORE_BYTES};
 
 const HEADER: &str = include_str!("../../../include/niranbok.h");
+const ARCHIVE: &str = include_str!("../src/archive.rs");
 
 /// The number that a name is defined as.
 fn defined(name: &str) -> usize {
@@ -32,6 +33,59 @@ fn every_call_is_judged() {
     for (place, (call, _, _)) in CALLS.iter().enumerate() {
         assert_eq!(*call as usize, place);
     }
+}
+
+/// What stands behind a call's name: its parameters, up to this end.
+fn parameters(text: &'static str, name: &str, end: &str) -> Vec<&'static str> {
+    let start = format!("niranbok_{name}(");
+    let parts = text.split_once(&start).map(|(_, behind)| behind);
+    let (parameters, _) = parts.and_then(|parts| parts.split_once(end)).unwrap();
+    let parameters = parameters.split(',').map(str::trim);
+    parameters.filter(|text| !text.is_empty()).collect()
+}
+
+/// A parameter of C as Rust has it.
+fn in_rust(parameter: &str) -> String {
+    let (of, name) = parameter.rsplit_once(' ').unwrap();
+    let pointer = match (name.starts_with('*'), of.starts_with("const ")) {
+        (true, true) => "*const ",
+        (true, false) => "*mut ",
+        (false, _) => "",
+    };
+    let number = match of.trim_start_matches("const ") {
+        "uint8_t" => "u8",
+        "uint16_t" => "u16",
+        "uint32_t" => "u32",
+        "size_t" => "usize",
+        other => panic!("{other} is no number of niranbok.h"),
+    };
+    format!("{}: {pointer}{number}", name.trim_start_matches('*'))
+}
+
+/// A parameter too few or of another type would be trusted.
+#[test]
+fn every_parameter() {
+    for (_, name, _) in CALLS {
+        let declared = parameters(HEADER, name, ");");
+        let declared: Vec<String> = declared.into_iter().map(in_rust).collect();
+        assert_eq!(parameters(ARCHIVE, name, ")"), declared, "{name}");
+    }
+}
+
+/// The calls that read headers tell a remainder, and no other does.
+#[test]
+fn remainders() {
+    let last = |name| parameters(ARCHIVE, name, ")").last().copied();
+    let told = CALLS.iter().map(|(_, name, _)| *name);
+    let told = told.filter(|name| last(name) == Some("remainder: *mut u32"));
+    let expected = [
+        "header_read",
+        "receiver_receive",
+        "read_headers",
+        "spread",
+        "gather",
+    ];
+    assert_eq!(told.collect::<Vec<_>>(), expected);
 }
 
 #[test]

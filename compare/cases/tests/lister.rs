@@ -38,7 +38,50 @@ fn many_has_all_sorts_of_headers() {
 fn many_has_every_refusal() {
     let text = named("many").expected;
     for refusal in (3..=10).chain([20]) {
-        let end = format!(" refused {refusal}");
-        assert!(text.lines().filter(|line| line.ends_with(&end)).count() >= 10);
+        let refusal = refusal.to_string();
+        let lines = text.lines().filter(|line| {
+            let mut parts = line.split(' ').skip(1);
+            parts.next() == Some("refused") && parts.next() == Some(&refusal)
+        });
+        assert!(lines.count() >= 10);
+    }
+}
+
+/// What stands behind each `refused 7`.
+fn remainders(text: &str) -> Vec<&str> {
+    let lines = text.lines();
+    lines
+        .filter_map(|line| line.split_once(" refused 7 "))
+        .map(|(_, remainder)| remainder)
+        .collect()
+}
+
+/// And behind nothing else.
+#[test]
+fn remainders_are_eight_digits() {
+    let text = named("many").expected;
+    assert!(!text.lines().any(|line| line.ends_with(" refused 7")));
+    for remainder in remainders(&text) {
+        assert_eq!(remainder.len(), 8);
+        assert!(!remainder.contains(|c| !matches!(c, '0'..='9' | 'a'..='f')));
+        assert_ne!(remainder, "00000000");
+    }
+    let parts = text.lines().map(|line| line.split(' ').count());
+    let with_four = parts.filter(|&parts| parts == 4).count();
+    assert_eq!(with_four, remainders(&text).len());
+}
+
+#[test]
+fn remainders_have_every_digit_at_every_place() {
+    let text = named("many").expected;
+    let remainders = remainders(&text);
+    for place in 0..8 {
+        for digit in b"0123456789abcdef" {
+            let has = |remainder: &&str| remainder.as_bytes()[place] == *digit;
+            assert!(remainders.iter().any(has), "{digit} at {place}");
+        }
+        let behind_zeros = |remainder: &&str| remainder.trim_start_matches('0').len();
+        let has = |remainder: &&str| behind_zeros(remainder) == 8 - place;
+        assert!(remainders.iter().any(has), "{place} zeros in front");
     }
 }

@@ -120,7 +120,7 @@ fn header_pid(table: &Table, kind: Kind, pid: u16) -> Vec<(&'static str, u8)> {
     let number = kind.number;
     let mut packet = table.zeros("packet");
     let written = archive::header_write(&mut packet, pid, number, &good(table, kind));
-    let read = archive::header_read(&packet, pid, number, &mut table.zeros("setting"));
+    let (read, _) = archive::header_read(&packet, pid, number, &mut table.zeros("setting"));
     let composer = archive::composer_start(&mut table.zeros("composer"), pid, number);
     let receiver = archive::receiver_start(&mut table.zeros("receiver"), pid, number);
     let mut answers = vec![

@@ -74,6 +74,6 @@ pub fn ready_frame(table: &Table, kind: Kind, pid: u16) -> (Vec<u8>, Vec<u8>) {
         let setting = good(table, kind);
         archive::composer_begin(&mut composer, &mut frame, &setting);
     }
-    assert_eq!(events.last(), Some(&(0, 3)), "the first frame is ready");
+    assert_eq!(events.last(), Some(&(0, 3, 0)), "the first frame is ready");
     (state, store)
 }

@@ -2,6 +2,7 @@
 
 use crate::layout::{LISTER_PID, PACKET_BYTES};
 use crate::read::read;
+use crate::refusal::Refusal;
 use crate::setting::Kind;
 use std::fmt::{Result, Write};
 
@@ -31,6 +32,10 @@ fn write_line(lines: &mut String, number: usize, packet: &[u8]) -> Result {
             setting.version_number,
             setting.available_streams()
         ),
-        Err(refusal) => writeln!(lines, "{number} refused {refusal}"),
+        Err(Refusal {
+            number: 7,
+            remainder,
+        }) => writeln!(lines, "{number} refused 7 {remainder:08x}"),
+        Err(refusal) => writeln!(lines, "{number} refused {}", refusal.number),
     }
 }

@@ -7,16 +7,19 @@ use crate::layout::{
 };
 use crate::numbers::unpack;
 use crate::packet::{found_pid, sixteen};
+use crate::refusal::Refusal;
 use crate::rules::{content, header_pid, unless, Checked};
 use crate::setting::{Kind, Setting};
 
 /// The setting of a good header, or the refusal.
-pub fn read(packet: &[u8], pid: u16, kind: Kind) -> Result<Setting, u8> {
+pub fn read(packet: &[u8], pid: u16, kind: Kind) -> Result<Setting, Refusal> {
     let packet = packet.try_into().map_err(|_| 1)?;
     header_pid(pid)?;
     fixed_bits(packet, pid)?;
-    // Behind its own CRC the register is zero.
-    unless(crc32(&packet[UNDER_CRC.start..]) == 0, 7)?;
+    let remainder = remainder(packet);
+    if remainder != 0 {
+        return Err(Refusal::wrong_crc(remainder));
+    }
     by_kind!(kind, kind => reserved_bits(packet, kind))?;
     let setting = by_kind!(kind, kind => fields(packet, kind));
     content(kind, &setting)?;
@@ -30,6 +33,12 @@ fn fixed_bits(packet: &[u8; PACKET_BYTES], pid: u16) -> Checked {
     unless(found_pid(packet) == pid, 4)?;
     unless(packet[1] >> 5 == 0 && packet[3] & 0xF0 == BEFORE_COUNTER, 5)?;
     unless(sixteen(packet, 4) & THIRTEEN_BITS == TSMF_SYNC, 6)
+}
+
+/// What the header's own CRC, run through the register behind what it is of,
+/// leaves there: zero, if it is right.
+fn remainder(packet: &[u8; PACKET_BYTES]) -> u32 {
+    crc32(&packet[UNDER_CRC.start..])
 }
 
 /// 20: ones in all reserved bits. A zero is another maker's flag, of a dialect

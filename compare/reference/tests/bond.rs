@@ -136,7 +136,7 @@ fn no_slots_no_packets() {
     let before = group.clone();
     assert_eq!(spread(&mut group, &asked(1), &[]), Ok(0));
     assert_eq!(gather(&group, &asked(1), &mut []), Ok(0));
-    assert_eq!(spread(&mut group, &asked(1), &ordinary(0)), Err(15));
+    assert_eq!(spread(&mut group, &asked(1), &ordinary(0)), Err(15.into()));
     assert!(group == before);
 }
 
@@ -175,8 +175,8 @@ fn what_the_headers_say() {
         assert_eq!(read_headers(&group, &asked), answer(true, packets));
         asked.ts_id += 1;
         assert_eq!(read_headers(&group, &asked), answer(false, 0));
-        assert_eq!(read_headers(&group[1..], &asked), Err(1));
+        assert_eq!(read_headers(&group[1..], &asked), Err(1.into()));
         asked.carriers = 9;
-        assert_eq!(read_headers(&group, &asked), Err(17));
+        assert_eq!(read_headers(&group, &asked), Err(17.into()));
     }
 }

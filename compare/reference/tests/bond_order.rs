@@ -5,8 +5,7 @@ mod common;
 
 use common::bond_calls::{call_of, good_settings, Call};
 use common::{clear_reserved, make_crc_right, reserved_bits};
-use reference::Kind;
-use reference::FRAME_BYTES;
+use reference::{Kind, Refusal, FRAME_BYTES};
 
 /// One fault for each refusal that a header can bring about by itself. Those
 /// behind 7 leave the CRC right, and done twice they are the same.
@@ -34,6 +33,13 @@ fn leave_over(call: &mut Call) {
     if call.group.len() == 7 * FRAME_BYTES {
         call.group.extend_from_within(6 * FRAME_BYTES..);
     }
+}
+
+/// The refusal with this number. For a 7 a single bit is turned, the last of byte
+/// 100, and by Python's zlib it leaves this.
+fn refused(number: u8) -> Refusal {
+    let remainder = if number == 7 { 0x5C79_7F6A } else { 0 };
+    Refusal { number, remainder }
 }
 
 struct Fault {
@@ -87,7 +93,7 @@ fn frame_left_over() -> Vec<Fault> {
     faults
 }
 
-type Answer = fn(&mut Call) -> Result<usize, u8>;
+type Answer = fn(&mut Call) -> Result<usize, Refusal>;
 
 /// A call with faults. The earlier fault comes last, so that it is there also
 /// where both change the same thing.
@@ -99,20 +105,21 @@ fn call_with(faults: &[&Fault]) -> Call {
     call
 }
 
-/// The answer of spread or of gather.
-fn answer(mut call: Call, make: Answer) -> u8 {
+/// What spread or gather refuses with.
+fn refusal(mut call: Call, make: Answer) -> Option<Refusal> {
     let before = call.clone();
     let answer = make(&mut call);
     assert_eq!(call == before, answer.is_err());
-    answer.err().unwrap_or(0)
+    answer.err()
 }
 
-fn check_order(faults: &[Fault], answer: impl Fn(Call) -> u8) {
-    assert_eq!(answer(call_with(&[])), 0);
+fn check_order(faults: &[Fault], refusal: impl Fn(Call) -> Option<Refusal>) {
+    assert_eq!(refusal(call_with(&[])), None);
     for (place, first) in faults.iter().enumerate() {
         for second in &faults[place..] {
-            let found = answer(call_with(&[first, second]));
-            assert_eq!(found, first.refusal, "and not {}", second.refusal);
+            let found = refusal(call_with(&[first, second]));
+            let expected = Some(refused(first.refusal));
+            assert_eq!(found, expected, "and not {}", second.refusal);
         }
     }
 }
@@ -120,7 +127,7 @@ fn check_order(faults: &[Fault], answer: impl Fn(Call) -> u8) {
 fn check_call(
     early: fn() -> Vec<Fault>,
     late: fn() -> Vec<Fault>,
-    answer: impl Fn(Call) -> u8 + Copy,
+    refusal: impl Fn(Call) -> Option<Refusal> + Copy,
 ) {
     for end in [frames_missing, frame_left_over] {
         let mut faults = early();
@@ -129,7 +136,7 @@ fn check_call(
         }
         faults.extend(end());
         faults.extend(late());
-        check_order(&faults, answer);
+        check_order(&faults, refusal);
     }
 }
 
@@ -147,18 +154,18 @@ fn order_of_spread() {
             fault(12, |call| call.stream[188 * 3] = 0x46),
         ])
     };
-    check_call(first, last, |call| answer(call, Call::spread));
+    check_call(first, last, |call| refusal(call, Call::spread));
 }
 
 #[test]
 fn order_of_gather() {
     let last = || late(vec![fault(15, |call| call.buffer.truncate(188 * 70 - 1))]);
-    check_call(early, last, |call| answer(call, Call::gather));
+    check_call(early, last, |call| refusal(call, Call::gather));
 }
 
 #[test]
 fn order_of_read_headers() {
-    check_call(early, Vec::new, |call| call.headers_refusal());
+    check_call(early, Vec::new, |call| call.read_headers().err());
 }
 
 /// Every reserved bit of any frame's header, with each other fault of it.

@@ -6,8 +6,8 @@ mod common;
 use common::bond_calls::{call_of, good_settings, Call};
 use common::frames::ordinary;
 use common::groups::{drawn_frames, drawn_settings, group};
-use common::{clear_reserved, make_crc_right, reserved_bits, Random, PID};
-use reference::{Kind, Setting, FRAME_BYTES};
+use common::{clear_reserved, make_crc_right, reserved_bits, wrong_crc, Random, PID};
+use reference::{Kind, Refusal, Setting, FRAME_BYTES};
 
 fn answers_to(change: impl Fn(&mut Call)) -> [u8; 2] {
     let mut call = call_of(&good_settings());
@@ -46,6 +46,49 @@ fn seventeen_carrier_counts() {
         };
         let answers = answers_to(|call| call.asked.carriers = carriers);
         assert_eq!(answers, [expected; 2]);
+    }
+}
+
+/// Gives a frame's header another CRC, and answers the refusal that shows it.
+fn change_crc(random: &mut Random, call: &mut Call, frame: usize) -> Refusal {
+    let header = call.header(frame);
+    header[184] ^= 1 + random.byte(255);
+    random.fill(&mut header[185..], 256);
+    wrong_crc(header)
+}
+
+/// Of the first header that has one, whatever the later ones have, and whatever
+/// is wrong with the call behind the headers.
+#[test]
+fn seven_the_first_wrong_crc() {
+    let mut random = Random(63);
+    for first in 0..7 {
+        let mut call = call_of(&good_settings());
+        let shown = change_crc(&mut random, &mut call, first);
+        assert_eq!(call.answers(), [Err(shown); 3]);
+        for second in first + 1..7 {
+            let mut call = call.clone();
+            let other = change_crc(&mut random, &mut call, second);
+            assert_ne!(other.remainder, shown.remainder);
+            call.asked.ts_id ^= 1;
+            call.stream.clear();
+            assert_eq!(call.answers(), [Err(shown); 3]);
+        }
+    }
+}
+
+/// A header before it is refused by another number: then nothing is shown.
+#[test]
+fn seven_behind_another_refusal() {
+    let mut random = Random(64);
+    for (first, second) in [(0, 1), (0, 6), (2, 3), (5, 6)] {
+        let mut call = call_of(&good_settings());
+        change_crc(&mut random, &mut call, second);
+        call.header(first)[6] = 0;
+        make_crc_right(call.header(first));
+        assert_eq!(call.answers(), [Err(8.into()); 3]);
+        call.asked.carriers = 9;
+        assert_eq!(call.answers(), [Err(17.into()); 3]);
     }
 }
 

@@ -1,22 +1,7 @@
 mod common;
 
-use common::Random;
+use common::{by_bits, Random};
 use reference::crc32;
-
-/// The register bit by bit, as the polynomial says it.
-fn by_bits(bytes: &[u8]) -> u32 {
-    let mut register = u32::MAX;
-    for byte in bytes {
-        for bit in (0..8).rev() {
-            let outgoing = register >> 31 != u32::from(byte >> bit & 1);
-            register <<= 1;
-            if outgoing {
-                register ^= 0x04C1_1DB7;
-            }
-        }
-    }
-    register
-}
 
 #[test]
 fn all_lengths() {

@@ -54,7 +54,8 @@ fn reserved_bits_at_zero() {
     assert_eq!(list(&input), expected);
 }
 
-/// With a wrong CRC it is a 7, and with another frame_type still a 20.
+/// With a wrong CRC it is a 7, here for its last bit, and with another frame_type
+/// still a 20.
 #[test]
 fn reserved_bits_and_another_fault() {
     let mut packet = header(Kind::Plain, &least(Kind::Plain));
@@ -65,7 +66,8 @@ fn reserved_bits_and_another_fault() {
     packet[6] = 2;
     make_crc_right(&mut packet);
     input.extend(packet);
-    assert_eq!(list(&input), "0 refused 20\n1 refused 7\n2 refused 20\n");
+    let lines = "0 refused 20\n1 refused 7 04c11db7\n2 refused 20\n";
+    assert_eq!(list(&input), lines);
 }
 
 /// What is reserved in an extended header alone is private data to the lister.

@@ -2,6 +2,7 @@
 
 mod common;
 
+use common::faults::{order, refused, spoilt};
 use common::frames::{counted_header, drawn_frame, ordinary, run, Lent};
 use common::{clear_reserved, reserved_bits, Random, KINDS, PID};
 use reference::{read, Event, Kind, Standing};
@@ -55,6 +56,12 @@ fn opened(kind: Kind, stored: usize) -> Lent {
     lent
 }
 
+/// What the turned bit of a spoilt header leaves, by Python's zlib.
+const WRONG_CRC: Event = Event::Broken {
+    remainder: 0x5C79_7F6A,
+};
+const OTHER_CAUSE: Event = Event::Broken { remainder: 0 };
+
 fn spoilt_header(kind: Kind) -> [u8; 188] {
     let mut packet = counted_header(kind, 8);
     packet[100] ^= 1;
@@ -95,10 +102,14 @@ fn broken_packets_drop_the_frame() {
     for kind in KINDS {
         let slots = kind.size().slots;
         for stored in [0, 1, slots - 1, slots] {
-            for packet in [&spoilt_header(kind), &with_bits, &[0; 188]] {
+            for (packet, event) in [
+                (&spoilt_header(kind), WRONG_CRC),
+                (&with_bits, OTHER_CAUSE),
+                (&[0; 188], OTHER_CAUSE),
+            ] {
                 let mut lent = opened(kind, stored);
                 let store = lent.store.clone();
-                assert_eq!(lent.receive(packet), Event::Broken);
+                assert_eq!(lent.receive(packet), event);
                 assert_eq!(lent.receiver.standing, Standing::Waiting);
                 assert_eq!(lent.store, store);
             }
@@ -116,7 +127,7 @@ fn a_reserved_bit_at_zero_drops_the_frame() {
             for stored in [0, slots] {
                 let mut lent = opened(kind, stored);
                 let store = lent.store.clone();
-                assert_eq!(lent.receive(&foreign_header(kind, bit)), Event::Broken);
+                assert_eq!(lent.receive(&foreign_header(kind, bit)), OTHER_CAUSE);
                 assert_eq!(lent.receiver.standing, Standing::Waiting);
                 assert_eq!(lent.receive(&ordinary(99)), Event::Nothing);
                 assert_eq!(lent.store, store);
@@ -140,6 +151,65 @@ fn packets_are_stored_slot_by_slot() {
     }
 }
 
+/// Each two faults of a header. What is broken shows the remainder where the
+/// reader refuses by 7, and 0 for every other cause; another PID is no header.
+#[test]
+fn the_remainder_goes_beside_broken() {
+    for kind in KINDS {
+        let slots = kind.size().slots;
+        let of_a_header = &order(kind)[2..];
+        for (place, &first) in of_a_header.iter().enumerate() {
+            for &second in &of_a_header[place..] {
+                let packet = spoilt(kind, &[first, second], (4, 0x80));
+                let remainder = refused(first).remainder;
+                assert_eq!(remainder != 0, first == 7);
+                let event = match first {
+                    4 => Event::Stored,
+                    _ => Event::Broken { remainder },
+                };
+                assert_eq!(opened(kind, 0).receive(&packet), event);
+                assert_eq!(opened(kind, slots - 1).receive(&packet), event);
+                assert_eq!(ready(kind).receive(&packet), event);
+                let event = if first == 4 { Event::Long } else { event };
+                assert_eq!(opened(kind, slots).receive(&packet), event);
+                assert_eq!(Lent::new(kind).receive(&packet), Event::Nothing);
+            }
+        }
+    }
+}
+
+/// Nothing is open behind it: the next wrong CRC is nothing, and shows nothing.
+#[test]
+fn a_second_wrong_crc_is_not_shown() {
+    for kind in KINDS {
+        let mut lent = opened(kind, 3);
+        let spoilt = spoilt_header(kind);
+        assert_eq!(lent.receive(&spoilt), WRONG_CRC);
+        assert_eq!(lent.receive(&spoilt), Event::Nothing);
+        assert_eq!(lent.receive(&counted_header(kind, 9)), Event::Opened);
+        assert_eq!(lent.receive(&spoilt), WRONG_CRC);
+    }
+}
+
+/// Of every event, the eight that there are.
+#[test]
+fn remainders_of_events() {
+    use Event::{Jump, Long, Nothing, Opened, Ready, Short, Stored};
+    for event in [
+        Nothing,
+        Stored,
+        Opened,
+        Ready,
+        Short,
+        Jump,
+        Long,
+        OTHER_CAUSE,
+    ] {
+        assert_eq!(event.remainder(), 0);
+    }
+    assert_eq!(WRONG_CRC.remainder(), 0x5C79_7F6A);
+}
+
 fn ready(kind: Kind) -> Lent {
     let mut lent = opened(kind, kind.size().slots);
     assert_eq!(lent.receive(&counted_header(kind, 8)), Event::Ready);
@@ -158,8 +228,8 @@ fn a_ready_frame_stays_until_the_next_accepted_packet() {
         let behind = [
             (&ordinary(99)[..], Event::Stored),
             (&counted_header(kind, 9), Event::Short),
-            (&spoilt_header(kind), Event::Broken),
-            (&foreign_header(kind, (4, 0x20)), Event::Broken),
+            (&spoilt_header(kind), WRONG_CRC),
+            (&foreign_header(kind, (4, 0x20)), OTHER_CAUSE),
         ];
         for (packet, event) in behind {
             let mut lent = ready(kind);

@@ -87,19 +87,32 @@ fn receive() {
     });
 }
 
-/// A header with a reserved bit at zero is no fault of the call, as no packet
-/// of 188 bytes is: faults come before it, and without them it is broken.
+/// A header that the reader refuses is no fault of the call, as no packet of 188
+/// bytes is: faults come before it, and without them it is broken.
+fn receive_broken(call: &mut Call, header: &[u8; 188], remainder: u32) -> u8 {
+    let length = call.packet.len();
+    call.packet.copy_from_slice(&header[..length]);
+    let received = call.state.receive(&mut call.store, &call.packet);
+    assert!(received.is_err() || received == Ok(Event::Broken { remainder }));
+    received.err().unwrap_or(0)
+}
+
 #[test]
 fn receive_a_header_with_a_reserved_bit_at_zero() {
     check_order(&RECEIVE, |call| {
         let kind = call.state.kind;
         let mut header = counted_header(kind, 1);
         clear_reserved(&mut header, reserved_bits(kind)[4]);
-        let length = call.packet.len();
-        call.packet.copy_from_slice(&header[..length]);
-        let received = call.state.receive(&mut call.store, &call.packet);
-        assert!(received.is_err() || received == Ok(Event::Broken));
-        received.err().unwrap_or(0)
+        receive_broken(call, &header, 0)
+    });
+}
+
+#[test]
+fn receive_a_header_with_a_wrong_crc() {
+    check_order(&RECEIVE, |call| {
+        let mut header = counted_header(call.state.kind, 1);
+        header[187] ^= 1;
+        receive_broken(call, &header, 0x04C1_1DB7)
     });
 }
 

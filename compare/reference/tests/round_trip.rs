@@ -1,8 +1,8 @@
 mod common;
 
 use common::{
-    clear_reserved, good, header, least, make_crc_right, reserved_bits, reserved_bytes, Random,
-    KINDS, PID,
+    clear_reserved, good, header, least, make_crc_right, number, reserved_bits, reserved_bytes,
+    wrong_crc, Random, KINDS, PID,
 };
 use reference::{crc32, read, write, Kind};
 use std::ops::Range;
@@ -70,9 +70,13 @@ fn every_reserved_bit_at_zero_is_refused() {
             let mut packet = whole;
             assert_eq!(packet[byte] & bit, bit, "written as 1");
             packet[byte] ^= bit;
-            assert_eq!(read(&packet, PID, kind), Err(7));
+            assert_eq!(read(&packet, PID, kind), Err(wrong_crc(&packet)));
             make_crc_right(&mut packet);
-            assert_eq!(read(&packet, PID, kind), Err(20), "byte {byte}, bit {bit}");
+            assert_eq!(
+                read(&packet, PID, kind),
+                Err(20.into()),
+                "byte {byte}, bit {bit}"
+            );
         }
     }
 }
@@ -85,7 +89,7 @@ fn all_reserved_bits_at_zero_are_refused() {
             clear_reserved(&mut packet, bit);
         }
         assert_eq!(packet[4], 0x1A);
-        assert_eq!(read(&packet, PID, kind), Err(20));
+        assert_eq!(read(&packet, PID, kind), Err(20.into()));
     }
 }
 
@@ -131,7 +135,7 @@ fn accepted_headers_are_written_again_equal() {
         for _ in 0..4000 {
             let packet = changed(&mut random, kind);
             let answer = read(&packet, PID, kind);
-            answers[usize::from(*answer.as_ref().err().unwrap_or(&0))] += 1;
+            answers[usize::from(number(answer.clone()))] += 1;
             if let Ok(setting) = answer {
                 assert_eq!(header(kind, &setting), packet);
             }
@@ -153,7 +157,7 @@ fn emergency_is_the_last_bit_of_its_byte() {
             make_crc_right(&mut packet);
             setting.emergency_indicator = last & 1;
             let expected = if last < 2 {
-                Err(20)
+                Err(20.into())
             } else {
                 Ok(setting.clone())
             };
@@ -172,12 +176,12 @@ fn one_flipped_bit_is_refused() {
             let mut spoilt = packet;
             spoilt[bit / 8] ^= 0x80 >> (bit % 8);
             let expected = match bit {
-                0..8 => Some(3),
-                11..24 => Some(4),
-                8..11 | 24..28 => Some(5),
+                0..8 => Some(3.into()),
+                11..24 => Some(4.into()),
+                8..11 | 24..28 => Some(5.into()),
                 28..32 => None,
-                35..48 => Some(6),
-                _ => Some(7),
+                35..48 => Some(6.into()),
+                _ => Some(wrong_crc(&spoilt)),
             };
             assert_eq!(read(&spoilt, PID, kind).err(), expected, "bit {bit}");
         }

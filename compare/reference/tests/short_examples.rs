@@ -112,15 +112,15 @@ fn private_data() {
 #[test]
 fn a_short_header_of_another_kind() {
     let packet = short(|_| ());
-    assert_eq!(read(&packet, PID, Kind::Plain), Err(20));
-    assert_eq!(read(&packet, PID, Kind::Extended), Err(20));
+    assert_eq!(read(&packet, PID, Kind::Plain), Err(20.into()));
+    assert_eq!(read(&packet, PID, Kind::Extended), Err(20.into()));
     let packet = short(|s| {
         s.ts_id[0] = 0x0100;
         s.private_data = [0xFF; 131];
     });
     assert_eq!((packet[8], packet[72]), (0x01, 0xFF));
-    assert_eq!(read(&packet, PID, Kind::Plain), Err(8));
-    assert_eq!(read(&packet, PID, Kind::Extended), Err(8));
+    assert_eq!(read(&packet, PID, Kind::Plain), Err(8.into()));
+    assert_eq!(read(&packet, PID, Kind::Extended), Err(8.into()));
 }
 
 /// And the other way round.
@@ -128,12 +128,12 @@ fn a_short_header_of_another_kind() {
 fn a_plain_header_read_as_a_short_one() {
     let mut setting = least(Kind::Plain);
     let packet = header(Kind::Plain, &setting);
-    assert_eq!(read(&packet, PID, Kind::Short), Err(20));
+    assert_eq!(read(&packet, PID, Kind::Short), Err(20.into()));
     setting.availability = 0x0080;
     setting.ts_id[7] = 0x0200;
     let packet = header(Kind::Plain, &setting);
     assert_eq!((packet[7], packet[37]), (0x01, 0x02));
-    assert_eq!(read(&packet, PID, Kind::Short), Err(8));
+    assert_eq!(read(&packet, PID, Kind::Short), Err(8.into()));
 }
 
 #[test]
@@ -144,6 +144,6 @@ fn reserved_bits_at_zero() {
         let mut packet = short(all_available);
         assert_eq!(packet[byte] & bit, bit);
         clear_reserved(&mut packet, (byte, bit));
-        assert_eq!(read(&packet, PID, Kind::Short), Err(20));
+        assert_eq!(read(&packet, PID, Kind::Short), Err(20.into()));
     }
 }

@@ -3,7 +3,8 @@
 use reference::{read, Event, Kind, Receiver, Setting, PACKET_BYTES};
 use std::fmt;
 
-/// How often each event came that ends a frame.
+/// How often each event came that ends a frame, and what the first wrong CRC
+/// left that dropped one: the remainder, and the number of its packet from 0.
 #[derive(Clone, Copy, Debug, Default, PartialEq, Eq)]
 pub struct Counts {
     pub ready: usize,
@@ -11,6 +12,7 @@ pub struct Counts {
     pub jump: usize,
     pub long: usize,
     pub broken: usize,
+    pub first_remainder: Option<(u32, usize)>,
 }
 
 /// As the programs say it.
@@ -22,23 +24,32 @@ impl fmt::Display for Counts {
             jump,
             long,
             broken,
+            first_remainder,
         } = self;
         write!(
             f,
             "frames ready {ready}; dropped: short {short}, jump {jump}, long {long}, broken {broken}"
-        )
+        )?;
+        if let Some((remainder, packet)) = first_remainder {
+            write!(f, " (first remainder {remainder:08x} at packet {packet})")?;
+        }
+        Ok(())
     }
 }
 
 impl Counts {
-    fn count(&mut self, event: Event) {
+    /// What a packet did, the first being 0.
+    fn count(&mut self, packet: usize, event: Event) {
         match event {
             Event::Nothing | Event::Stored | Event::Opened => (),
             Event::Ready => self.ready += 1,
             Event::Short => self.short += 1,
             Event::Jump => self.jump += 1,
             Event::Long => self.long += 1,
-            Event::Broken => self.broken += 1,
+            Event::Broken { .. } => self.broken += 1,
+        }
+        if self.first_remainder.is_none() && event.remainder() != 0 {
+            self.first_remainder = Some((event.remainder(), packet));
         }
     }
 }
@@ -114,10 +125,10 @@ pub fn receive(bytes: &[u8], pid: u16, kind: Kind) -> Received {
     let (_, mut receiver) = Receiver::start(pid, kind);
     let mut store = vec![0; kind.size().store_bytes()];
     let mut received = Received::default();
-    for packet in bytes.chunks_exact(PACKET_BYTES) {
+    for (number, packet) in bytes.chunks_exact(PACKET_BYTES).enumerate() {
         let event = receiver.receive(&mut store, packet);
         let event = event.expect("no packet is refused");
-        received.counts.count(event);
+        received.counts.count(number, event);
         if event == Event::Ready {
             received.frames.push(Frame {
                 header: received.headers[received.headers.len() - 1].clone(),

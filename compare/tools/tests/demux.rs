@@ -104,6 +104,7 @@ fn packets_without_their_first_byte() {
     for kind in KINDS {
         let counts = check_some(kind, 7, 500, Lot::Spoiled(0));
         assert!(counts.broken > 0 && counts.ready > FRAMES / 2);
+        assert_eq!(counts.first_remainder, None);
     }
 }
 
@@ -115,6 +116,73 @@ fn headers_spoiled() {
         lots.spoil_headers(&mut Generator::new(9), kind, 8);
         let counts = check(kind, &lots.arrive(&bytes));
         assert!(counts.broken > 0 && counts.long > 0 && counts.ready > FRAMES / 2);
+        assert!(counts.first_remainder.is_some());
+    }
+}
+
+/// What the last byte of a header leaves with all of its bits turned, in the
+/// published table of the CRC the last entry.
+const LAST_BYTE: u32 = 0xB1F7_40B4;
+
+/// A run of six frames whose headers have these lots, the first being 0.
+fn check_headers(kind: Kind, headers: &[(usize, Lot)]) -> Counts {
+    let Composed { bytes, .. } = compose(&mut Generator::new(18), kind, 6, PID);
+    let mut lots = Lots::whole(&bytes);
+    for &(frame, lot) in headers {
+        lots.0[frame * frame_packets(kind)] = lot;
+    }
+    check(kind, &lots.arrive(&bytes))
+}
+
+/// The remainder of the first wrong CRC is said, not that of another cause before
+/// it, nor a later one.
+#[test]
+fn the_first_wrong_crc() {
+    for kind in KINDS {
+        let n = frame_packets(kind);
+        for before in [Lot::Spoiled(0), Lot::Spoiled(5), Lot::Foreign(4, 0x80)] {
+            let wrong = [(3, Lot::Spoiled(187)), (5, Lot::Spoiled(100))];
+            let counts = check_headers(kind, &[&[(1, before)], &wrong[..]].concat());
+            assert_eq!(counts.broken, 3);
+            assert_eq!(counts.first_remainder, Some((LAST_BYTE, 3 * n)));
+        }
+        // The packets of the input are counted, and not those that were sent.
+        let wrong = [(1, Lot::Lost), (3, Lot::Spoiled(187))];
+        let counts = check_headers(kind, &wrong);
+        assert_eq!(counts.first_remainder, Some((LAST_BYTE, 3 * n - 1)));
+    }
+}
+
+/// While no frame is open a wrong CRC drops none.
+#[test]
+fn wrong_crcs_that_drop_nothing() {
+    for kind in KINDS {
+        let counts = check_headers(kind, &[(0, Lot::Spoiled(187))]);
+        assert_eq!((counts.broken, counts.first_remainder), (0, None));
+        let wrong = [(2, Lot::Spoiled(0)), (3, Lot::Spoiled(187))];
+        let counts = check_headers(kind, &wrong);
+        assert_eq!((counts.broken, counts.first_remainder), (1, None));
+    }
+}
+
+/// The digits are eight, though the first be zero: the last bit of a header leaves
+/// the polynomial. It comes behind a whole frame, or one that lacks packets.
+#[test]
+fn a_remainder_with_a_zero_in_front() {
+    for kind in KINDS {
+        let Composed { mut bytes, .. } = compose(&mut Generator::new(19), kind, 6, PID);
+        let frame = kind.size().frame_bytes();
+        bytes[3 * frame + 187] ^= 1;
+        let (front, behind) = bytes.split_at(2 * frame + PACKET_BYTES);
+        for lost in [0, 1, 10, frame_packets(kind) - 1] {
+            let arrived = [front, &behind[PACKET_BYTES * lost..]].concat();
+            let counts = check(kind, &arrived);
+            let number = 3 * frame_packets(kind) - lost;
+            assert_eq!(counts.first_remainder, Some((0x04C1_1DB7, number)));
+            let said = counts.to_string();
+            let end = format!(", broken 1 (first remainder 04c11db7 at packet {number})");
+            assert!(said.ends_with(&end), "{said}");
+        }
     }
 }
 
@@ -129,6 +197,7 @@ fn headers_with_a_reserved_bit_at_zero() {
         let counts = check(kind, &lots.arrive(&bytes));
         assert!(counts.broken > 0 && counts.ready > FRAMES / 2);
         assert_eq!((counts.short, counts.jump, counts.long), (0, 0, 0));
+        assert_eq!(counts.first_remainder, None);
     }
 }
 
@@ -192,7 +261,7 @@ fn frames_of_the_other_kind() {
         folder.write("frames", &bytes);
         let said = folder.run("demux", &format!("{}{PID} 1 frames", option(other)));
         assert!(said.out.is_empty());
-        let end = format!("(refusal {refusal})\n");
+        let end = format!("(refusal {})\n", refusal.number);
         assert!(said.err.ends_with(&end), "{}", said.err);
     }
 }

@@ -163,6 +163,28 @@ fn headers_spoiled() {
     assert!((1..30).contains(&sent.check()));
 }
 
+/// Each carrier's line has the remainder of its own first wrong CRC, counted in
+/// its own packets; one without keeps its line. All bits of the last byte turned
+/// leave the last entry of the CRC's published table.
+#[test]
+fn wrong_crcs_of_single_carriers() {
+    let wrong = [(0, 5, 7), (1, 4, 9)];
+    for shown in [&wrong[..1], &wrong[1..], &wrong] {
+        let mut sent = Sent::new(31, &PAIR, 6);
+        let mut expected = [None; 2];
+        for &(c, first, second) in shown {
+            sent.frames(c, first, 1)[0] = Lot::Spoiled(187);
+            sent.frames(c, second, 1)[0] = Lot::Spoiled(100);
+            expected[c] = Some((0xB1F7_40B4, FRAME_PACKETS * first));
+        }
+        assert!(sent.check() < 6);
+        for (bytes, expected) in sent.arrived().iter().zip(expected) {
+            let counts = receive(bytes, PID, Kind::Extended).counts;
+            assert_eq!(counts.first_remainder, expected);
+        }
+    }
+}
+
 /// Another maker's are as spoiled ones.
 #[test]
 fn headers_with_a_reserved_bit_at_zero() {

@@ -93,7 +93,7 @@ impl Lent<[u8; RECEIVER_BYTES]> {
         self.counter = (self.counter + 1) % received.headers.len();
         let header = &received.headers[self.counter];
         let answer = archive::receiver_receive(state, header, store);
-        assert_eq!(answer, (0, READY));
+        assert_eq!(answer, (0, READY, 0));
         let mut taken = 0;
         for r in streams {
             let out = black_box(&mut self.out[taken..]);

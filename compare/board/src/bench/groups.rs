@@ -17,7 +17,7 @@ pub fn spread_and_gather(name: &str, frames: &[u8]) -> [Row; 2] {
         || {
             let group = black_box(&mut archives[..]);
             let answer = archive::spread(group, black_box(&source), &asked);
-            assert_eq!(answer, (0, slots));
+            assert_eq!(answer, (0, slots, 0));
         },
         || {
             let group = black_box(&mut ours[..]);
@@ -32,7 +32,7 @@ pub fn spread_and_gather(name: &str, frames: &[u8]) -> [Row; 2] {
         || {
             let out = black_box(&mut out[..]);
             let answer = archive::gather(black_box(&archives), out, &asked);
-            assert_eq!(answer, (0, slots));
+            assert_eq!(answer, (0, slots, 0));
         },
         || {
             let out = black_box(&mut our_out[..]);

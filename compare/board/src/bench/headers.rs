@@ -52,8 +52,8 @@ pub fn read() -> Row {
         "header read",
         || {
             let setting = black_box(&mut setting);
-            let refusal = archive::header_read(black_box(&packet), PID, plain, setting);
-            assert_eq!(refusal, 0);
+            let answer = archive::header_read(black_box(&packet), PID, plain, setting);
+            assert_eq!(answer, (0, 0));
         },
         || {
             let setting = reference::read(black_box(&packet), PID, Kind::Plain);

@@ -89,10 +89,10 @@ fn receiver(state: &[u8]) -> Result<Receiver, u8> {
     receiver_of(state).ok_or(17)
 }
 
-pub fn receiver_receive(state: &mut [u8], packet: &[u8], store: &mut [u8]) -> (u8, u8) {
+pub fn receiver_receive(state: &mut [u8], packet: &[u8], store: &mut [u8]) -> (u8, u8, u32) {
     match receive(state, packet, store) {
-        Ok(event) => (0, event_number(event)),
-        Err(refusal) => (refusal, 0),
+        Ok(event) => (0, event_number(event), event.remainder()),
+        Err(refusal) => (refusal, 0, 0),
     }
 }
 
@@ -114,7 +114,7 @@ fn event_number(event: Event) -> u8 {
         Event::Short => 4,
         Event::Jump => 5,
         Event::Long => 6,
-        Event::Broken => 7,
+        Event::Broken { .. } => 7,
     }
 }
 

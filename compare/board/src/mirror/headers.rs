@@ -3,8 +3,8 @@
 use super::{fixed, fixed_length, known_kind, refusal, unless, Checked};
 use crate::coding::{setting_bytes, setting_of, SETTING_BYTES};
 use reference::{
-    content, crc32, fields_fit, fits_a_slot, header_pid, Kind, Setting, PACKET_BYTES, SLOTS,
-    STREAMS,
+    content, crc32, fields_fit, fits_a_slot, header_pid, Kind, Refusal, Setting, PACKET_BYTES,
+    SLOTS, STREAMS,
 };
 
 pub fn crc(bytes: &[u8]) -> u32 {
@@ -83,11 +83,14 @@ fn write(packet: &mut [u8], pid: u16, kind: u8, setting: &[u8]) -> Checked {
     }
 }
 
-pub fn header_read(packet: &[u8], pid: u16, kind: u8, setting: &mut [u8]) -> u8 {
-    refusal(read(packet, pid, kind, setting))
+pub fn header_read(packet: &[u8], pid: u16, kind: u8, setting: &mut [u8]) -> (u8, u32) {
+    match read(packet, pid, kind, setting) {
+        Ok(()) => (0, 0),
+        Err(Refusal { number, remainder }) => (number, remainder),
+    }
 }
 
-fn read(packet: &[u8], pid: u16, kind: u8, setting: &mut [u8]) -> Checked {
+fn read(packet: &[u8], pid: u16, kind: u8, setting: &mut [u8]) -> Result<(), Refusal> {
     fixed_length(packet, PACKET_BYTES)?;
     fixed_length(setting, SETTING_BYTES)?;
     header_pid(pid)?;

@@ -13,7 +13,7 @@ pub use headers::{
     count_available, crc, frame_position, header_read, header_write, is_available, pid_allowed,
     place_refusal, relative_number, setting_blank, setting_rules, setting_widths, slot,
 };
-use reference::{Asked, Kind};
+use reference::{Asked, Kind, Refusal};
 
 type Checked = Result<(), u8>;
 
@@ -49,17 +49,24 @@ fn counted(answer: Result<usize, u8>) -> (u8, usize) {
     }
 }
 
-pub fn read_headers(group: &[u8], asked: &Asked) -> (u8, u8, usize) {
+pub fn read_headers(group: &[u8], asked: &Asked) -> (u8, u8, usize, u32) {
     match reference::read_headers(group, asked) {
-        Ok(carried) => (0, carried.is_carried.into(), carried.packets),
-        Err(refusal) => (refusal, 0, 0),
+        Ok(carried) => (0, carried.is_carried.into(), carried.packets, 0),
+        Err(Refusal { number, remainder }) => (number, 0, 0, remainder),
     }
 }
 
-pub fn spread(group: &mut [u8], stream: &[u8], asked: &Asked) -> (u8, usize) {
-    counted(reference::spread(group, asked, stream))
+pub fn spread(group: &mut [u8], stream: &[u8], asked: &Asked) -> (u8, usize, u32) {
+    bonded(reference::spread(group, asked, stream))
 }
 
-pub fn gather(group: &[u8], out: &mut [u8], asked: &Asked) -> (u8, usize) {
-    counted(reference::gather(group, asked, out))
+pub fn gather(group: &[u8], out: &mut [u8], asked: &Asked) -> (u8, usize, u32) {
+    bonded(reference::gather(group, asked, out))
+}
+
+fn bonded(answer: Result<usize, Refusal>) -> (u8, usize, u32) {
+    match answer {
+        Ok(packets) => (0, packets, 0),
+        Err(Refusal { number, remainder }) => (number, 0, remainder),
+    }
 }

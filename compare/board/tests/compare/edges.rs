@@ -78,7 +78,7 @@ fn emergency(judge: &mut Judge, random: &mut Random, kind: Kind) {
             });
             let before = random.bytes(SETTING_BYTES);
             let mut read = Lent::new(&before);
-            let refusal = judge.header_read(&mut packet, pid, number, &mut read);
+            let (refusal, _) = judge.header_read(&mut packet, pid, number, &mut read);
             let (expected, bytes) = match reserved {
                 0 => (20, &before[..]),
                 _ => (0, setting.bytes()),

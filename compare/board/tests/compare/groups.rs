@@ -21,7 +21,7 @@ struct Call {
 pub fn round(judge: &mut Judge, random: &mut Random) {
     let Group { bytes, asked } = group(random);
     let mut lent = Lent::new(&bytes);
-    let (refusal, _, packets) = judge.read_headers(&mut lent, &asked);
+    let (refusal, _, packets, _) = judge.read_headers(&mut lent, &asked);
     assert_eq!(refusal, 0, "nothing is wrong with the group");
     let stream = stream(random, asked.pid, packets);
     let mut call = Call {

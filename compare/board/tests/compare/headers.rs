@@ -44,8 +44,8 @@ fn check(judge: &mut Judge, packet: &mut Lent, pid: u16, kind: u8, setting: &Set
 
 fn read_back(judge: &mut Judge, packet: &mut Lent, pid: u16, kind: Kind, setting: &Setting) {
     let mut read = Lent::new(&[0xA5; SETTING_BYTES]);
-    let refusal = judge.header_read(packet, pid, kind_byte(kind), &mut read);
-    assert_eq!(refusal, 0, "a written header is read");
+    let answer = judge.header_read(packet, pid, kind_byte(kind), &mut read);
+    assert_eq!(answer, (0, 0), "a written header is read");
     assert_eq!(read.bytes(), lent_setting(setting).bytes());
 }
 
@@ -67,14 +67,20 @@ fn damaged(judge: &mut Judge, random: &mut Random, packet: &[u8], pid: u16, kind
 
 /// The answer of the reader. Written again, an accepted header has the bytes
 /// that it had.
-pub fn read(judge: &mut Judge, random: &mut Random, packet: &mut Lent, pid: u16, kind: u8) -> u8 {
+pub fn read(
+    judge: &mut Judge,
+    random: &mut Random,
+    packet: &mut Lent,
+    pid: u16,
+    kind: u8,
+) -> (u8, u32) {
     let mut setting = Lent::new(&random.bytes(SETTING_BYTES));
-    let refusal = judge.header_read(packet, pid, kind, &mut setting);
-    if refusal == 0 {
+    let answer = judge.header_read(packet, pid, kind, &mut setting);
+    if answer.0 == 0 {
         let mut again = Lent::new(&random.bytes(PACKET_BYTES));
         let refusal = judge.header_write(&mut again, pid, kind, &mut setting);
         assert_eq!(refusal, 0, "what was read is written");
         assert_eq!(again.bytes(), packet.bytes(), "written again, it differs");
     }
-    refusal
+    answer
 }

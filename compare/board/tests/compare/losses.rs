@@ -5,13 +5,13 @@
 use crate::draw::packets::frames;
 use crate::draw::reserved::clear_one_alone;
 use crate::draw::{kind, pid};
+use crate::events::READY;
 use board::coding::{kind_byte, RECEIVER_BYTES};
 use board::judge::Judge;
 use board::lent::Lent;
 use board::random::Random;
 use reference::{read, Kind, PACKET_BYTES};
 
-const READY: u8 = 3;
 const FRAMES: usize = 40;
 /// The most headers in a row that may be lost or spoiled.
 const MOST_IN_A_ROW: usize = 15;
@@ -121,7 +121,7 @@ fn receive(
     let mut streams = vec![Vec::new(); 1 + size.streams];
     for packet in arrived.iter().flat_map(|frame| &frame.packets) {
         let mut packet = Lent::new(packet);
-        let (_, event) = judge.receiver_receive(&mut state, &mut packet, &mut store);
+        let (_, event, _) = judge.receiver_receive(&mut state, &mut packet, &mut store);
         if event != READY {
             continue;
         }

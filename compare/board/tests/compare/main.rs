@@ -5,12 +5,14 @@ mod any_bytes;
 mod composers;
 mod draw;
 mod edges;
+mod events;
 mod every_byte;
 mod groups;
 mod headers;
 mod losses;
 mod numbers;
 mod receivers;
+mod remainders;
 mod reserved_bits;
 
 use board::judge::{events, table, unreached, Judge, Round};
@@ -29,7 +31,7 @@ struct Family {
     run: fn(&mut Judge, &mut Random),
 }
 
-const FAMILIES: [Family; 10] = [
+const FAMILIES: [Family; 11] = [
     family("numbers", 1, numbers::round),
     family("edges", 4, edges::round),
     family("headers", 40_000, headers::round),
@@ -40,6 +42,7 @@ const FAMILIES: [Family; 10] = [
     family("every byte", 2, every_byte::round),
     family("losses", 60, losses::round),
     family("reserved bits", 1, reserved_bits::round),
+    family("remainders", 1, remainders::round),
 ];
 
 const fn family(name: &'static str, rounds: u64, run: fn(&mut Judge, &mut Random)) -> Family {

@@ -5,13 +5,13 @@ use crate::draw::faults::{change_bytes, damage};
 use crate::draw::packets::{frames, make_unfit, ordinary};
 use crate::draw::reserved::clear_one_alone;
 use crate::draw::{kind, length, near_pid, number, pid, resized};
+use crate::events::READY;
 use board::coding::{kind_byte, RECEIVER_BYTES};
 use board::judge::Judge;
 use board::lent::Lent;
 use board::random::Random;
 use reference::{Kind, PACKET_BYTES};
 
-const READY: u8 = 3;
 const FRAMES: usize = 24;
 
 type Packets = Vec<Vec<u8>>;
@@ -75,7 +75,7 @@ impl Run {
             self.odd_calls(judge, random, packet);
         }
         let mut packet = Lent::new(packet);
-        let (refusal, event) =
+        let (refusal, event, _) =
             judge.receiver_receive(&mut self.state, &mut packet, &mut self.store);
         assert_eq!(refusal, 0, "a receiver takes any packet");
         if event == READY {

@@ -4,7 +4,7 @@
 use super::packets::{header, Packet};
 use crate::generator::Generator;
 use crate::make_crc_right;
-use reference::{Kind, Setting};
+use reference::{crc32, Kind, Setting};
 
 /// The longest list below; the shorter ones begin again.
 pub const VARIETIES: usize = 13;
@@ -82,6 +82,22 @@ pub fn damaged(mut packet: Packet, refusals: &[u8], variety: usize) -> Packet {
             _ => (),
         }
     }
+    packet
+}
+
+/// The polynomial of the CRC, without its x^32.
+pub const POLYNOMIAL: u32 = 0x04C1_1DB7;
+
+/// The packet with a CRC that leaves this in the register. Its 32 bits are turned
+/// back out of the register, the last one first.
+pub fn leaving(mut packet: Packet, remainder: u32) -> Packet {
+    let mut register = remainder;
+    for _ in 0..32 {
+        let outgoing = register & 1;
+        register = (register ^ (outgoing * POLYNOMIAL)) >> 1 | outgoing << 31;
+    }
+    let crc = crc32(&packet[4..184]) ^ register;
+    packet[184..].copy_from_slice(&crc.to_be_bytes());
     packet
 }
 

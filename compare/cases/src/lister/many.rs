@@ -1,11 +1,11 @@
 //! The long input: good headers of all sorts among ordinary packets, each
 //! damage alone, each two together, and what looks like damage but is none.
 
-use super::damage::{base, damaged, RESERVED_BITS, VARIETIES};
+use super::damage::{base, damaged, leaving, POLYNOMIAL, RESERVED_BITS, VARIETIES};
 use super::packets::{good, header, null, ordinary, Packet};
 use crate::generator::Generator;
 use crate::make_crc_right;
-use reference::{crc32, read, Kind, Setting, LISTER_PID};
+use reference::{crc32, read, Kind, Refusal, Setting, LISTER_PID};
 
 const GOOD_HEADERS: usize = 96;
 /// What the lister can refuse a packet for, in the reader's order.
@@ -19,9 +19,18 @@ struct Input {
 impl Input {
     /// The packet is there for one answer, which the reader must give.
     fn push(&mut self, packet: Packet, answer: u8) {
-        let found = read(&packet, LISTER_PID, Kind::Plain).err().unwrap_or(0);
-        assert_eq!(found, answer, "packet {}", self.bytes.len() / 188);
+        let found = read(&packet, LISTER_PID, Kind::Plain).err();
+        let number = found.map_or(0, |refusal| refusal.number);
+        assert_eq!(number, answer, "packet {}", self.bytes.len() / 188);
         self.bytes.extend(packet);
+    }
+
+    /// The same for a 7 with this remainder.
+    fn push_leaving(&mut self, packet: Packet, remainder: u32) {
+        let found = read(&packet, LISTER_PID, Kind::Plain);
+        let number = 7;
+        assert_eq!(found, Err(Refusal { number, remainder }));
+        self.push(packet, number);
     }
 
     fn push_ordinary(&mut self) {
@@ -49,6 +58,8 @@ pub fn input() -> Vec<u8> {
     extended_headers(&mut input);
     dialects(&mut input);
     zeros_in_private_data(&mut input);
+    single_crc_bits(&mut input);
+    remainders(&mut input);
     // A good header but for its last byte.
     let cut = good(&mut input.generator, 15);
     input.bytes.extend(&cut[..187]);
@@ -168,4 +179,29 @@ fn zeros_in_private_data(input: &mut Input) {
     packet[99..184].fill(0);
     make_crc_right(&mut packet);
     input.push(packet, 0);
+}
+
+/// One bit of the CRC, from the last to the first: the last one leaves the
+/// polynomial, and each other what the one behind it does, shifted once.
+fn single_crc_bits(input: &mut Input) {
+    let packet = base(&mut input.generator);
+    let mut remainder = POLYNOMIAL;
+    for bit in 0..32 {
+        let mut turned = packet;
+        turned[187 - bit / 8] ^= 1 << (bit % 8);
+        input.push_leaving(turned, remainder);
+        let outgoing = remainder >> 31;
+        remainder = (remainder << 1) ^ (outgoing * POLYNOMIAL);
+    }
+}
+
+/// Every digit at each of its eight places, and one zero to seven in front.
+fn remainders(input: &mut Input) {
+    let rising =
+        |first: u32| (first..first + 8).fold(0, |digits, digit| (digits << 4) | (digit % 16));
+    let zeros = |count: u32| 0xFEDC_BA98 >> (4 * count);
+    for remainder in (0..16).map(rising).chain((1..8).map(zeros)) {
+        let packet = leaving(base(&mut input.generator), remainder);
+        input.push_leaving(packet, remainder);
+    }
 }

@@ -5,11 +5,12 @@ use super::places::Bonded;
 use super::Asked;
 use crate::layout::{FRAME_BYTES, PACKET_BYTES, STREAMS};
 use crate::read::read;
+use crate::refusal::Refusal;
 use crate::rules::unless;
 use crate::setting::{Kind, Setting};
 
 /// 3 to 7, 20, 8 to 11 and 14: the stream's slots in all frames.
-pub fn bonded(group: &[u8], asked: &Asked) -> Result<Bonded, u8> {
+pub fn bonded(group: &[u8], asked: &Asked) -> Result<Bonded, Refusal> {
     let mut bonded = Bonded::NONE;
     let mut turn = Turn::first(asked.carriers);
     for (number, frame) in group.chunks_exact(FRAME_BYTES).enumerate() {

@@ -7,6 +7,7 @@ mod places;
 
 use crate::layout::{FRAME_BYTES, LAST_CARRIER, PACKET_BYTES};
 use crate::packet::fits_a_slot;
+use crate::refusal::Refusal;
 use crate::rules::{header_pid, unless, Checked};
 use headers::bonded;
 use places::Bonded;
@@ -30,7 +31,7 @@ pub struct Carried {
 }
 
 /// Reads the headers alone.
-pub fn read_headers(group: &[u8], asked: &Asked) -> Result<Carried, u8> {
+pub fn read_headers(group: &[u8], asked: &Asked) -> Result<Carried, Refusal> {
     whole_frames(group.len())?;
     let bonded = read_group(group, asked)?;
     Ok(Carried {
@@ -40,7 +41,7 @@ pub fn read_headers(group: &[u8], asked: &Asked) -> Result<Carried, u8> {
 }
 
 /// Writes the stream into the bonded slots of the group, in their order.
-pub fn spread(group: &mut [u8], asked: &Asked, stream: &[u8]) -> Result<usize, u8> {
+pub fn spread(group: &mut [u8], asked: &Asked, stream: &[u8]) -> Result<usize, Refusal> {
     whole_frames(group.len())?;
     let (packets, cut) = stream.as_chunks::<PACKET_BYTES>();
     unless(cut.is_empty(), 1)?;
@@ -58,7 +59,7 @@ pub fn spread(group: &mut [u8], asked: &Asked, stream: &[u8]) -> Result<usize, u
 }
 
 /// Copies the bonded slots, in their order, to the front of the buffer.
-pub fn gather(group: &[u8], asked: &Asked, buffer: &mut [u8]) -> Result<usize, u8> {
+pub fn gather(group: &[u8], asked: &Asked, buffer: &mut [u8]) -> Result<usize, Refusal> {
     whole_frames(group.len())?;
     let bonded = read_carried(group, asked)?;
     let (packets, _) = buffer.as_chunks_mut::<PACKET_BYTES>();
@@ -78,14 +79,14 @@ fn whole_frames(length: usize) -> Checked {
 }
 
 /// The bonded slots, behind 2, 17 and all that the headers show.
-fn read_group(group: &[u8], asked: &Asked) -> Result<Bonded, u8> {
+fn read_group(group: &[u8], asked: &Asked) -> Result<Bonded, Refusal> {
     header_pid(asked.pid)?;
     unless((1..=LAST_CARRIER).contains(&asked.carriers), 17)?;
     bonded(group, asked)
 }
 
 /// The same, and behind 13.
-fn read_carried(group: &[u8], asked: &Asked) -> Result<Bonded, u8> {
+fn read_carried(group: &[u8], asked: &Asked) -> Result<Bonded, Refusal> {
     let bonded = read_group(group, asked)?;
     unless(bonded.is_carried, 13)?;
     Ok(bonded)

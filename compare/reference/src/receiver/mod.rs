@@ -6,6 +6,7 @@ mod state;
 use crate::layout::{LAST_COUNTER, PACKET_BYTES};
 use crate::packet::{fits_a_slot, place, Places};
 use crate::read::read;
+use crate::refusal::Refusal;
 use crate::rules::{fixed_length, stream_number, unless, Checked};
 use crate::setting::Setting;
 pub use state::{Receiver, Standing};
@@ -20,7 +21,21 @@ pub enum Event {
     Short,
     Jump,
     Long,
-    Broken,
+    /// Beside it stands the remainder of a header that was refused by 7, and 0
+    /// for any other cause.
+    Broken {
+        remainder: u32,
+    },
+}
+
+impl Event {
+    /// 0 beside every event but one.
+    pub fn remainder(self) -> u32 {
+        match self {
+            Event::Broken { remainder } => remainder,
+            _ => 0,
+        }
+    }
 }
 
 impl Receiver {
@@ -34,7 +49,7 @@ impl Receiver {
         }
         Ok(match read(packet, self.pid, self.kind) {
             Ok(header) => self.take_header(&header),
-            Err(_) => self.drop_frame(Event::Broken),
+            Err(Refusal { remainder, .. }) => self.drop_frame(Event::Broken { remainder }),
         })
     }
 

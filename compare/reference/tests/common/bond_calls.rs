@@ -2,8 +2,8 @@
 
 use super::frames::stream;
 use super::groups::{asked, carry, group, settings};
-use super::{least, Random};
-use reference::{gather, read_headers, spread, Asked, Kind, Setting, FRAME_BYTES};
+use super::{least, number, Random};
+use reference::{gather, read_headers, spread, Asked, Kind, Refusal, Setting, FRAME_BYTES};
 
 /// All that the calls are given.
 #[derive(Clone, PartialEq)]
@@ -47,17 +47,21 @@ impl Call {
         bytes.try_into().unwrap()
     }
 
-    pub fn spread(&mut self) -> Result<usize, u8> {
+    pub fn spread(&mut self) -> Result<usize, Refusal> {
         spread(&mut self.group, &self.asked, &self.stream)
     }
 
-    pub fn gather(&mut self) -> Result<usize, u8> {
+    pub fn gather(&mut self) -> Result<usize, Refusal> {
         gather(&self.group, &self.asked, &mut self.buffer)
     }
 
-    /// The refusal of read_headers, which is lent nothing to write to.
+    /// How many packets the headers speak of. Nothing is lent to write to.
+    pub fn read_headers(&self) -> Result<usize, Refusal> {
+        read_headers(&self.group, &self.asked).map(|carried| carried.packets)
+    }
+
     pub fn headers_refusal(&self) -> u8 {
-        read_headers(&self.group, &self.asked).err().unwrap_or(0)
+        number(self.read_headers())
     }
 
     /// The refusals of both. Without packets everything stays as it was.
@@ -66,7 +70,13 @@ impl Call {
             let mut call = self.clone();
             let answer = make(&mut call);
             assert_eq!(call == *self, answer.unwrap_or(0) == 0);
-            answer.err().unwrap_or(0)
+            number(answer)
         })
+    }
+
+    /// What all three answer.
+    pub fn answers(&self) -> [Result<usize, Refusal>; 3] {
+        let mut call = self.clone();
+        [call.spread(), call.gather(), call.read_headers()]
     }
 }

@@ -2,10 +2,11 @@
 #![allow(dead_code)]
 
 pub mod bond_calls;
+pub mod faults;
 pub mod frames;
 pub mod groups;
 
-use reference::{Kind, Setting};
+use reference::{Kind, Refusal, Setting};
 
 pub const KINDS: [Kind; 3] = [Kind::Plain, Kind::Extended, Kind::Short];
 pub const PID: u16 = 0x1FF0;
@@ -123,6 +124,34 @@ pub fn reserved_bits(kind: Kind) -> Vec<(usize, u8)> {
 pub fn clear_reserved(packet: &mut [u8; 188], (byte, bit): (usize, u8)) {
     packet[byte] &= !bit;
     make_crc_right(packet);
+}
+
+/// The CRC register bit by bit, as the polynomial says it.
+pub fn by_bits(bytes: &[u8]) -> u32 {
+    let mut register = u32::MAX;
+    for byte in bytes {
+        for bit in (0..8).rev() {
+            let outgoing = register >> 31 != u32::from(byte >> bit & 1);
+            register <<= 1;
+            if outgoing {
+                register ^= 0x04C1_1DB7;
+            }
+        }
+    }
+    register
+}
+
+/// A refusal by 7, as the words say it: with what bytes 4 to 187 leave.
+pub fn wrong_crc(packet: &[u8]) -> Refusal {
+    Refusal {
+        number: 7,
+        remainder: by_bits(&packet[4..188]),
+    }
+}
+
+/// The number that a call answers, 0 where it accepts.
+pub fn number<T>(answer: Result<T, Refusal>) -> u8 {
+    answer.err().map_or(0, |refusal| refusal.number)
 }
 
 pub fn make_crc_right(packet: &mut [u8; 188]) {

@@ -6,6 +6,25 @@ use board::random::Random;
 use reference::{crc32, Kind, Setting, SLOTS, STREAMS};
 use std::ops::Range;
 
+/// A byte of a header, and a bit in it.
+pub type Bit = (usize, u8);
+
+/// What a reader looks for, in its order; the last in extended headers alone.
+const OF_A_READER: [u8; 13] = [1, 2, 17, 3, 4, 5, 6, 7, 20, 8, 9, 10, 11];
+
+/// What a group is looked at for: before its headers, in each, and behind them.
+pub const EARLY: [u8; 3] = [1, 2, 17];
+pub const OF_A_HEADER: [u8; 11] = [3, 4, 5, 6, 7, 20, 8, 9, 10, 11, 14];
+pub const LATE: [u8; 3] = [13, 15, 12];
+
+/// What a header of the kind can be refused for, in the reader's order.
+pub fn of_a_reader(kind: Kind) -> &'static [u8] {
+    match kind {
+        Kind::Plain | Kind::Short => &OF_A_READER[..12],
+        Kind::Extended => &OF_A_READER,
+    }
+}
+
 /// How many sorts of faults there are in a setting.
 const SORTS: usize = 18;
 
@@ -125,7 +144,7 @@ pub fn damage(random: &mut Random, kind: Kind, packet: &mut [u8]) {
 /// Breaks rules in the header of a breakable setting, by their refusals. A 20
 /// is this reserved bit at zero, and a 14 another number of carriers than 1.
 /// The CRC is wrong for a 7 alone.
-pub fn break_rules(packet: &mut [u8], kind: Kind, refusals: &[u8], (byte, bit): (usize, u8)) {
+pub fn break_rules(packet: &mut [u8], kind: Kind, refusals: &[u8], (byte, bit): Bit) {
     let (pairs, numbers) = (pairs(kind), slot_numbers(kind));
     for refusal in refusals {
         match refusal {

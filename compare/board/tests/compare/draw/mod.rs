@@ -1,5 +1,6 @@
 //! What the families draw alike: settings, packets, lengths and numbers.
 
+pub mod bonded_calls;
 pub mod faults;
 pub mod groups;
 pub mod packets;
