@@ -170,8 +170,9 @@ fn write_last(fds: &[i32], group: &[u8], frames: &[u8], n: usize)
 // Spreads a stream's packets over the group.
 fn spread(group: &mut [u8], stream: &[u8], bond: Bond) -> bool {
     let moved = bond::spread(group, stream, bond);
-    if moved.refusal != 0 {
-        says::refusal(b"input", moved.refusal);
+    let refusal = moved.refusal;
+    if refusal.number != 0 {
+        says::refusal(b"input", refusal);
         return false;
     }
     true

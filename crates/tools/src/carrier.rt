@@ -10,6 +10,7 @@ use counters::SLOTS;
 use packet::FRAME_BYTES;
 use packet::PACKET_BYTES;
 use receiver::RECEIVER_BYTES;
+use receiver::Told;
 use receiver::events;
 use setting::Kind;
 use setting::limits;
@@ -187,17 +188,19 @@ fn keep_ready(c: Carrier, event: u8, want: u64, part: &mut [u8], frame: &[u8]) -
     c
 }
 
-fn receive(frame: &mut [u8], part: &mut [u8], packet: &[u8]) -> u8
+fn receive(frame: &mut [u8], part: &mut [u8], packet: &[u8]) -> Told
     requires { ⌜ (length (now frame) ≡ frameLength lastSlot) × (length (now part) ≡ partLength) ⌝ }
 {
     let mut event = events::NOTHING;
+    let mut remainder = 0u32;
     receiver_receive::niranbok_receiver_receive(
         &mut part[0..BLOCK_AT],
         packet,
         &mut frame[PACKET_BYTES..],
         &mut event,
+        &mut remainder,
     );
-    event
+    Told { event, remainder }
 }
 
 // Keeps why a packet that opened no frame is no header, if it is the first with the header PID.
@@ -220,13 +223,32 @@ fn hold(c: Carrier, event: u8, packet: &[u8], frame: &mut [u8], pid: u16) -> Car
     without_header(c, packet, pid)
 }
 
-fn counted(c: Carrier, event: u8) -> Carrier {
+fn counted(c: Carrier, told: Told) -> Carrier {
     let before = c.tally;
     let mut next = c;
-    let after = tally::with_event(before, event);
+    let after = tally::with_event(
+        tally::with_remainder(before, told.remainder),
+        told.event,
+    );
     next.tally = after;
     next.taken = std::num::wrapping_add_usize(c.taken, 1);
     next
+}
+
+// The carrier after a packet that was counted, by what it did.
+fn after_event(
+    c: Carrier,
+    event: u8,
+    packet: &[u8],
+    want: u64,
+    pid: u16,
+    frame: &mut [u8],
+    part: &mut [u8],
+) -> Carrier
+    requires { ⌜ (length (now frame) ≡ frameLength lastSlot) × (length (now part) ≡ partLength) ⌝ }
+{
+    let next = keep_ready(c, event, want, part, frame);
+    hold(next, event, packet, frame, pid)
 }
 
 // Takes one packet.
@@ -240,9 +262,16 @@ fn take(
 ) -> Carrier
     requires { ⌜ (length (now frame) ≡ frameLength lastSlot) × (length (now part) ≡ partLength) ⌝ }
 {
-    let event = receive(frame, part, packet);
-    let one = keep_ready(counted(c, event), event, want, part, frame);
-    hold(one, event, packet, frame, pid)
+    let told = receive(frame, part, packet);
+    after_event(
+        counted(c, told),
+        told.event,
+        packet,
+        want,
+        pid,
+        frame,
+        part,
+    )
 }
 
 // Reads the next block.

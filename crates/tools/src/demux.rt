@@ -223,8 +223,9 @@ fn after_event(link: Link, event: u8, state: &[u8], store: &[u8]) -> Link {
 // Takes one packet.
 fn take(link: Link, packet: &[u8], state: &mut [u8], store: &mut [u8], asked: Asked) -> Link {
     let mut event = events::NOTHING;
-    receiver_receive::niranbok_receiver_receive(state, packet, store, &mut event);
-    let before = link.tally;
+    let mut remainder = 0u32;
+    receiver_receive::niranbok_receiver_receive(state, packet, store, &mut event, &mut remainder);
+    let before = tally::with_remainder(link.tally, remainder);
     let number = link.number;
     let kind = asked.kind;
     let counted = Link {

@@ -11,6 +11,7 @@ use crate::carriers::SUPER_BYTES;
 use crate::says;
 use bond::Moved;
 use bond_group::Bond;
+use header_check::Refusal;
 use libc::STDOUT_FILENO;
 use packet::FRAME_BYTES;
 use packet::PACKET_BYTES;
@@ -142,7 +143,7 @@ fn with_drop(count: Count) -> Count {
 }
 
 // The first refusal is reported. All are counted.
-fn with_refusal(count: Count, refusal: u8) -> Count {
+fn with_refusal(count: Count, refusal: Refusal) -> Count {
     let mut next = count;
     if !count.said {
         says::refusal(b"super frame", refusal);
@@ -180,8 +181,9 @@ fn gather(frames: &[u8], bytes: usize, parts: &mut [u8], bond: Bond, count: Coun
     requires { ⌜ bytes ≤ groupLength ⌝ }
 {
     let moved = gather_group(frames, bytes, parts, bond);
-    if moved.refusal != 0 {
-        return with_refusal(count, moved.refusal);
+    let refusal = moved.refusal;
+    if refusal.number != 0 {
+        return with_refusal(count, refusal);
     }
     if !write(parts, moved.packets) {
         let mut last = count;

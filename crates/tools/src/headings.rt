@@ -9,6 +9,7 @@ use bond_group::Bond;
 use counters::FramePosition;
 use counters::RelativeNumber;
 use counters::SLOTS;
+use header_check::Refusal;
 use packet::FRAME_BYTES;
 use packet::PACKET_BYTES;
 use setting::Kind;
@@ -87,7 +88,7 @@ fn write_header(
     let bond = b.bond;
     let refusal = header_codec::write(packet, bond.pid, Kind::Extended, &setting);
     if refusal != 0 {
-        says::refusal(b"header", refusal);
+        says::refusal(b"header", Refusal::bare(refusal));
         return false;
     }
     true

@@ -13,6 +13,7 @@ use counters::RelativeNumber;
 use counters::SLOTS;
 use counters::STREAMS;
 use counters::Slot;
+use header_check::Refusal;
 use libc::STDOUT_FILENO;
 use packet::FRAME_BYTES;
 use packet::PACKET_BYTES;
@@ -219,7 +220,7 @@ fn put_packets(
     composer_put::put(state, frame, packets, r, &mut refusal, &mut placed);
     if refusal != 0 {
         says::about(b"stream ", r.0 as u64);
-        says::refusal(b"input", refusal);
+        says::refusal(b"input", Refusal::bare(refusal));
     }
     Filled {
         refusal,
@@ -285,7 +286,7 @@ fn close_frame(state: &mut [u8], frame: &mut [u8], packets: usize) -> bool
 {
     let refusal = composer_close::niranbok_composer_close(state, frame);
     if refusal != 0 {
-        says::refusal(b"close", refusal);
+        says::refusal(b"close", Refusal::bare(refusal));
         return false;
     }
     write_frame(frame, packets)
@@ -322,7 +323,7 @@ fn make_frame(
 {
     let refusal = composer_begin::niranbok_composer_begin(state, frame, setting);
     if refusal != 0 {
-        says::refusal(b"streams", refusal);
+        says::refusal(b"streams", Refusal::bare(refusal));
         return false;
     }
     finish_frame(state, frame, fds, slots, streams)

@@ -1,4 +1,5 @@
 // What the programs write to standard error, line by line.
+use header_check::Refusal;
 use libc::STDERR_FILENO;
 
 pub(crate) fn text(words: &[u8]) {
@@ -7,6 +8,11 @@ pub(crate) fn text(words: &[u8]) {
 
 pub(crate) fn number(n: u64) {
     io::print_decimal(STDERR_FILENO, n);
+}
+
+// A remainder: eight digits, so that two sites can compare it.
+pub(crate) fn hex(n: u32) {
+    io::print_hex(STDERR_FILENO, n as u64, 8);
 }
 
 // Ends a line with the refusal's number.
@@ -55,10 +61,14 @@ fn meaning(refusal: u8) {
     }
 }
 
-// Says that a call was refused, and why.
-pub(crate) fn refusal(what: &[u8], refusal: u8) {
+// Says that a call was refused, and why; of a wrong CRC the remainder too.
+pub(crate) fn refusal(what: &[u8], refusal: Refusal) {
     text(what);
     text(b": ");
-    meaning(refusal);
-    refused(refusal);
+    meaning(refusal.number);
+    if refusal.remainder != 0 {
+        text(b", remainder ");
+        hex(refusal.remainder);
+    }
+    refused(refusal.number);
 }

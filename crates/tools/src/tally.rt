@@ -1,5 +1,6 @@
 // Counts what happened to the frames of an input, and prints the summary.
 use crate::says;
+use header_check::Refusal;
 use receiver::events;
 use setting::Kind;
 
@@ -10,13 +11,17 @@ pub(crate) struct Tally {
     pub(crate) went: u64,
     pub(crate) headers: u64,
     // While no header came: why the first packet with the header PID is none. 0 if there is no such packet.
-    pub(crate) refusal: u8,
+    pub(crate) refusal: Refusal,
     pub(crate) ready: u64,
     // Frames dropped, by the reason.
     pub(crate) short: u64,
     pub(crate) jump: u64,
     pub(crate) long: u64,
     pub(crate) broken: u64,
+    // Of the first header with a wrong CRC that dropped a frame: the remainder, and the packet's number in the input, from 0. Without such a
+    // header the remainder is 0.
+    pub(crate) remainder: u32,
+    pub(crate) remainder_at: u64,
 }
 
 pub(crate) fn none() -> Tally {
@@ -24,12 +29,14 @@ pub(crate) fn none() -> Tally {
         came: 0,
         went: 0,
         headers: 0,
-        refusal: 0,
+        refusal: Refusal::bare(0),
         ready: 0,
         short: 0,
         jump: 0,
         long: 0,
         broken: 0,
+        remainder: 0,
+        remainder_at: 0,
     }
 }
 
@@ -56,6 +63,17 @@ fn say_progress(ready: u64) {
         says::number(ready);
         says::text(b" frames ready\n");
     }
+}
+
+// Keeps the remainder of the packet that comes next, if it is the first that has one.
+pub(crate) fn with_remainder(t: Tally, remainder: u32) -> Tally {
+    if t.remainder != 0 {
+        return t;
+    }
+    let mut next = t;
+    next.remainder = remainder;
+    next.remainder_at = t.came;
+    next
 }
 
 // Counts one more packet, and what it did.
@@ -95,12 +113,13 @@ pub(crate) fn with_refusal(t: Tally, packet: &[u8], pid: u16, kind: Kind) -> Tal
     if t.headers != 0 {
         return t;
     }
-    if t.refusal != 0 {
+    let before = t.refusal;
+    if before.number != 0 {
         return t;
     }
     let mut next = t;
     let refusal = header_codec::read(packet, pid, kind).refusal;
-    if OTHER_PID < refusal {
+    if OTHER_PID < refusal.number {
         next.refusal = refusal;
     }
     next
@@ -117,6 +136,15 @@ fn say_count(words: &[u8], n: u64) {
     says::number(n);
 }
 
+fn say_remainder(t: Tally) {
+    if t.remainder != 0 {
+        says::text(b" (first remainder ");
+        says::hex(t.remainder);
+        say_count(b" at packet ", t.remainder_at);
+        says::text(b")");
+    }
+}
+
 // Says what became of the frames.
 fn say_frames(t: Tally) {
     say_count(b"frames ready ", t.ready);
@@ -124,13 +152,15 @@ fn say_frames(t: Tally) {
     say_count(b", jump ", t.jump);
     say_count(b", long ", t.long);
     say_count(b", broken ", t.broken);
+    say_remainder(t);
 }
 
 fn say_no_header(t: Tally, pid: u16) {
     say_count(b"no header with PID ", pid as u64);
     say_count(b" in ", t.came);
-    if t.refusal != 0 {
-        says::refusal(b" packets; the first with this PID", t.refusal);
+    let refusal = t.refusal;
+    if refusal.number != 0 {
+        says::refusal(b" packets; the first with this PID", refusal);
         return;
     }
     says::text(b" packets: another PID, or not cut on packet borders\n");

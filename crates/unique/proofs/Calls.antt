@@ -20,7 +20,7 @@ calls = record {
   -- headers and packets
   niranbok-place-refusal = one (λ κs a x p i. (p i, _));
   niranbok-composer-rest = one (λ κs a x p i. (p i, _));
-  niranbok-header-read = one (λ κs a x p i. (p .0 i, (_, (_, (_, (p .1 i, _))))));
+  niranbok-header-read = one (λ κs a x p i. (p .0 i, (_, (_, (_, (p .1 .1 i, (p .1 .0 i, _)))))));
   niranbok-header-write = one (λ κs a x p i. (p .0 i, (p .1 i, _)));
   -- frames composed
   niranbok-composer-start = one (λ κs a x p i. (p .0 i, (p .1 i, _)));
@@ -29,10 +29,10 @@ calls = record {
   niranbok-composer-close = one (λ κs a x p i. (p .0 i, (p .1 .0 i, (p .1 .1 i, _))));
   -- frames received
   niranbok-receiver-start = one (λ κs a x p i. (p .0 i, (p .1 i, _)));
-  niranbok-receiver-receive = one (λ κs a x p i. (p .0 i, (p .1 .1 .0 i, (_, (p .1 .1 .1 i, (p .1 .0 i, _))))));
+  niranbok-receiver-receive = one (λ κs a x p i. (p .0 i, (p .1 .1 .1 .0 i, (_, (p .1 .1 .1 .1 i, (p .1 .0 i, (p .1 .1 .0 i, _)))))));
   niranbok-receiver-hand-out = one (λ κs a x p i. (p .0 i, (_, (_, (p .1 .1 i, (_, (p .1 .0 i, _)))))));
   -- bonded carriers
-  niranbok-read-headers = one (λ κs a x p i. (p .0 i, (_, (_, (_, (_, (_, (p .1 .0 i, (p .1 .1 i, _)))))))));
-  niranbok-spread = one (λ κs a x p i. (p .0 i, (p .1 .1 i, (_, (_, (_, (_, (_, (p .1 .0 i, _)))))))));
-  niranbok-gather = one (λ κs a x p i. (p .0 i, (_, (p .1 .1 i, (_, (_, (_, (_, (p .1 .0 i, _)))))))));
+  niranbok-read-headers = one (λ κs a x p i. (p .0 i, (_, (_, (_, (_, (_, (p .1 .1 .0 i, (p .1 .1 .1 i, (p .1 .0 i, _))))))))));
+  niranbok-spread = one (λ κs a x p i. (p .0 i, (p .1 .1 .1 i, (_, (_, (_, (_, (_, (p .1 .1 .0 i, (p .1 .0 i, _))))))))));
+  niranbok-gather = one (λ κs a x p i. (p .0 i, (_, (p .1 .1 .1 i, (_, (_, (_, (_, (p .1 .1 .0 i, (p .1 .0 i, _))))))))));
 }

@@ -50,6 +50,7 @@ functions = record {
   packet-has-unfit = one (λ κs a x p i. (p i, _));
   packet-rest = λ κs a x y p q. p ∙ sym q;
   header-layout-places-of = one (λ κs a x p i. (p .0 i, _));
+  header-check-refusal-bare = one (λ κs a x p i. (p i, _));
   header-check-cut-run = one (λ κs a x p i. (_, (p i, _)));
   header-check-read-numbers = one (λ κs a x p i. (_, (p i, _)));
   header-check-check = one (λ κs a x p i. (p i, _));

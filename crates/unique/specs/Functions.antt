@@ -44,6 +44,7 @@ use Rattle.packet.proofs.place_refusal as packetPlaceRefusal
 use Rattle.packet.proofs.has_unfit as packetHasUnfit
 use Rattle.packet.proofs.rest as packetRest
 use Rattle.header_layout.proofs.places_of as headerLayoutPlacesOf
+use Rattle.header_check.proofs.Refusal.bare as headerCheckRefusalBare
 use Rattle.header_check.proofs.cut_run as headerCheckCutRun
 use Rattle.header_check.proofs.read_numbers as headerCheckReadNumbers
 use Rattle.header_check.proofs.check as headerCheckCheck
@@ -120,6 +121,7 @@ pub record Functions : Type 0 where
       → Allows packetRest.ended packetRest.Reads.Learnt κs a y
       → x .0 .now ≡ y .0 .now
   pub header-layout-places-of : OneOutcome headerLayoutPlacesOf.ended headerLayoutPlacesOf.Reads.Learnt
+  pub header-check-refusal-bare : OneOutcome headerCheckRefusalBare.ended headerCheckRefusalBare.Reads.Learnt
   pub header-check-cut-run : OneOutcome headerCheckCutRun.ended headerCheckCutRun.Reads.Learnt
   pub header-check-read-numbers : OneOutcome headerCheckReadNumbers.ended headerCheckReadNumbers.Reads.Learnt
   pub header-check-check : OneOutcome headerCheckCheck.ended headerCheckCheck.Reads.Learnt
