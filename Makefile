@@ -180,3 +180,4 @@ vectors:
 	/usr/bin/python3 vectors/crc_vectors.py
 	/usr/bin/python3 vectors/frames.py
 	vectors/make_cases.sh
+	/usr/bin/python3 vectors/remainders.py

@@ -1,6 +1,6 @@
 /* A headend in small: composes four frames of two streams, loses a packet of the second frame on the
- * way, receives the rest and hands out each frame that arrived whole. Exits with 0 if what came out is
- * what was put in, frame 2 missing.
+ * way, receives the rest and hands out each frame that arrived whole. Then the last header comes with a
+ * wrong CRC, and its remainder is shown. Exits with 0 if what came out is what was put in, frame 2 missing.
  *
  *     cc -Iinclude examples/board.c libniranbok.a -o board && ./board
  */
@@ -90,6 +90,7 @@ static int came_out_whole(const uint8_t *state, const uint8_t *store, int f)
 static int receive(size_t lost)
 {
     uint8_t state[NIRANBOK_RECEIVER_BYTES], event;
+    uint32_t remainder;
     static uint8_t store[NIRANBOK_STORE_BYTES];
     int whole = 0, frame = -1;
     if (niranbok_receiver_start(state, sizeof state, PID, NIRANBOK_PLAIN) != 0)
@@ -98,10 +99,13 @@ static int receive(size_t lost)
         if (k == lost)
             continue;
         if (niranbok_receiver_receive(state, sizeof state, line + NIRANBOK_PACKET_BYTES * k,
-                                      NIRANBOK_PACKET_BYTES, store, sizeof store, &event) != 0)
+                                      NIRANBOK_PACKET_BYTES, store, sizeof store, &event, &remainder) != 0)
             return -1;
         if (event == NIRANBOK_SHORT)
             printf("frame %d is dropped: it is short\n", frame + 1);
+        if (event == NIRANBOK_BROKEN)
+            printf("frame %d is dropped: the header behind it is broken, remainder %08lx\n", frame + 1,
+                   (unsigned long)remainder);
         if (event == NIRANBOK_READY) {
             if (!came_out_whole(state, store, frame))
                 return -1;
@@ -125,5 +129,9 @@ int main(void)
     /* Frame 4 has no header behind it that vouches for it; of the other three, frame 2 lost a packet. */
     int whole = receive(53 + 17);
     printf("%d frames whole\n", whole);
-    return whole == 2 ? 0 : 1;
+    /* The last bit of the fourth header is turned, and so of its CRC: frame 3 has no good header behind it. */
+    line[3 * NIRANBOK_FRAME_BYTES + NIRANBOK_PACKET_BYTES - 1] ^= 1;
+    int left = receive(53 + 17);
+    printf("%d frame whole\n", left);
+    return whole == 2 && left == 1 ? 0 : 1;
 }

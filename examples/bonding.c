@@ -100,8 +100,9 @@ static uint8_t compose(void)
 static int receive_packet(uint8_t *state, uint8_t *store, uint8_t *opened, const uint8_t *packet, uint8_t *frame)
 {
     uint8_t event;
+    uint32_t remainder;
     if (niranbok_receiver_receive(state, NIRANBOK_RECEIVER_BYTES, packet, NIRANBOK_PACKET_BYTES, store,
-                                  NIRANBOK_STORE_BYTES, &event) != 0)
+                                  NIRANBOK_STORE_BYTES, &event, &remainder) != 0)
         return -1;
     if (event == NIRANBOK_READY) {
         memcpy(frame, opened, NIRANBOK_PACKET_BYTES);
@@ -147,15 +148,17 @@ int main(void)
 {
     uint8_t is_carried;
     size_t slots, spread, gathered;
+    uint32_t remainder = 0;
     make_stream();
     uint8_t refusal = compose();
     if (refusal == 0)
-        refusal = niranbok_read_headers(sent, sizeof sent, CARRIERS, PID, TS_ID, NETWORK_ID, &is_carried, &slots);
+        refusal = niranbok_read_headers(sent, sizeof sent, CARRIERS, PID, TS_ID, NETWORK_ID, &is_carried, &slots,
+                                        &remainder);
     if (refusal == 0)
         refusal = niranbok_spread(sent, sizeof sent, stream, sizeof stream, CARRIERS, PID, TS_ID, NETWORK_ID,
-                                  &spread);
+                                  &spread, &remainder);
     if (refusal != 0) {
-        printf("refused: %u\n", refusal);
+        printf("refused: %u, remainder %08lx\n", refusal, (unsigned long)remainder);
         return 1;
     }
     printf("%zu slots on %d carriers, %zu packets spread\n", slots, CARRIERS, spread);
@@ -164,7 +167,7 @@ int main(void)
         return 1;
     }
     refusal = niranbok_gather(received, sizeof received, out, sizeof out, CARRIERS, PID, TS_ID, NETWORK_ID,
-                              &gathered);
+                              &gathered, &remainder);
     int same = refusal == 0 && gathered == STREAM_PACKETS && memcmp(out, stream, sizeof stream) == 0;
     printf("%zu packets gathered, the stream is %s\n", gathered, same ? "as it was" : "another one");
     return same && is_carried == 1 && slots == STREAM_PACKETS && spread == STREAM_PACKETS ? 0 : 1;

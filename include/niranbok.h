@@ -2,13 +2,15 @@
  *
  * Every call answers, whatever its bytes and numbers are. A call that can refuse answers 0, or the
  * refusal's number; refused, it writes no byte of what it was lent, and the counts and the event
- * that it answers are 0. Nothing is allocated or kept between calls: a composer's and a receiver's
+ * that it answers are 0. Beside refusal 7 a call that reads headers answers a remainder (see
+ * NIRANBOK_REFUSED_CRC). Nothing is allocated or kept between calls: a composer's and a receiver's
  * state is the caller's bytes.
  *
  * A pointer comes with its length in bytes. It points to that many bytes, also where a call will
  * refuse the length, and is not null, also where the length is 0. Pointers to one number (size_t *,
- * uint8_t *event) point to one. The things that one call is lent must not overlap: not a frame and the
- * stream that is put into it, not a state and a store, and not a number that is written and a buffer.
+ * uint8_t *event, uint32_t *remainder) point to one, which every call writes, refused or not. The things that
+ * one call is lent must not overlap: not a frame and the stream that is put into it, not a state and a
+ * store, and not a number that is written and a buffer.
  *
  * Calls may run at the same time in different threads, as long as what one of them writes is lent to no
  * other: the library has no memory of its own, so there is nothing to lock and nothing to set up. Two
@@ -159,7 +161,13 @@ extern "C" {
 #define NIRANBOK_CARRIERS_FIRST 1 /* 17; the carriers of spread and gather */
 #define NIRANBOK_CARRIERS_LAST 8
 
-/* Refusals, in the order in which a call asks. */
+/* Refusals, in the order in which a call asks.
+ *
+ * The remainder: what bytes 4 to 187 of a header leave in the CRC register, so 0 if its CRC is right. Sites
+ * that got the same bytes see the same number. Calls that can answer 7 write it: beside 7 the remainder of the
+ * refused header, which is never 0; beside any other refusal, and beside 0, it is 0. A receiver writes it
+ * beside NIRANBOK_BROKEN (see there). To people it is shown as eight lower-case hexadecimal digits, as the lister
+ * and the tools print it. */
 #define NIRANBOK_REFUSED_LENGTH 1              /* what is lent is not of its length; a stream is no multiple of 188, a group none of 9,964 */
 #define NIRANBOK_REFUSED_HEADER_PID 2          /* header PID outside 16 to 8,190 */
 #define NIRANBOK_REFUSED_OUT_OF_RANGE 17       /* a field, a kind, a number of a state, a stream, a carrier count out of range */
@@ -168,7 +176,7 @@ extern "C" {
 #define NIRANBOK_REFUSED_OTHER_PID 4           /* the PID is not the header PID */
 #define NIRANBOK_REFUSED_FIXED_BITS 5          /* bits 000 or 0001 differ */
 #define NIRANBOK_REFUSED_SYNC_BITS 6           /* the 13 sync bits differ */
-#define NIRANBOK_REFUSED_CRC 7                 /* the CRC is wrong */
+#define NIRANBOK_REFUSED_CRC 7                 /* the CRC is wrong; the remainder says what it left */
 #define NIRANBOK_REFUSED_RESERVED_BITS 20      /* a reserved bit is 0; where headers are read */
 #define NIRANBOK_REFUSED_FRAME_TYPE 8          /* frame_type is not allowed */
 #define NIRANBOK_REFUSED_UNAVAILABLE_NUMBER 9  /* a slot has the number of an unavailable stream */
@@ -198,7 +206,9 @@ extern "C" {
  * slots, or anything but 0 where 0 is said is a 17. In a short run a slot's number above 7 is a 17 too, and
  * so is anything but 0 for slots 41 to 52, in both lists. */
 
-/* What receiving a packet did. */
+/* What receiving a packet did. Beside NIRANBOK_BROKEN the remainder is that of a header which the reader refuses
+ * by 7; for any other cause it is 0, and so it is beside every other event. A receiver that waits answers
+ * NIRANBOK_NOTHING and 0, also for a header with a wrong CRC. */
 #define NIRANBOK_NOTHING 0 /* no frame is open, or the call was refused */
 #define NIRANBOK_OPENED 1  /* a frame opened */
 #define NIRANBOK_STORED 2  /* the packet was stored in the next slot */
@@ -249,10 +259,10 @@ uint8_t niranbok_setting_rules(const uint8_t *setting, size_t setting_length, ui
 uint8_t niranbok_header_write(uint8_t *packet, size_t packet_length, uint16_t pid, uint8_t kind,
                               const uint8_t *setting, size_t setting_length);
 
-/* Reads the packet as a header and writes what it says into the lent 298 bytes. Refuses 1, 2, 17 (the
- * kind), 3, 4, 5, 6, 7, 20, 8, 9, 10, 11. */
+/* Reads the packet as a header and writes what it says into the lent 298 bytes, and the remainder. Refuses 1,
+ * 2, 17 (the kind), 3, 4, 5, 6, 7, 20, 8, 9, 10, 11. */
 uint8_t niranbok_header_read(const uint8_t *packet, size_t packet_length, uint16_t pid, uint8_t kind,
-                             uint8_t *setting, size_t setting_length);
+                             uint8_t *setting, size_t setting_length, uint32_t *remainder);
 
 /* Whether a packet may stand in a slot: 0; 1 if it is not 188 bytes long; 12 if it lacks 0x47 or bears the
  * header PID. Writes nothing. */
@@ -290,8 +300,8 @@ uint8_t niranbok_composer_close(uint8_t *state, size_t state_length, uint8_t *fr
 /* Starts a receiver: writes its state into the lent 58 bytes. Refuses 1, 2, 17 (the kind). */
 uint8_t niranbok_receiver_start(uint8_t *state, size_t state_length, uint16_t pid, uint8_t kind);
 
-/* Takes one packet: writes the new state, what the packet did, and, where it was stored, its slot of
- * the store. The store has the length of the receiver's kind, 9,776 bytes or 7,520. Refuses 1, 2, 17.
+/* Takes one packet: writes the new state, what the packet did, the remainder, and, where it was stored, its
+ * slot of the store. The store has the length of the receiver's kind, 9,776 bytes or 7,520. Refuses 1, 2, 17.
  *
  * A whole frame, as gathering needs it, is built by the caller: the store has the 52 slots and not the
  * header. Keep a copy of the packet that opened the frame (the event is NIRANBOK_OPENED, NIRANBOK_READY,
@@ -300,7 +310,7 @@ uint8_t niranbok_receiver_start(uint8_t *state, size_t state_length, uint16_t pi
  * received, and then keep the packet that made it ready: it opened the next frame. */
 uint8_t niranbok_receiver_receive(uint8_t *state, size_t state_length, const uint8_t *packet,
                                   size_t packet_length, uint8_t *store, size_t store_length,
-                                  uint8_t *event);
+                                  uint8_t *event, uint32_t *remainder);
 
 /* Copies the ready frame's packets with number r (1 to 15, in a short run 1 to 7), in slot order, to the
  * front of `out`, and writes how many. The store is the one that receive was lent. The frame is ready until
@@ -311,23 +321,24 @@ uint8_t niranbok_receiver_hand_out(const uint8_t *state, size_t state_length, co
 
 /* Reads the headers of a group, the super frames of carriers 1 to `carriers` one behind another, each of 3
  * or 4 frames with extended headers (examples/bonding.c makes one, and one again from receivers): writes
- * whether one of them carries the stream as available (1, or 0), and how many bonded slots it has, which
- * is how many packets spread takes and gather gives. Refuses 1, 2, 17, 3 to 7, 20, 8 to 11, 14. */
+ * whether one of them carries the stream as available (1, or 0), how many bonded slots it has, which is
+ * how many packets spread takes and gather gives, and the remainder: beside 7 that of the header which is
+ * refused, the first that is. Refuses 1, 2, 17, 3 to 7, 20, 8 to 11, 14. */
 uint8_t niranbok_read_headers(const uint8_t *group, size_t group_length, uint8_t carriers,
                               uint16_t pid, uint16_t ts_id, uint16_t original_network_id,
-                              uint8_t *is_carried, size_t *packets);
+                              uint8_t *is_carried, size_t *packets, uint32_t *remainder);
 
-/* Writes a stream's packets into the bonded slots of a group, in order, and how many there were.
- * Refuses 1, 2, 17, 3 to 7, 20, 8 to 11, 14, 13, 15, 12. */
+/* Writes a stream's packets into the bonded slots of a group, in order, how many there were, and the
+ * remainder, as niranbok_read_headers does. Refuses 1, 2, 17, 3 to 7, 20, 8 to 11, 14, 13, 15, 12. */
 uint8_t niranbok_spread(uint8_t *group, size_t group_length, const uint8_t *stream,
                         size_t stream_length, uint8_t carriers, uint16_t pid, uint16_t ts_id,
-                        uint16_t original_network_id, size_t *packets);
+                        uint16_t original_network_id, size_t *packets, uint32_t *remainder);
 
-/* Copies the bonded slots of a group, in order, to the front of `out`, and writes how many packets.
- * Refuses 1, 2, 17, 3 to 7, 20, 8 to 11, 14, 13, 15. */
+/* Copies the bonded slots of a group, in order, to the front of `out`, and writes how many packets, and the
+ * remainder, as niranbok_read_headers does. Refuses 1, 2, 17, 3 to 7, 20, 8 to 11, 14, 13, 15. */
 uint8_t niranbok_gather(const uint8_t *group, size_t group_length, uint8_t *out, size_t out_length,
                         uint8_t carriers, uint16_t pid, uint16_t ts_id,
-                        uint16_t original_network_id, size_t *packets);
+                        uint16_t original_network_id, size_t *packets, uint32_t *remainder);
 
 #ifdef __cplusplus
 }
