@@ -39,14 +39,13 @@ pub extern "C" fn niranbok_read_headers(
         &mut frames[0..0],
         &mut slots[0..0],
     );
-    let refusal = headers.refusal;
-    *remainder = refusal.remainder;
-    *packets = headers.packets;
     *is_carried = 0;
     if headers.is_carried {
         *is_carried = 1;
     }
-    refusal.number
+    *packets = headers.packets;
+    *remainder = headers.refusal.remainder;
+    headers.refusal.number
 }
 
 // Writes a stream's packets into the bonded slots of a group, in order.
@@ -77,9 +76,8 @@ pub extern "C" fn niranbok_spread(
         },
     );
     *packets = spread.packets;
-    let refusal = spread.refusal;
-    *remainder = refusal.remainder;
-    refusal.number
+    *remainder = spread.refusal.remainder;
+    spread.refusal.number
 }
 
 // Copies the bonded slots of a group, in order, to the front of `out`.
@@ -110,7 +108,6 @@ pub extern "C" fn niranbok_gather(
         },
     );
     *packets = gathered.packets;
-    let refusal = gathered.refusal;
-    *remainder = refusal.remainder;
-    refusal.number
+    *remainder = gathered.refusal.remainder;
+    gathered.refusal.number
 }

@@ -182,10 +182,7 @@ fn take_header(state: &mut [u8], packet: &[u8]) -> Told
     let said = header_check::check(packet, pid, kind);
     let refusal = said.refusal;
     if refusal.number != 0 {
-        return move_on(
-            state,
-            receiver_table::broken_row(stage, refusal.remainder),
-        );
+        return move_on(state, receiver_table::broken_row(stage, refusal.remainder));
     }
     let size = setting::size_of(kind);
     renumber(&mut state[NUMBERS..RECEIVER_BYTES], packet, kind);
@@ -210,16 +207,15 @@ pub extern "C" fn niranbok_receiver_receive(
     ensures { λ _. ⌜ now (state .exit) ≡ receiveState (now (state .entry)) (now (packet .entry)) (now (store .entry)) ⌝ }
     ensures { λ _. ⌜ now (store .exit) ≡ receiveMemory (now (state .entry)) (now (packet .entry)) (now (store .entry)) ⌝ }
 {
+    *remainder = 0;
     let refusal = receive_refusal(state, packet.len(), store.len());
     if refusal != 0 {
         *event = events::NOTHING;
-        *remainder = 0;
         return refusal;
     }
     slices::are_bytes(state);
     if packet::place_refusal(packet, bits::word(state[PID], state[PID_LOW])) == 0 {
         *event = take_packet(state, packet, store);
-        *remainder = 0;
         return 0;
     }
     let told = take_header(state, packet);

@@ -226,10 +226,7 @@ fn hold(c: Carrier, event: u8, packet: &[u8], frame: &mut [u8], pid: u16) -> Car
 fn counted(c: Carrier, told: Told) -> Carrier {
     let before = c.tally;
     let mut next = c;
-    let after = tally::with_event(
-        tally::with_remainder(before, told.remainder),
-        told.event,
-    );
+    let after = tally::with_event(tally::with_remainder(before, told.remainder), told.event);
     next.tally = after;
     next.taken = std::num::wrapping_add_usize(c.taken, 1);
     next
@@ -263,15 +260,7 @@ fn take(
     requires { ⌜ (length (now frame) ≡ frameLength lastSlot) × (length (now part) ≡ partLength) ⌝ }
 {
     let told = receive(frame, part, packet);
-    after_event(
-        counted(c, told),
-        told.event,
-        packet,
-        want,
-        pid,
-        frame,
-        part,
-    )
+    after_event(counted(c, told), told.event, packet, want, pid, frame, part)
 }
 
 // Reads the next block.

@@ -34,12 +34,12 @@ byte t = cond t 1 0
 
 returns : tie.Need-returns
 returns c =
-    let said = c .before .before .before .before .read-headers .ensures .0 in
+    let said = c .before .before .before .read-headers .ensures .0 in
     (ap (λ (h : Headers). h .refusal .number) said, (ap (λ (h : Headers). h .refusal .remainder) said, (sym (ap byte (sym (ap (λ (h : Headers). h .«is_carried») said) ∙ c .if1 .taken)), ap (λ (h : Headers). h .packets) said)))
 
 returns-2 : tie.Need-returns-2
 returns-2 c =
-    let said = c .before .before .before .before .read-headers .ensures .0 in
+    let said = c .before .before .before .read-headers .ensures .0 in
     (ap (λ (h : Headers). h .refusal .number) said, (ap (λ (h : Headers). h .refusal .remainder) said, (sym (ap byte (sym (ap (λ (h : Headers). h .«is_carried») said) ∙ c .if1 .left)), ap (λ (h : Headers). h .packets) said)))
 
 pub niranbok-read-headers-spec : {M : Type 1} → statement M
