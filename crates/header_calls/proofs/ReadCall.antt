@@ -10,7 +10,7 @@ use Rattle.setting.proofs.Refusals.{never-first}
 use Rattle.setting_bytes.specs.Kinds.{kindOf}
 use Rattle.setting_bytes.specs.Settings.{settingLength}
 use Rattle.header_check.specs.declared.Refusal.{Refusal}
-use Rattle.header_check.specs.Checking.{readRefusal, refusalBy}
+use Rattle.header_check.specs.Checking.{refusalBy}
 use Rattle.header_read.specs.Reader.{intoRefused, intoMemory}
 use Rattle.header_read.proofs.Calls.{refusal-into}
 use Rattle.header_calls.specs.Calls.{callRefused, thenRefused, readRefused, readRemainder, readMemory}

@@ -15,10 +15,9 @@ use Rattle.header_check.proofs.Sevens.{seven-shows}
 use Rattle.packet.specs.Packets.{unfit}
 use Rattle.receiver.specs.declared.Stage.{Stage}
 use Rattle.receiver.specs.declared.Event.{Event}
-use Rattle.receiver.specs.declared.Row.{Row}
 use Rattle.receiver.specs.Table.{Sort, good, broken, other, counterStep, row, openRow, rowOf}
 use Rattle.receiver.specs.Arriving.{shownRemainder, sortOf}
-use Rattle.receiver.specs.Receiving.{Receiver, Received, receiveRefusal, receiverAfter, rowFor, receiveOf}
+use Rattle.receiver.specs.Receiving.{Receiver, Received, receiveRefusal, rowFor, receiveOf}
 use Rattle.receiver.specs.Bytes.{receiverLength, receiverOf, told, eventNumber}
 use Rattle.receiver.specs.Calls.{receiveTold}
 use Rattle.receiver.specs.Demands.{RemainderTold}

@@ -1,5 +1,5 @@
 -- `packet_refusal` meets its contract, check by check. Assumes nothing.
-use mathlib.Core.Path.{_≡_, sym, ap, _∙_}
+use mathlib.Core.Path.{sym, ap, _∙_}
 use mathlib.Core.List.{List, []}
 use Prim.Native.Nat.{ℕ, _%_}
 use native.Mathlib.Omega.{arith}
@@ -11,7 +11,6 @@ use Rattle.setting.proofs.Refusals.{Past, answers, passed}
 use Rattle.header_layout.specs.Layout.{syncByte, tsmfSync, Field}
 use Rattle.header_layout.specs.Header.{startValue, packetChecks}
 use Rattle.header_layout.proofs.Packet.{differs, agrees, first-differs, second-differs, both-agree, sync-byte, zeros, header-pid, one, tsmf-sync}
-use Rattle.header_check.specs.declared.Refusal.{Refusal}
 use Rattle.header_check.specs.Checking.{refusalBy}
 use Rattle.header_check.proofs.Asked.{refused-bare}
 use Rattle.header_check.proofs.parts.packet_refusal.Statement.{statement}

@@ -1,5 +1,4 @@
 -- `put_hex` meets its contract: what `hex` gives is the number's eight digits. Assumes nothing.
-use Prim.Native.Nat.{ℕ}
 use mathlib.Core.Path.{_≡_}
 use native.Mathlib.Omega.{arith}
 use Rattle.listing.specs.Text.{hexadecimal}
