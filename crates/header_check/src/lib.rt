@@ -11,8 +11,8 @@ mod packed;
 mod parts;
 mod reserved;
 
-// Why a header is refused: the number, or 0; and beside 7 the remainder, which the bytes that the CRC covers leave in the register, beside any
-// other number 0. Callers pass it up as it is.
+// Why a header is refused: the refusal's number, or 0 if it is not refused. Beside 7 stands the remainder, which is what bytes 4 to 187 leave in
+// the CRC register. Beside any other number it is 0. Callers pass it up as it is.
 pub struct Refusal {
     pub number: u8,
     pub remainder: u32,

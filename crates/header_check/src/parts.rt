@@ -27,7 +27,7 @@ fn word_at(part: &[u8], at: usize) -> u16
     bits::word(part[at], part[at + 1])
 }
 
-// The check of the CRC: what it leaves in the register, 0 where it is right.
+// The check of the CRC itself: what bytes 4 to 187 leave in the register, 0 if it is right.
 fn remainder_of(packet: &[u8]) -> u32
     requires { ⌜ length (now packet) ≡ headerLength ⌝ }
     ensures { λ r. ⌜ r ≡ remainderOf (now (packet .entry)) ⌝ }

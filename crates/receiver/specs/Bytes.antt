@@ -109,5 +109,6 @@ told Event.Jump = record { event = 5; remainder = 0 }
 told Event.Long = record { event = 6; remainder = 0 }
 told (Event.Broken r) = record { event = 7; remainder = r }
 
+-- the event's number alone
 abbrev pub eventNumber : Event → ℕ
 eventNumber e = told e .event

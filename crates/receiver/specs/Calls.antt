@@ -37,6 +37,7 @@ unfoldable pub receiveTold : List ℕ → List ℕ → List ℕ → Told
 receiveTold state p store =
     told (cond (eqb (length state) receiverLength) (receiveOf (receiverOf state) p (length store) .event) Event.Nothing)
 
+-- the event's number, and the remainder
 abbrev pub receiveEvent : List ℕ → List ℕ → List ℕ → ℕ
 receiveEvent state p store = receiveTold state p store .event
 

@@ -58,10 +58,10 @@ refusalIn state p = readRefusal (receiverOf state .kind) (receiverOf state .pid)
 
 -- K6: 'in the receiver's table it travels beside "broken". There 0 stands for any other cause.' Beside 'broken' stands the remainder of a
 -- header that the reader refuses by 7, and it is not 0; 0 stands beside 'broken' by any other refusal, and beside any other event
-pub record RemainderOf (state p store : List ℕ) : Type 0 where
+pub record Tells (state p store : List ℕ) : Type 0 where
   pub by-seven : Broke state p store → refusalIn state p ≡ 7 → (receiveRemainder state p store ≡ remainderOf p) × (remainderOf p ≡ 0 → ⊥)
   pub by-other : Broke state p store → (refusalIn state p ≡ 7 → ⊥) → receiveRemainder state p store ≡ 0
   pub beside-other : (Broke state p store → ⊥) → receiveRemainder state p store ≡ 0
 
 abbrev pub RemainderTold : Type 0
-RemainderTold = (state p store : List ℕ) → RemainderOf state p store
+RemainderTold = (state p store : List ℕ) → Tells state p store

@@ -192,7 +192,9 @@ fn take_header(state: &mut [u8], packet: &[u8]) -> Told
     )
 }
 
-// Takes one packet. The remainder is 0, unless a header with a wrong CRC broke the open frame. `are_bytes` tells the proof that the state holds bytes; with that, those that this call leaves alone are the new state's.
+// Takes one packet. The remainder is 0, unless a header with a wrong CRC broke the open frame; it is written first, since most packets are
+// stored and it costs them the least so. `are_bytes` tells the proof that the state holds bytes; with that, those that this call leaves
+// alone are the new state's.
 #[no_mangle]
 pub extern "C" fn niranbok_receiver_receive(
     state: &mut [u8],
