@@ -1,5 +1,7 @@
 // Packed fields: what bits, runs of fields and cut fields are, and their laws over the width; numbers made from bytes; bytes packed
 // from values of 4 bits.
+#![tactic(auto)]
+
 ghost use Rattle.std.specs.Prelude.{◌≡◌, ◌+◌, ◌*◌, ◌%◌, ◌^◌, ◌≤◌};
 ghost use Rattle.bits.specs.Fields.{number, run};
 ghost use Rattle.bits.specs.Halves.{halves_into};

@@ -1,4 +1,6 @@
 // One stream over bonded carriers: spread over the slots of their super frames, and gathered again in its original order.
+#![tactic(auto)]
+
 mod checks;
 mod moving;
 mod rounds;

@@ -1,5 +1,7 @@
 // The calls that read the headers of a group, spread a stream over it and gather it again. A bond is passed as its four numbers. Each writes
 // the remainder too: that of the header which is refused if the answer is 7, else 0.
+#![tactic(auto)]
+
 ghost use Rattle.std.specs.Prelude.{◌≡◌, cond, length};
 ghost use Rattle.bond_group.specs.Plan.{planned_of};
 ghost use Rattle.bond.specs.Bonding.{spread_of, spread_group, gather_of, gather_buffer};

@@ -1,4 +1,6 @@
 // A group of bonded carriers, their super frames one behind another in one buffer: its headers read, and what they say of a stream.
+#![tactic(auto)]
+
 mod checks;
 pub mod headers;
 

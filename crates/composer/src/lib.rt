@@ -1,5 +1,7 @@
 // A run of frames: where the parts of its state stand. The state is 436 bytes that the caller keeps, in Rattle as in C. What each call
 // answers and leaves is said in specs/.
+#![tactic(auto)]
+
 use counters::SLOTS;
 use setting_bytes::{ANNOUNCED, ANNOUNCED_BYTES, NUMBERS, SETTING_BYTES};
 

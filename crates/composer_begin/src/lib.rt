@@ -1,4 +1,6 @@
 // The call that begins a frame: it puts null packets into the slots, and the setting into the state.
+#![tactic(auto)]
+
 mod checks;
 mod slots;
 

@@ -1,4 +1,6 @@
 // What every call checks of a composer's state, read straight from its 436 bytes. Any other length is a 1.
+#![tactic(auto)]
+
 ghost use Rattle.std.specs.Prelude.{◌≡◌, length};
 ghost use Rattle.counters.specs.Counters.{last_slot};
 ghost use Rattle.setting.specs.Refusal.{first_of, of_length};

@@ -1,4 +1,6 @@
 // The call that closes a frame: it writes the header, which says which slots were filled.
+#![tactic(auto)]
+
 mod header;
 
 ghost use Rattle.std.specs.Prelude.{◌≡◌, ◌++◌, length, take, replicate};

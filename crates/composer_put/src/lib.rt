@@ -1,5 +1,7 @@
 // The calls that put a stream's packets into the slots of an open frame: one hands back the rest, one is for C.
 // In the state only the filled marks change.
+#![tactic(auto)]
+
 mod checks;
 mod slots;
 

@@ -1,5 +1,7 @@
 // The counts of J.183: slots, streams, positions, each with its first and last value and a checked constructor, and which streams are
 // available. They stand here and nowhere else in the code.
+#![tactic(auto)]
+
 ghost use Rattle.std.specs.Prelude.{◌≡◌};
 ghost use Rattle.counters.specs.Counters.{first_slot, last_slot, first_stream, last_stream, first_position, last_position, checked, slot_answer, relative_number_answer, frame_position_answer, available, count_available};
 

@@ -1,4 +1,6 @@
 // The CRC of H.222.0 over bytes.
+#![tactic(auto)]
+
 ghost use Rattle.std.specs.Prelude.{◌+◌, ◌%◌, ◌≤◌, ◌≡◌, length};
 ghost use Rattle.bits.specs.Fields.{bits_of, run};
 ghost use Rattle.crc.specs.Crc.{register_from, register_of, shifts};

@@ -1,5 +1,7 @@
 // Reads records of a length, two bytes with the high one first, and as many bytes; writes for each the register that its bytes
 // leave, as a line of eight hexadecimal digits.
+#![tactic(auto)]
+
 ghost use Rattle.std.specs.Prelude.{◌<◌};
 
 use libc::{STDIN_FILENO, STDOUT_FILENO};

@@ -1,4 +1,6 @@
 // The calls that write and read a header, with the setting as bytes: what they answer and leave, the checks of both, and the one that reads.
+#![tactic(auto)]
+
 ghost use Rattle.std.specs.Prelude.{◌≡◌};
 ghost use Rattle.header_calls.specs.Calls.{call_refused, read_refused, read_remainder, read_memory};
 

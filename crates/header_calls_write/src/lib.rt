@@ -1,5 +1,7 @@
 // The call that writes a header. It has a crate of its own: in one crate with the call that reads, the compiler would make the CRC a shared
 // function instead of inlining it, and writing would take a tenth longer.
+#![tactic(auto)]
+
 ghost use Rattle.std.specs.Prelude.{◌≡◌};
 ghost use Rattle.header_calls.specs.Calls.{write_refused, write_memory};
 

@@ -1,5 +1,7 @@
 // A packet checked as a header: its refusal, and the fields that receiving and gathering use. The reader of whole headers is built on
 // this check.
+#![tactic(auto)]
+
 ghost use Rattle.std.specs.Prelude.{◌≡◌};
 ghost use Rattle.header_check.specs.Checking.{read_refusal, bare, refusal_by, checked_of, numbers_into};
 ghost use Rattle.header_check.specs.Cutting.{cut_into};

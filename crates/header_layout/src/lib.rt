@@ -1,5 +1,7 @@
 // The header's 188 bytes: where its parts start, computed from the numbers of streams and slots. The table, what stands in it and how a
 // packet is read by it are in specs/; the laws that the writer and the reader need are in proofs/.
+#![tactic(auto)]
+
 ghost use Rattle.std.specs.Prelude.{◌≡◌, ◌+◌, ◌≤◌};
 ghost use Rattle.setting.specs.Size.{size_of};
 ghost use Rattle.header_layout.specs.Layout.{streams_start};

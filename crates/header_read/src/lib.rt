@@ -1,4 +1,6 @@
 // The reader of the header: into the bytes of a setting, and as a setting.
+#![tactic(auto)]
+
 ghost use Rattle.std.specs.Prelude.{◌≡◌};
 ghost use Rattle.header_read.specs.Reader.{read_of, into_refused, into_memory};
 

@@ -1,4 +1,6 @@
 // The writer of the header. It writes each field from the setting's bytes straight into the caller's buffer, so it takes little stack.
+#![tactic(auto)]
+
 ghost use Rattle.std.specs.Prelude.{◌≡◌, cond, ◌&&◌, eqb, length};
 ghost use Rattle.setting.specs.Refusal.{of_length};
 ghost use Rattle.setting_bytes.specs.Settings.{setting_length, setting_of};

@@ -6,6 +6,8 @@
 //   refusal: its number and its name, in the order in which a call checks;
 //   length: of what, and how many bytes;
 //   place: of which field in a setting's bytes, where it starts, and how many bytes it has.
+#![tactic(auto)]
+
 mod fields;
 mod layout;
 mod refusals;

@@ -1,5 +1,7 @@
 // Lists recordings with plain headers of PID 0x1FF0: each file that an argument names, where `-` is standard input, or
 // standard input if there are no arguments.
+#![tactic(auto)]
+
 ghost use Rattle.std.specs.Prelude.{◌+◌, ◌^◌, ◌≤◌, ◌<◌, ◌≡◌, length};
 ghost use Rattle.io.specs.Counts.{IsPrefixLen};
 ghost use Rattle.listing.specs.Listing.{packets_in, room_for, listing, over_front};

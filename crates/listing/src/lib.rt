@@ -1,4 +1,6 @@
 // The listing of a recording of packets: for each packet a line that says what it is, read as a plain header.
+#![tactic(auto)]
+
 ghost use Rattle.std.specs.Prelude.{◌≡◌, length};
 ghost use Rattle.io.specs.Counts.{IsPrefixLen};
 ghost use Rattle.listing.specs.Listing.{list_refusal, listed, listed_over};

@@ -1,4 +1,6 @@
 // Packets of 188 bytes: whether one may stand in a slot, and what is left of a stream of them.
+#![tactic(auto)]
+
 ghost use Rattle.std.specs.Prelude.{◌≡◌, length};
 ghost use Rattle.setting.specs.Size.{slots_of};
 ghost use Rattle.packet.specs.Packets.{frame_length, place_refusal, some_unfit_in, rest_of};

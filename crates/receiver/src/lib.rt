@@ -1,5 +1,7 @@
 // The receiver: where it stands, what a packet does to it, and where its state has its parts. The state is 58 bytes that the caller lends,
 // from Rattle as from C; the packets stand in a lent store, slot i at 188 × (i − 1). What each call answers and leaves is said in specs/.
+#![tactic(auto)]
+
 use counters::SLOTS;
 use packet::PACKET_BYTES;
 

@@ -1,4 +1,6 @@
 // The call that hands out a ready frame's packets with one number, in slot order.
+#![tactic(auto)]
+
 mod numbered;
 
 ghost use Rattle.std.specs.Prelude.{◌≡◌};

@@ -1,5 +1,7 @@
 // The call that takes a packet. A frame is ready when the header behind it has vouched for it. What a packet does not change of the state
 // stays where it is.
+#![tactic(auto)]
+
 ghost use Rattle.std.specs.Prelude.{◌≡◌, true, false, ◌++◌, ◌+◌, ◌*◌, ◌^◌, ◌<◌, ◌≤◌, length, get_or, set, take};
 ghost use Rattle.slices.specs.Slices.{over, some_at_least};
 ghost use Rattle.counters.specs.Counters.{last_slot};

@@ -1,4 +1,6 @@
 // What every call checks of a receiver's state, how long a store is, and how the stage is read from the state's 58 bytes and written to them.
+#![tactic(auto)]
+
 ghost use Rattle.std.specs.Prelude.{◌≡◌, cond, ◌++◌, ◌*◌, eqb, length};
 ghost use Rattle.bits.specs.Fields.{run, cut};
 ghost use Rattle.slices.specs.Slices.{copied, some_at_least};

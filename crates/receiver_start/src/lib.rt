@@ -1,4 +1,6 @@
 // The calls that start a receiver. One answers the state as a value, the other writes it into the caller's bytes.
+#![tactic(auto)]
+
 ghost use Rattle.std.specs.Prelude.{◌≡◌, ◌<◌, length};
 ghost use Rattle.setting_bytes.specs.Kinds.{kinds, kind_of};
 ghost use Rattle.receiver.specs.Receiving.{waiting, start_of};

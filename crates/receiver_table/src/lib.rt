@@ -1,5 +1,7 @@
 // The receiver's table for headers and broken packets: what each does, by where the receiver stands. The rows of other packets are in
 // receiver_receive, where such a packet is stored.
+#![tactic(auto)]
+
 ghost use Rattle.std.specs.Prelude.{◌≡◌, ℕ};
 ghost use Rattle.receiver.specs.Table.{good, broken, other, open_row, row_of};
 

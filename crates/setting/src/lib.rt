@@ -1,6 +1,8 @@
 // A setting: what a header of J.183 says, the range of each field, the rules with their refusal numbers, and what decides on the next
 // header's version. The rules are definitions in specs/; the code of 17 is in setting_checks, of 8 and 11 in setting_rules, of 9 in
 // setting_slots, of 10 in setting_pairs.
+#![tactic(auto)]
+
 ghost use Rattle.std.specs.Prelude.{◌≡◌};
 ghost use Rattle.setting.specs.Setting.{blank};
 ghost use Rattle.setting.specs.Size.{size_of};

@@ -1,5 +1,7 @@
 // Settings, kinds and numbers of 16 bits as bytes, as a caller keeps them and hands them over. The fields of a setting stand in its own
 // order, numbers of 16 bits with the high byte first.
+#![tactic(auto)]
+
 ghost use Rattle.std.specs.Prelude.{◌≡◌};
 ghost use Rattle.setting_bytes.specs.Words.{words_read};
 ghost use Rattle.setting_bytes.specs.Kinds.{kind_of, kind_number};

@@ -1,4 +1,6 @@
 // The calls on a setting: a blank one, and what its widths and its rules refuse.
+#![tactic(auto)]
+
 ghost use Rattle.std.specs.Prelude.{◌≡◌};
 ghost use Rattle.setting_calls.specs.Calls.{call_refused, blank_refused, blank_memory, widths_refused, rules_refused};
 

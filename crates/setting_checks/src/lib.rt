@@ -1,4 +1,6 @@
 // The checks of a setting's widths and rules, made on its bytes as they lie.
+#![tactic(auto)]
+
 ghost use Rattle.std.specs.Prelude.{◌≤◌, ◌≡◌, length};
 ghost use Rattle.setting.specs.Refusal.{first_of, of_length};
 ghost use Rattle.setting.specs.Rules.{some_behind, behind_checks, width_checks, rule_checks};

@@ -1,5 +1,7 @@
 // The rule of 10: two available streams with equal identifiers. They are read where they stand, in a setting or in a header, so that none
 // has to be copied.
+#![tactic(auto)]
+
 ghost use Rattle.std.specs.Prelude.{◌≡◌, ℕ, ◌≤◌, ◌<◌, false, ◌&&◌, List, length, get_or};
 ghost use Rattle.slices.specs.Slices.{any_below};
 ghost use Rattle.counters.specs.Counters.{last_stream};

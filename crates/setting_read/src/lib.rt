@@ -1,4 +1,6 @@
 // A setting, and what a header announces, read from bytes.
+#![tactic(auto)]
+
 ghost use Rattle.std.specs.Prelude.{◌≡◌};
 ghost use Rattle.setting_bytes.specs.Settings.{announced_of, setting_of};
 

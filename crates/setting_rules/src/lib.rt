@@ -1,4 +1,6 @@
 // The rules of 8 and 11. Those of 9 and 10 are in setting_slots and setting_pairs.
+#![tactic(auto)]
+
 ghost use Rattle.std.specs.Prelude.{◌≡◌};
 ghost use Rattle.counters.specs.Counters.{within};
 ghost use Rattle.setting.specs.Refusal.{first_of};

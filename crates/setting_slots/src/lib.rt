@@ -1,4 +1,6 @@
 // The rule of 9: a slot with the number of an unavailable stream.
+#![tactic(auto)]
+
 ghost use Rattle.std.specs.Prelude.{◌≡◌, ◌+◌, ◌-◌, ◌*◌, ◌/◌, ◌%◌, ◌^◌, ◌≤◌, eqb, length};
 ghost use Rattle.bits.specs.Fields.{run, cut};
 ghost use Rattle.counters.specs.Counters.{last_stream};

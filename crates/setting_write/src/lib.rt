@@ -1,4 +1,6 @@
 // A setting, and what a header announces, written as bytes.
+#![tactic(auto)]
+
 ghost use Rattle.std.specs.Prelude.{◌≡◌, cond, [], ◌∷◌, ◌++◌, ◌*◌, eqb, length};
 ghost use Rattle.setting_bytes.specs.Words.{word_bytes};
 ghost use Rattle.setting_bytes.specs.Settings.{ts_id_at, announced_length, announced_bytes};

@@ -1,4 +1,6 @@
 // Slices of bytes: copied, filled, tested.
+#![tactic(auto)]
+
 ghost use Rattle.std.specs.Prelude.{◌≡◌, false, ◌≤◌, ◌<◌, length, replicate};
 ghost use Rattle.slices.specs.Slices.{copied, some_at_least, some_differ, unlike};
 

@@ -1,4 +1,6 @@
 // Slots as bits of one number: slot i in bit i. Bit 0 is the header's place, and always 0.
+#![tactic(auto)]
+
 ghost use Rattle.std.specs.Prelude.{◌*◌, ◌%◌, ◌^◌, ◌≤◌, ◌<◌, ◌≡◌, cond, length};
 ghost use Rattle.slot_bits.specs.Bits.{slots_as_bits, total, in_bytes};
 

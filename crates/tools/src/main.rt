@@ -1,5 +1,7 @@
 // The programs mux, demux, bond and unbond, in one executable: the name by which it is started says which of them to run, or else its first
 // argument does.
+#![tactic(auto)]
+
 mod arguments;
 mod bonding;
 mod carrier;

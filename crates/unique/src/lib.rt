@@ -1,1 +1,2 @@
 // For each public function, that its contract allows one outcome only. No code.
+#![tactic(auto)]
