@@ -9,46 +9,43 @@ use lib.Pow.{pow-add, pow_mono, shl_exact}
 use Rattle.slot_bits.specs.Bits.{total, in_bytes}
 use Rattle.slot_bits.proofs.Bytes.{byte_first}
 use Rattle.slot_bits.proofs.number_of.Goals as goal
+use Rattle.slot_bits.proofs.number_of.Goals.{After-byte_of}
 
 pub loop-byte-init : goal.loop-byte-init
 loop-byte-init c = (omega arith, omega arith, zero-add _)
 
 -- a byte in its place, which is within the number
-module _ (c : tie.After-byte-of invariant_loop decreases_loop) where
-  abbrev turn : tie.At-loop invariant_loop decreases_loop
-  turn = c.before.before.before
-
+module _ (c : After-byte_of) where
   abbrev at : ℕ
-  at = 8 * turn.loop.byte
+  at = 8 * c.loop-byte.byte
 
   shifted : c.byte_of.result * 2 ^ at % 2 ^ 64 ≡ c.byte_of.result * 2 ^ at
   shifted = shl_exact 11 at 64 (omega arith) (omega arith)
 
-  next : 2 ^ (8 * (turn.loop.byte + 1)) ≡ 256 * 2 ^ at
-  next = let more : 8 * (turn.loop.byte + 1) ≡ 8 + at = omega arith in ap (λ (k : ℕ). 2 ^ k) more ∙ pow-add 2 8 at
+  next : 2 ^ (8 * (c.loop-byte.byte + 1)) ≡ 256 * 2 ^ at
+  next = let more : 8 * (c.loop-byte.byte + 1) ≡ 8 + at = omega arith in ap (λ (k : ℕ). 2 ^ k) more ∙ pow-add 2 8 at
 
-  within : turn.loop.number + c.byte_of.result * 2 ^ at + 8 ≤ 8 * 2 ^ (8 * (turn.loop.byte + 1))
+  within : c.loop-byte.number + c.byte_of.result * 2 ^ at + 8 ≤ 8 * 2 ^ (8 * (c.loop-byte.byte + 1))
   within =
-      let most = mul-le-mul_right (2 ^ at) c.byte_of.ensures.1 in
-      omega (arith, next, turn.loop.inv.1)
+      let most = mul-le-mul_right (2 ^ at) c.byte_of.ensures.upper_bound in
+      omega (arith, next, c.loop-byte.invariant.1)
 
-  narrow : turn.loop.number + c.byte_of.result * 2 ^ at < 2 ^ 64
+  narrow : c.loop-byte.number + c.byte_of.result * 2 ^ at < 2 ^ 64
   narrow =
-      let last : 8 * (turn.loop.byte + 1) ≤ 56 = omega arith in
-      let most : 2 ^ (8 * (turn.loop.byte + 1)) ≤ 2 ^ 56 = pow_mono last in
+      let last : 8 * (c.loop-byte.byte + 1) ≤ 56 = omega arith in
+      let most : 2 ^ (8 * (c.loop-byte.byte + 1)) ≤ 2 ^ 56 = pow_mono last in
       omega (arith, within)
 
 pub overflow_add-number : goal.overflow_add-number
-overflow_add-number c = omega (arith, shifted c, narrow c)
+overflow_add-number c = omega (arith, shifted (goal.at.overflow_add-number c).After-byte_of, narrow (goal.at.overflow_add-number c).After-byte_of)
 
 pub loop-byte-preserved : goal.loop-byte-preserved
 loop-byte-preserved c =
-    let t = turn c in
-    let bits = t.before.before.args.bits.now in
-    let eight : at c + 8 - at c ≡ 8 = omega arith in
-    let byte = c.byte_of.ensures.value ∙ ap (λ (n : ℕ). total (take n (drop (at c) bits))) eight in
-    let placed = ap (λ (n : ℕ). n * 2 ^ at c) byte in
-    (omega arith, omega (arith, shifted c, within c), omega (arith, shifted c, t.loop.inv.2, byte_first bits t.loop.byte, placed))
+    let bits = c.args.bits.now in
+    let eight : at (goal.at.loop-byte-preserved c).After-byte_of + 8 - at (goal.at.loop-byte-preserved c).After-byte_of ≡ 8 = omega arith in
+    let byte = c.byte_of.ensures.value ∙ ap (λ (n : ℕ). total (take n (drop (at (goal.at.loop-byte-preserved c).After-byte_of) bits))) eight in
+    let placed = ap (λ (n : ℕ). n * 2 ^ at (goal.at.loop-byte-preserved c).After-byte_of) byte in
+    (omega arith, omega (arith, shifted (goal.at.loop-byte-preserved c).After-byte_of, within (goal.at.loop-byte-preserved c).After-byte_of), omega (arith, shifted (goal.at.loop-byte-preserved c).After-byte_of, c.loop-byte.invariant.2, byte_first bits c.loop-byte.byte, placed))
 
 pub returns : goal.returns
 unfolding in_bytes
