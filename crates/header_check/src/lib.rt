@@ -15,7 +15,7 @@ mod reserved;
 
 // Why a header is refused: the refusal's number, or 0 if it is not refused. Beside 7 stands the remainder, which is what bytes 4 to 187 leave in
 // the CRC register. Beside any other number it is 0. Callers pass it up as it is.
-#[derive(Drop)]
+#[derive(Clone, Copy)]
 pub struct Refusal {
     pub number: u8,
     pub remainder: u32,
@@ -35,7 +35,7 @@ impl Refusal {
 
 // Refusal 0 and the fields that receiving and gathering use, or the refusal and zeros. The slots' numbers are read apart, by
 // `read_numbers`.
-#[derive(Drop)]
+#[derive(Clone, Copy)]
 pub struct Checked {
     pub refusal: Refusal,
     pub continuity_counter: u8,

@@ -170,7 +170,7 @@ fn has_pair_twice(packet: &[u8], kind: Kind, availability: u16) -> bool
 }
 
 // The bonding fields: those of the packet for an extended header, zeros for any other.
-#[derive(Drop)]
+#[derive(Clone, Copy)]
 struct Bonding {
     group_id: u8,
     number_of_carriers: u8,
