@@ -49,7 +49,8 @@ filled c =
         omega arith,
         omega arith,
         taken_in at.values args.part.now args.width at.held at.bits at.at at.i at.invariant.3 at.invariant.1
-            (there (record { before = c; if1 = w.0 })) (w.1.given at.at).fits,
+            (byte_is_there (length args.values.now) args.width at.at at.bits at.i (length args.part.now) (omega arith) at.invariant.3.count w.if-bits-width.true c.requires.width_in_bounds)
+            (c.type_inv.part at.at).fits,
       )
       | else-bits-width w ↦ rw (w.held-is, w.bits-is, w.at-is) (omega arith, omega arith, at.invariant.3)
     ]
@@ -68,21 +69,19 @@ nonzero_rem-values c =
 pub overflow_cast-values : goal.overflow_cast-values
 overflow_cast-values c =
     let args = c.args in
-    let pre = c.requires in
-    let small = limit_small args.width pre.0 in
+    let small = limit_small args.width c.requires.width_bound in
     let below = mod-lt (c.if-bits-width.held / 2 ^ (c.if-bits-width.bits - args.width)) (pow_pos args.width) in
-    rw (limit_is args.width pre.0) (omega arith)
+    rw (limit_is args.width c.requires.width_bound) (omega arith)
 
 pub loop-i-preserved : goal.loop-i-preserved
 loop-i-preserved c =
     let at = c.loop-i in
     let args = c.args in
-    let pre = c.requires in
     let f = filled (goal.at.loop-i-preserved c).Joined-bits-width in (
       omega arith,
       omega arith,
       simp length-set at.invariant.2,
-      rw (limit_is args.width pre.0) (taken_out at.values args.part.now args.width _ _ _ at.i f.2 f.0 (omega arith)),
+      rw (limit_is args.width c.requires.width_bound) (taken_out at.values args.part.now args.width _ _ _ at.i f.2 f.0 (omega arith)),
     )
 
 pub returns : goal.returns
