@@ -77,18 +77,14 @@ rule_is c = c.rule_refusal-rule.ensures ∙ at_length _ _ _ c.before.before.befo
 
 returns : tie.Need-returns-then-setting-ne-SETTING_BYTES
 returns c =
-    let b = c.before.before.before.args.setting.now in record {
-      value = sym (off_length _ _ _ c.if-setting-ne-SETTING_BYTES.true);
-      buffer_after = rw (ne_eqb (length b) setting_length c.if-setting-ne-SETTING_BYTES.true) refl;
-    }
+    let b = c.before.before.before.args.setting.now in
+    (sym (off_length _ _ _ c.if-setting-ne-SETTING_BYTES.true), rw (ne_eqb (length b) setting_length c.if-setting-ne-SETTING_BYTES.true) refl)
 
 returns_2 : tie.Need-returns-then-buffer-ne-HEADER_LENGTH
 unfolding write_refusal
 returns_2 c =
-    let start = start₁ c.before in let all = refused c.before (wrong_length start.args.pid _ (widths start ++ rules start) c.if-buffer-ne-HEADER_LENGTH.true) (omega arith) in record {
-      value = all.0;
-      buffer_after = all.1;
-    }
+    let start = start₁ c.before in
+    refused c.before (wrong_length start.args.pid _ (widths start ++ rules start) c.if-buffer-ne-HEADER_LENGTH.true) (omega arith)
 
 pid_allowed_requires : tie.Need-pid_allowed-requires
 pid_allowed_requires c κs = search rules
@@ -96,11 +92,9 @@ pid_allowed_requires c κs = search rules
 returns_3 : tie.Need-returns-then-not-pid_allowed
 unfolding write_refusal
 returns_3 c =
-    let start = start₂ c.before.before in let all = refused c.before.before.before
-    (wrong_pid start.args.pid _ (widths start ++ rules start) c.before.before.if-buffer-ne-HEADER_LENGTH.false (sym c.before.pid_allowed.ensures ∙ not-true _ c.if-not-pid_allowed.true-raw)) (omega arith) in record {
-      value = all.0;
-      buffer_after = all.1;
-    }
+    let start = start₂ c.before.before in
+    refused c.before.before.before
+    (wrong_pid start.args.pid _ (widths start ++ rules start) c.before.before.if-buffer-ne-HEADER_LENGTH.false (sym c.before.pid_allowed.ensures ∙ not-true _ c.if-not-pid_allowed.true-raw)) (omega arith)
 
 width_refusal_requires : tie.Need-width_refusal-width-requires
 width_refusal_requires c κs = search rules
@@ -108,19 +102,14 @@ width_refusal_requires c κs = search rules
 returns_4 : tie.Need-returns-then-width-ne0
 returns_4 c =
     let start = start₃ c.before.before in
-    let n = c.before.width_refusal-width.ensures ∙ at_length _ _ _ c.before.before.before.before.before.if-setting-ne-SETTING_BYTES.false in let all = refused c.before.before.before.before.before (past₃ c.before.before ∙ at_once (widths start) (rules start) (λ z. c.if-width-ne0.true (n ∙ z)) ∙ sym n) c.if-width-ne0.true in record {
-      value = all.0;
-      buffer_after = all.1;
-    }
+    let n = c.before.width_refusal-width.ensures ∙ at_length _ _ _ c.before.before.before.before.before.if-setting-ne-SETTING_BYTES.false in
+    refused c.before.before.before.before.before (past₃ c.before.before ∙ at_once (widths start) (rules start) (λ z. c.if-width-ne0.true (n ∙ z)) ∙ sym n) c.if-width-ne0.true
 
 rule_refusal_requires : tie.Need-rule_refusal-rule-requires
 rule_refusal_requires c κs = search rules
 
 returns_5 : tie.Need-returns-then-rule-ne0
-returns_5 c =let all = refused c.before.before.before.before.before.before.before (past₄ c.before.before ∙ sym (rule_is c.before)) c.if-rule-ne0.true in record {
-      value = all.0;
-      buffer_after = all.1;
-    }
+returns_5 c = refused c.before.before.before.before.before.before.before (past₄ c.before.before ∙ sym (rule_is c.before)) c.if-rule-ne0.true
 
 write_header_requires : tie.Need-write_header-requires
 write_header_requires c κs = search rules
@@ -136,11 +125,11 @@ returns_6 c =
     let whole = rule.before.before.before.before.before.before.before.if-setting-ne-SETTING_BYTES.false in
     let long = rule.before.before.before.before.before.before.if-buffer-ne-HEADER_LENGTH.false in
     let e = past₄ rule.before.before ∙ sym (rule_is rule.before) ∙ rule.if-rule-ne0.false in
-    let buffer = start.args.buffer.now in record {
-      value = sym (at_length _ _ _ whole ∙ e);
-      buffer_after = (rw (eq-eqb (length buffer) header_length long, eq-eqb _ _ whole) at write.write_header.ensures)
-          ∙ rw (eq-eqb _ _ whole) (made start.args.kind start.args.pid (said start) buffer e);
-    }
+    let buffer = start.args.buffer.now in (
+      sym (at_length _ _ _ whole ∙ e),
+      (rw (eq-eqb (length buffer) header_length long, eq-eqb _ _ whole) at write.write_header.ensures)
+          ∙ rw (eq-eqb _ _ whole) (made start.args.kind start.args.pid (said start) buffer e),
+    )
 
 pub write_spec : {M : Type 1} → statement M
 write_spec =

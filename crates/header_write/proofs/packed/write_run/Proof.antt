@@ -1,4 +1,5 @@
 -- `write_run` meets its contract: after i turns the first i values are packed. Assumes nothing.
+use borrow.Author.Rules.{rules as std_rules}
 use Prim.Native.Nat.{ℕ, ◌+◌, ◌-◌, ◌*◌, ◌/◌, ◌%◌, ◌^◌, ◌≤◌, ◌<◌}
 use mathlib.Core.Path.{◌≡◌, refl, sym, ap, ◌∙◌}
 use mathlib.Core.Logic.{⊎_elim}
@@ -12,11 +13,11 @@ use Rattle.header_layout.proofs.Runs.{Packed, packed_none, packed_in, packed_out
 use Rattle.header_write.proofs.packed.write_run.Statement.{statement}
 use Rattle.header_write.proofs.packed.write_run.Tie as tie
 
-abbrev invariant_loop : tie.invariant-loop-i-i
+abbrev invariant_loop : tie.invariant-loop-i
 invariant_loop part₀ values width limit held₀ bits₀ at₀ i₀ part held bits at i =
     (i ≤ length values) × (bits < 8) × (length part ≡ length part₀) × Packed part values width held bits at i
 
-abbrev decreases_loop : tie.decreases-loop-i-i
+abbrev decreases_loop : tie.decreases-loop-i
 decreases_loop part₀ values width limit held₀ bits₀ at₀ i₀ part held bits at i = length values - i
 
 shl_limit : tie.Need-overflow_shl-limit invariant_loop decreases_loop
@@ -45,7 +46,7 @@ room c =
     let args = c.before.before.before.before.args in
     let r : at.at < length args.values.now * args.width / 8 =
     byte_has_room (length args.values.now) args.width at.at (at.bits + args.width) at.i (omega arith) (loaded c.before).count c.if-bits-ge8.true in
-    let e : length args.part.now ≡ length args.values.now * args.width / 8 = c.before.before.before.before.requires.part_len in
+    let e : length args.part.now ≡ length args.values.now * args.width / 8 = c.before.before.before.before.requires.1 in
     omega arith
 
 shl_held : tie.Need-overflow_shl-held invariant_loop decreases_loop
@@ -59,8 +60,8 @@ cast_held c = omega (arith, c.shared_slice_known-1.given c.before.before.loop-i.
 
 add_held : tie.Need-overflow_add-held invariant_loop decreases_loop
 add_held c =
-    rw (limit_is c.before.before.before.args.width c.before.before.before.requires.width_bound)
-    record { fits = moved_fits c.before.before.before.args.width c.before.before.loop-i.held _ c.before.before.before.requires.width_bound (c.shared_slice_known-1.given c.before.before.loop-i.i).fits }
+    rw (limit_is c.before.before.before.args.width c.before.before.before.requires.0)
+    record { fits = moved_fits c.before.before.before.args.width c.before.before.loop-i.held _ c.before.before.before.requires.0 (c.shared_slice_known-1.given c.before.before.loop-i.i).fits }
 
 add_bits : tie.Need-overflow_add-bits invariant_loop decreases_loop
 add_bits c = omega arith
@@ -109,7 +110,7 @@ returns c =
     let args = c.before.before.args in
     let n : at.i ≡ length args.values.now = omega arith in
     let e : at.at * 8 + at.bits ≡ length args.values.now * args.width = rw n at at.invariant.3.count in
-    let p : length args.part.now ≡ length args.values.now * args.width / 8 = c.before.before.requires.part_len in
+    let p : length args.part.now ≡ length args.values.now * args.width / 8 = c.before.before.requires.1 in
     let whole : length at.part ≤ at.at = omega arith in
     let left : length args.values.now * args.width % 8 ≡ at.bits = omega arith in
     rw left
@@ -117,7 +118,7 @@ returns c =
     ∙ ap (run args.width) (ap (λ (k : ℕ). take k args.values.now) n ∙ take-length args.values.now))
 
 nonzero_rem-held-in-loop-i : tie.Need-nonzero_rem-held-in-loop-i invariant_loop decreases_loop
-nonzero_rem-held-in-loop-i c = search rules
+nonzero_rem-held-in-loop-i c = search std_rules
 
 pub write_run_spec : {M : Type 1} → statement M
 write_run_spec =
