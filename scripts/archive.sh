@@ -32,10 +32,11 @@ are_new() {
 # What `rt lib` has rattle do, over the libraries that are there, which it does not take without a check of its own: the calls are proved
 # over what those state, and compiled.
 build() {
-    local kit words=() below
+    local kit words=() named below
     kit=$(cd "$(dirname "$(readlink -f "$(command -v rt)")")/.." && pwd -P)
     cd crates/niranbok
-    for below in $(sed -n 's/^niranbok staticlib: *//p' ../../crates.txt); do words+=(--extern "$below=../$below/out/rlib/$below.rlib"); done
+    read -r -a named < <(sed -n 's/^niranbok staticlib: *//p' ../../crates.txt)
+    for below in "${named[@]}"; do words+=(--extern "$below=../$below/out/rlib/$below.rlib"); done
     for below in ../*/out/rlib; do words+=(-L "dependency=$below"); done
     "$kit/bin/rattle" build --crate-name niranbok src/lib.rt --crate-type staticlib --backend llvm "$@" "${words[@]}" \
         --extern "std=$kit/rlibs/std.rlib" -L "dependency=$kit/rlibs" --antt-project "$kit/rattle/logic/antt-project.json" \

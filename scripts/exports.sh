@@ -20,19 +20,20 @@ diff <(echo "$declared") <(echo "$shown") | sed -n -e 's/^< /without a line in c
 heads() { # FILE..
     awk '
         /^pub (extern "C" )?fn niranbok_/ { name = $0; sub(/.*fn /, "", name); sub(/\(.*/, "", name); head = body = ""; part = "head" }
-        part == "head" && /^[{]$/ { part = "body" }
+        part == "head" && /[{]$/ { sub(/ ?[{]$/, ""); if ($0) head = head " " $0; part = "body"; next }
         part == "head" { head = head " " $0 }
         part == "body" { body = body $0 }
         part && /^[}]$/ {
             crate = FILENAME; sub(/.*crates\//, "", crate); sub(/\/.*/, "", crate)
-            if (crate == "niranbok") { crate = body; sub(/^[{] */, "", crate); if (!sub("::" name "[(].*", "", crate)) crate = "nothing of its name" }
+            if (crate == "niranbok") { crate = body; sub(/^ */, "", crate); if (!sub("::" name "[(].*", "", crate)) crate = "nothing of its name" }
             sub(/extern "C" /, "", head); gsub(/ +/, " ", head); gsub(/\( /, "(", head); gsub(/, \)/, ")", head)
             print crate ":" head
             part = ""
         }' "$@" | sort
 }
 calls=$(heads "$root"/crates/niranbok/src/*.rt)
-called=$(heads $(grep -l '^pub \(extern "C" \)\?fn niranbok_' "$root"/crates/*/src/*.rt | grep -v /crates/niranbok/))
+mapfile -t libraries < <(grep -l -E '^pub (extern "C" )?fn niranbok_' "$root"/crates/*/src/*.rt | grep -v /crates/niranbok/)
+called=$(heads "${libraries[@]}")
 diff <(echo "$called") <(echo "$calls") | sed -n -e 's/^< /without its export: /p' -e 's/^> /exported otherwise than the library has it: /p' || true
 [ "$called" = "$calls" ] || { echo "FAILED: crates/niranbok does not have the libraries' parameters and clauses"; exit 1; }
 echo "$1 exports the $(echo "$exported" | wc -l) functions of niranbok.h, each once, with the libraries' clauses"
