@@ -169,9 +169,9 @@ returns_3 c =
     let setting = part setting_at setting_length (put setting_at opened_length state said) in
     let whole : length setting ≡ setting_length = length_part setting_at setting_length (put setting_at opened_length state said) (omega (arith, same_len_mid setting_at opened_length state said say.say.kept.0 ∙ l)) in
     close_done state args.frame.now l checks.before.close-refusal.ensures checks.if2.left
-    (closed_state state l p.open_state look.are-bytes.ensures refl version.next_version_lem.ensures
+    (closed_state state l p.open_state look.are-bytes.ensures refl version.next_version.ensures
     (ended.end_Frame.ensures ∙ state_said state counter _ l said say.say.ensures (replicate open_length 0)))
-    (closed_memory state (setting_said state counter _ l said say.say.ensures refl version.next_version_lem.ensures p.open_state.counter) args.frame.now setting _ p.long whole
+    (closed_memory state (setting_said state counter _ l said say.say.ensures refl version.next_version.ensures p.open_state.counter) args.frame.now setting _ p.long whole
     kind.kind-of.ensures word.word.ensures write.write-header.ensures)
 
 pub niranbok_composer_close_spec : {M : Type 1} → statement M

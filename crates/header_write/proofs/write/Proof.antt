@@ -47,8 +47,8 @@ all c = write_refusal c.args.kind c.args.pid (said c) (length c.args.buffer.now)
 abbrev widths : tie.Start → List Check
 widths c = width_checks c.args.kind (said c)
 
-abbrev rules : tie.Start → List Check
-rules c = rule_checks c.args.kind (said c)
+abbrev its_rules : tie.Start → List Check
+its_rules c = rule_checks c.args.kind (said c)
 
 -- a refusal of the setting's own
 refused : (c : tie.Else-setting-ne-SETTING_BYTES) {n : ℕ} → all (start₁ c) ≡ n → (n ≡ 0 → ⊥)
@@ -60,7 +60,7 @@ refused c e h =
 allowed : (c : tie.Else-not-pid_allowed) → pid_allowed (start₃ c).args.pid ≡ true
 allowed c = sym c.before.pid_allowed.ensures ∙ not-false _ c.if-not-pid_allowed.false-raw
 
-past₃ : (c : tie.Else-not-pid_allowed) → all (start₃ c) ≡ first_of (widths (start₃ c) ++ rules (start₃ c))
+past₃ : (c : tie.Else-not-pid_allowed) → all (start₃ c) ≡ first_of (widths (start₃ c) ++ its_rules (start₃ c))
 unfolding write_refusal
 past₃ c = right_call (start₃ c).args.pid _ _ c.before.before.if-buffer-ne-HEADER_LENGTH.false (allowed c)
 
@@ -69,10 +69,10 @@ no_width c =
     width_none (start₄ c).args.kind (said (start₄ c))
     (sym (c.before.width_refusal-width.ensures ∙ at_length _ _ _ c.before.before.before.before.before.if-setting-ne-SETTING_BYTES.false) ∙ c.if-width-ne0.false)
 
-past₄ : (c : tie.Else-width-ne0) → all (start₄ c) ≡ first_of (rules (start₄ c))
-past₄ c = past₃ c.before.before ∙ onward (rules (start₄ c)) (no_width c)
+past₄ : (c : tie.Else-width-ne0) → all (start₄ c) ≡ first_of (its_rules (start₄ c))
+past₄ c = past₃ c.before.before ∙ onward (its_rules (start₄ c)) (no_width c)
 
-rule_is : (c : tie.After-rule_refusal-rule) → c.rule_refusal-rule.result ≡ first_of (rules (start₄ c.before))
+rule_is : (c : tie.After-rule_refusal-rule) → c.rule_refusal-rule.result ≡ first_of (its_rules (start₄ c.before))
 rule_is c = c.rule_refusal-rule.ensures ∙ at_length _ _ _ c.before.before.before.before.before.before.if-setting-ne-SETTING_BYTES.false
 
 returns : tie.Need-returns-then-setting-ne-SETTING_BYTES
@@ -84,7 +84,7 @@ returns_2 : tie.Need-returns-then-buffer-ne-HEADER_LENGTH
 unfolding write_refusal
 returns_2 c =
     let start = start₁ c.before in
-    refused c.before (wrong_length start.args.pid _ (widths start ++ rules start) c.if-buffer-ne-HEADER_LENGTH.true) (omega arith)
+    refused c.before (wrong_length start.args.pid _ (widths start ++ its_rules start) c.if-buffer-ne-HEADER_LENGTH.true) (omega arith)
 
 pid_allowed_requires : tie.Need-pid_allowed-requires
 pid_allowed_requires c κs = search rules
@@ -94,7 +94,7 @@ unfolding write_refusal
 returns_3 c =
     let start = start₂ c.before.before in
     refused c.before.before.before
-    (wrong_pid start.args.pid _ (widths start ++ rules start) c.before.before.if-buffer-ne-HEADER_LENGTH.false (sym c.before.pid_allowed.ensures ∙ not-true _ c.if-not-pid_allowed.true-raw)) (omega arith)
+    (wrong_pid start.args.pid _ (widths start ++ its_rules start) c.before.before.if-buffer-ne-HEADER_LENGTH.false (sym c.before.pid_allowed.ensures ∙ not-true _ c.if-not-pid_allowed.true-raw)) (omega arith)
 
 width_refusal_requires : tie.Need-width_refusal-width-requires
 width_refusal_requires c κs = search rules
@@ -103,7 +103,7 @@ returns_4 : tie.Need-returns-then-width-ne0
 returns_4 c =
     let start = start₃ c.before.before in
     let n = c.before.width_refusal-width.ensures ∙ at_length _ _ _ c.before.before.before.before.before.if-setting-ne-SETTING_BYTES.false in
-    refused c.before.before.before.before.before (past₃ c.before.before ∙ at_once (widths start) (rules start) (λ z. c.if-width-ne0.true (n ∙ z)) ∙ sym n) c.if-width-ne0.true
+    refused c.before.before.before.before.before (past₃ c.before.before ∙ at_once (widths start) (its_rules start) (λ z. c.if-width-ne0.true (n ∙ z)) ∙ sym n) c.if-width-ne0.true
 
 rule_refusal_requires : tie.Need-rule_refusal-rule-requires
 rule_refusal_requires c κs = search rules

@@ -95,8 +95,8 @@ returns c =
     let k = r.before.before.before in
     let s = start k in
     left_refused k r.check-heard.result.refusal.number
-    (read_shows s.args.b s.args.group.now s.requires.0.1 k.loop-j.j (omega arith) k.loop-j.behind k.loop-j.group_id_lem k.loop-j.invariant.0 r.check-heard.result r.check-heard.ensures t.if-refusal-ne0.true)
-    (read_refused_lem s.args.b s.args.group.now s.requires.0.1 k.loop-j.j (omega arith) k.loop-j.behind k.loop-j.group_id_lem k.loop-j.invariant.0 r.check-heard.result r.check-heard.ensures t.if-refusal-ne0.true)
+    (read_shows s.args.b s.args.group.now s.requires.0.1 k.loop-j.j (omega arith) k.loop-j.behind k.loop-j.group_id k.loop-j.invariant.0 r.check-heard.result r.check-heard.ensures t.if-refusal-ne0.true)
+    (read_refused_lem s.args.b s.args.group.now s.requires.0.1 k.loop-j.j (omega arith) k.loop-j.behind k.loop-j.group_id k.loop-j.invariant.0 r.check-heard.result r.check-heard.ensures t.if-refusal-ne0.true)
     t.if-refusal-ne0.true o.refused.ensures
 
 same_length : tie.Need-shape_of-frames-then-refusal-ne0 invariant_loop decreases_loop
@@ -122,7 +122,7 @@ standing_refusal_requires : tie.Need-standing_refusal-standing-requires invarian
 standing_refusal_requires c κs =
     let k = turn₂ c in
     let s = start k in
-    behind_few s.args.b s.args.group.now k.loop-j.behind k.loop-j.group_id_lem k.loop-j.j k.loop-j.invariant.0
+    behind_few s.args.b s.args.group.now k.loop-j.behind k.loop-j.group_id k.loop-j.j k.loop-j.invariant.0
 
 -- what the header said
 said_so : (c : tie.Else-refusal-ne0 invariant_loop decreases_loop) → c.before.before.before.check-heard.result ≡ parts_of (bare 0) (said (start (turn₁ c)).args.group.now (turn₁ c).loop-j.j)
@@ -137,7 +137,7 @@ shown_so : (c : tie.After-shown_by-shown invariant_loop decreases_loop) → c.sh
 shown_so c = c.shown_by-shown.ensures _ (said_so c.before)
 
 -- the group id that it is held against is the first header's
-group_so : (c : tie.Joined-j-eq0 invariant_loop decreases_loop) → c.if-j-eq0.group_id_lem ≡ (said (start (turn₂ c)).args.group.now 0).group_id
+group_so : (c : tie.Joined-j-eq0 invariant_loop decreases_loop) → c.if-j-eq0.group_id ≡ (said (start (turn₂ c)).args.group.now 0).group_id
 unfolding shown_by
 group_so c =
     let k = turn₂ c in
@@ -176,7 +176,7 @@ returns_2 c =
     let s = start k in
     left_refused k t.standing_refusal-standing.result
     (refused_bare t.standing_refusal-standing.result _ shown.bare.ensures (λ z. not_of_standing _ _ _ _ (sym (standing_is t) ∙ z)) refl)
-    (standing_refused s.args.b s.args.group.now s.requires.0.1 k.loop-j.j (omega arith) k.loop-j.behind k.loop-j.group_id_lem k.loop-j.invariant.0
+    (standing_refused s.args.b s.args.group.now s.requires.0.1 k.loop-j.j (omega arith) k.loop-j.behind k.loop-j.group_id k.loop-j.invariant.0
     r.check-heard.result r.check-heard.ensures t.before.before.before.if-refusal-ne0.false t.standing_refusal-standing.result (standing_is t) f.if-standing-ne0.true)
     f.if-standing-ne0.true o.refused-then-standing-ne0.ensures
 
@@ -200,7 +200,7 @@ room c =
     let r = t.before.before.before.before.before.before in
     let k = turn₃ c in
     let s = start k in
-    let each = stand_each s.args.b s.args.group.now s.requires.0.1 k.loop-j.j (omega arith) k.loop-j.behind k.loop-j.group_id_lem k.loop-j.invariant.0
+    let each = stand_each s.args.b s.args.group.now s.requires.0.1 k.loop-j.j (omega arith) k.loop-j.behind k.loop-j.group_id k.loop-j.invariant.0
     r.check-heard.result r.check-heard.ensures t.before.before.before.if-refusal-ne0.false (sym (standing_is t) ∙ c.if-standing-ne0.false) in
     let here = ap (λ (h : Shown). h.carrier_sequence) (shown_so t.before.before) in
     record {
@@ -265,9 +265,9 @@ loop_again c =
     let o = room passed in
     let first = o.first in
     let carrier = o.carrier in (
-      through_more s.args.b s.args.group.now s.requires.0.1 k.loop-j.j (omega arith) k.loop-j.behind k.loop-j.group_id_lem k.loop-j.invariant.0
+      through_more s.args.b s.args.group.now s.requires.0.1 k.loop-j.j (omega arith) k.loop-j.behind k.loop-j.group_id k.loop-j.invariant.0
           r.check-heard.result r.check-heard.ensures t.before.before.before.if-refusal-ne0.false (sym (standing_is t) ∙ passed.if-standing-ne0.false)
-          t.before.before.shown_by-shown.result t.before.if-j-eq0.group_id_lem (shown_so t.before.before) (group_so t.before),
+          t.before.before.shown_by-shown.result t.before.if-j-eq0.group_id (shown_so t.before.before) (group_so t.before),
       written-more k.loop-j.invariant.1 t.before.before.shown_by-shown.result bonds.bonded_by-bonded.result.marks bonds.bonded_by-bonded.result.is_carried
           c.before.before.before.before.before.before.before.before.set_frames.ensures c.before.before.before.before.set_slots.ensures
           (shown_so t.before.before) (said_here_lem.1 ∙ ap (marks s.args.b) same) (said_here_lem.0 ∙ ap (carries s.args.b) same) (omega arith) o.frame,
@@ -291,7 +291,7 @@ returns_3 c =
     let k = e.before.before in
     let s = start k in
     left_refused k 14 (refused_bare 14 _ shown.bare-then-not-is_end.ensures (omega arith) refl)
-    (missing s.args.b s.args.group.now k.loop-j.behind k.loop-j.group_id_lem k.loop-j.j k.loop-j.invariant.0 (omega arith) (sym e.is_end.ensures ∙ not-true _ f.if-not-is_end.true-raw))
+    (missing s.args.b s.args.group.now k.loop-j.behind k.loop-j.group_id k.loop-j.j k.loop-j.invariant.0 (omega arith) (sym e.is_end.ensures ∙ not-true _ f.if-not-is_end.true-raw))
     (λ z. omega arith) o.refused-then-not-is_end.ensures
 
 same_length_5 : tie.Need-shape_of-frames-then-not-is_end invariant_loop decreases_loop
@@ -314,7 +314,7 @@ returns_4 c =
     let all : k.loop-j.j ≡ frames_in a.group.now = omega arith in
     leaves_by a.frames.now a.slots.now
     (planned_all a.b a.group.now
-    (none_missing a.b a.group.now k.loop-j.behind k.loop-j.group_id_lem k.loop-j.j k.loop-j.invariant.0 (omega arith) (sym e.is_end.ensures ∙ not-false _ shown.if-not-is_end.false-raw)))
+    (none_missing a.b a.group.now k.loop-j.behind k.loop-j.group_id k.loop-j.j k.loop-j.invariant.0 (omega arith) (sym e.is_end.ensures ∙ not-false _ shown.if-not-is_end.false-raw)))
     (written_all (written k) c.bare-2.ensures all)
 
 same_length_7 : tie.Need-shape_of-frames invariant_loop decreases_loop

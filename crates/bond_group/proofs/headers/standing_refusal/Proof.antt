@@ -29,7 +29,7 @@ start₅ c = start₄ c.before.before
 
 -- the first k checks do not hold
 abbrev Passed : tie.Start → ℕ → Type 0
-Passed c k = Past k (standing_checks c.args.carriers c.args.group_id_lem c.args.behind c.args.h)
+Passed c k = Past k (standing_checks c.args.carriers c.args.group_id c.args.behind c.args.h)
 
 past_1 : (c : tie.Else-is_end) → Passed c.before.before 1
 unfolding standing_checks
