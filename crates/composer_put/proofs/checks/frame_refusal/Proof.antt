@@ -56,14 +56,14 @@ kind-told : (c : tie.Else-refused-ne0) → c.kind_of-kind.result ≡ (composer_o
 kind-told c = c.kind_of-kind.ensures ∙ sym (kind_there c.args.state.now)
 
 streams-told : (c : tie.After-size_of-size) → c.size_of-size.result.streams ≡ streams_of (composer_of c.args.state.now).kind
-streams-told c = ap (λ (z : Size). z.streams) c.size_of-size.ensures ∙ ap streams_of (kind-told c.before.before.before.before)
+streams-told c = ap (λ (z : Size). z.streams) c.size_of-size.ensures ∙ ap streams_of (kind-told c.before.before.before)
 
 -- what is asked of the state's bytes
 state_told : (c : tie.After-state_refusal-refused) → c.state_refusal-refused.result ≡ first_of (states c.before.before.before.before.before.before.before.before)
 state_told c =
     c.state_refusal-refused.ensures ∙ at_length _ _ _ c.requires
 
-open_told : (c : tie.After-open_refusal) → c.open_refusal.result ≡ first_of (opens c.before.before.before.before.before.before.before.before.before.before.before.before.before.before.before.before.before)
+open_told : (c : tie.After-open_refusal) → c.open_refusal.result ≡ first_of (opens c.before.before.before.before.before.before.before.before.before.before.before.before.before.before.before.before)
 open_told c =
     c.open_refusal.ensures ∙ at_length _ _ _ c.requires
 
@@ -82,12 +82,12 @@ past₃ c =
     past₂ c.before.before
     ∙ onward (numbers c.before.before.before.before.before.before.before.before.before) (state_none (composer_of c.args.state.now) (sym (state_told c.before) ∙ c.if-refused-ne0.false))
 
-past₄ : (c : tie.Else-size-number) → all c.before.before.before.before.before.before.before.before.before.before.before.before.before.before.before.before ≡ first_of (opens c.before.before.before.before.before.before.before.before.before.before.before.before.before.before.before.before ++ streams c.before.before.before.before.before.before.before.before.before.before.before.before.before.before.before.before)
+past₄ : (c : tie.Else-size-number) → all c.before.before.before.before.before.before.before.before.before.before.before.before.before.before.before ≡ first_of (opens c.before.before.before.before.before.before.before.before.before.before.before.before.before.before.before ++ streams c.before.before.before.before.before.before.before.before.before.before.before.before.before.before.before)
 past₄ c =
     let n = number-told c.before.before.before.before in
     let low : c.args.r.0 ≤ streams_of (composer_of c.args.state.now).kind =
     omega (arith, n.1, streams-told c.before.before.before, c.if-size-number.false) in
-    past₃ c.before.before.before.before.before.before.before ∙ passed _ _ (ap not (between first_stream _ _ (at_least first_stream last_stream _ n.0) low))
+    past₃ c.before.before.before.before.before.before ∙ passed _ _ (ap not (between first_stream _ _ (at_least first_stream last_stream _ n.0) low))
 
 shared_slice_read_kind_of : tie.Need-bounds-state-2
 shared_slice_read_kind_of c = search rules
@@ -139,14 +139,14 @@ returns_5 c =
     let n = number-told c.before.before.before.before in
     let high : streams_of (composer_of c.args.state.now).kind < c.args.r.0 =
     omega (arith, n.1, streams-told c.before.before.before, c.if-size-number.true) in
-    past₃ c.before.before.before.before.before.before.before ∙ answers _ _ (ap not (past first_stream _ _ (at_least first_stream last_stream _ n.0) high))
+    past₃ c.before.before.before.before.before.before ∙ answers _ _ (ap not (past first_stream _ _ (at_least first_stream last_stream _ n.0) high))
 
 open_refusal_requires : tie.Need-open_refusal-requires
 open_refusal_requires c κs = search rules
 
 returns_6 : tie.Need-returns
 returns_6 c =
-    rw (open_told c) (past₄ c.before ∙ in_parts (opens c.before.before.before.before.before.before.before.before.before.before.before.before.before.before.before.before.before) (streams c.before.before.before.before.before.before.before.before.before.before.before.before.before.before.before.before.before) (open_none (composer_of c.args.state.now)))
+    rw (open_told c) (past₄ c.before ∙ in_parts (opens c.before.before.before.before.before.before.before.before.before.before.before.before.before.before.before.before) (streams c.before.before.before.before.before.before.before.before.before.before.before.before.before.before.before.before) (open_none (composer_of c.args.state.now)))
 
 pub frame_refusal_spec : {M : Type 1} → statement M
 frame_refusal_spec =

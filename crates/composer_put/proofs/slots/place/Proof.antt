@@ -226,7 +226,7 @@ same_length_2 : tie.Need-shape_of-filled invariant_loop decreases_loop
 same_length_2 c = c.loop-rest.invariant.2 ∙ sym c.requires.0.1
 
 -- for the slots that these are the bits of
-module _ (c : tie.After-loop-rest invariant_loop decreases_loop) (empty : List Bool) (l : length empty ≡ last_slot) (e : (start c.before).args.slots ≡ slots_as_bits empty) where
+module _ (c : tie.After-loop-rest invariant_loop decreases_loop) (empty : List Bool) (l : length empty ≡ last_slot) (e : c.args.slots ≡ slots_as_bits empty) where
   those : Placing empty c.args.stream.now c.args.frame.now c.args.filled.now
       c.loop-rest.frame c.loop-rest.filled (drop c.loop-rest.at c.args.stream.now) c.loop-rest.rest
   those = let of = c.loop-rest.invariant.5 in rw (same_slots empty of.0 (l ∙ sym of.1) (sym e ∙ of.2)) of.3
@@ -234,8 +234,8 @@ module _ (c : tie.After-loop-rest invariant_loop decreases_loop) (empty : List B
 returns : tie.Need-returns invariant_loop decreases_loop
 returns c =
     let stream = c.args.stream.now in (
-      λ empty l e. take_all (length stream - c.loop-rest.at) (drop c.loop-rest.at stream) (rw length-drop (omega arith)) ∙ rest_done _ _ _ _ (those c empty l e) (none c.before),
-      (λ empty l e. frame_done _ _ _ _ (those c empty l e) (none c.before), λ empty l e. marks_done _ _ _ _ (those c empty l e) (none c.before) c.loop-rest.invariant.2 c.loop-rest.invariant.3),
+      λ empty l e. take_all (length stream - c.loop-rest.at) (drop c.loop-rest.at stream) (rw length-drop (omega arith)) ∙ rest_done _ _ _ _ (those c.before empty l e) (none c.before),
+      (λ empty l e. frame_done _ _ _ _ (those c.before empty l e) (none c.before), λ empty l e. marks_done _ _ _ _ (those c.before empty l e) (none c.before) c.loop-rest.invariant.2 c.loop-rest.invariant.3),
     )
 
 pub place_spec : {M : Type 1} → statement M
