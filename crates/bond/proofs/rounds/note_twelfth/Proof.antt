@@ -97,7 +97,7 @@ loop_again c =
     let k = c.loop-k.k in
     let t = c.args.twelfth in
     let next = carrier-next p.0 t k p.1.0 c.loop-k-test.true i.1 in
-    elim c.if-part-eq0.branch [ then-part-eq0 w ↦ (rw (w.1, w.n-is, i.1) (here-more p.0 t k p.1.0 c.loop-k-test.true i.0 w.if-part-eq0.true), next.0, next.1) | else-part-eq0 w ↦ (rw (w.1, w.n-is) (here_less p.0 t k p.1.0 c.loop-k-test.true i.0 w.if-part-eq0.false), next.0, next.1) ]
+    elim c.if-part-eq0.branch [ then-part-eq0 w ↦ (rw (w.notes-is, w.n-is, i.1) (here-more p.0 t k p.1.0 c.loop-k-test.true i.0 w.if-part-eq0.true), next.0, next.1) | else-part-eq0 w ↦ (rw (w.notes-is, w.n-is) (here_less p.0 t k p.1.0 c.loop-k-test.true i.0 w.if-part-eq0.false), next.0, next.1) ]
 
 same_length : tie.Need-shape_of-notes invariant_loop decreases_loop
 same_length c = c.loop-k.invariant.0.long ∙ sym c.requires.1.1.long
