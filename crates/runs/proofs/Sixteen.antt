@@ -16,7 +16,7 @@ use Rattle.header_read.specs.declared.Reading.{Reading}
 use Rattle.setting.specs.declared.Announced.{Announced}
 use Rattle.packet.specs.Packets.{packet_length, slot, unfit}
 use Rattle.setting.specs.Announcing.{announced}
-use Rattle.composer.specs.Composing.{saying}
+use Rattle.composer.specs.Composing.{counter_behind, version_behind, saying}
 use Rattle.setting_bytes.specs.Words.{word_bytes}
 use Rattle.setting_bytes.specs.Kinds.{kind_of, kind_number}
 use Rattle.setting_bytes.proofs.KindsBack.{kind_back}
@@ -95,7 +95,7 @@ eighteen = cycles Kind.Plain (replicate 18 the_setting)
 length-behind : (counter version : ℕ) (last : Announced) (ks : List Work) → length (headed_behind counter version last ks) ≡ length ks
 unfolding headed_behind
 length-behind counter version last [] = refl
-length-behind counter version last (k ∷ ks) = ap suc (length-behind _ _ _ ks)
+length-behind counter version last (k ∷ ks) = ap suc (length-behind (counter_behind counter) (version_behind version last k.setting) (announced k.setting) ks)
 
 abbrev h₀ : Setting × Work
 h₀ = (said 0 0 the_work, the_work)

@@ -326,6 +326,7 @@ same_opens (ready_at _) (ready_at _) = (refl, refl)
 
 follows_on : {slots : ℕ} {a b : Stage} (c : Stage) → Follows slots a b → Follows slots b c → Follows slots a c
 follows_on c f dropped = dropped
+follows_on {slots = slots} {a = a} c dropped (goes_on from' k' j' o' p' h' l') = elim o' [ ]
 follows_on c (goes_on from k j o p h l) (goes_on from' k' j' o' p' h' l') =
     goes_on from k j' o (subst (λ (n : ℕ). Opens c n j') (sym (same_opens p o').0) p') h l'
 

@@ -97,11 +97,11 @@ pub record From (kind : Kind) (pid : ℕ) (fs : List (List ℕ)) : Type 0 where
 
 pub counted_front : {kind : Kind} {pid n : ℕ} (xs ys : List (List ℕ)) → Counted kind pid n (xs ++ ys) → Counted kind pid n xs
 counted_front [] ys c = no_more
-counted_front (x ∷ xs) ys (and_then g c) = and_then g (counted_front xs ys c)
+counted_front {n = n} (x ∷ xs) ys (and_then g c) = and_then g (counted_front {n = (n + 1) % 16} xs ys c)
 
 pub counted_rest : {kind : Kind} {pid n : ℕ} (xs : List (List ℕ)) {ys : List (List ℕ)} → Counted kind pid n (xs ++ ys) → From kind pid ys
 counted_rest {n = n} [] c = record { n = n; counts = c }
-counted_rest (x ∷ xs) (and_then g c) = counted_rest xs c
+counted_rest {n = n} (x ∷ xs) (and_then g c) = counted_rest {n = (n + 1) % 16} xs c
 
 pub stretch : (kind : Kind) (pid : ℕ) (calls : List Call) → pid_allowed pid ≡ true → Each OfTypes calls → (before fs after : List (List ℕ))
     → frames_of (started kind pid) calls ≡ before ++ (fs ++ after) → From kind pid fs

@@ -56,13 +56,16 @@ loop-i-preserved c =
     let at = c.loop-i in
     let args = c.args in
     let taken_in = loaded (goal.at.loop-i-preserved c).After-shared_slice_known-1 in
-    elim c.if-bits-ge8.branch [ then-bits-ge8 w ↦ rw (w.part-is, w.bits-is, w.at-is) (
-      omega arith,
-      omega arith,
-      simp length-set at.invariant.2,
-      packed_out at.part args.values.now args.width _ (at.bits + args.width) at.at (at.i + 1) taken_in w.if-bits-ge8.true
-          (room (goal.at.loop-i-preserved c).After-shared_slice_known-1 w.if-bits-ge8.true),
-    ) | else-bits-ge8 w ↦ rw (w.part-is, w.bits-is, w.at-is) (omega arith, w.if-bits-ge8.false, at.invariant.2, taken_in) ]
+    elim c.if-bits-ge8.branch [
+      | then-bits-ge8 w ↦ rw (w.part-is, w.bits-is, w.at-is) (
+        omega arith,
+        omega arith,
+        simp length-set at.invariant.2,
+        packed_out at.part args.values.now args.width _ (at.bits + args.width) at.at (at.i + 1) taken_in w.if-bits-ge8.true
+            (room (goal.at.loop-i-preserved c).After-shared_slice_known-1 w.if-bits-ge8.true),
+      )
+      | else-bits-ge8 w ↦ rw (w.part-is, w.bits-is, w.at-is) (omega arith, w.if-bits-ge8.false, at.invariant.2, taken_in)
+    ]
 
 pub returns : goal.returns
 returns c =
