@@ -14,30 +14,25 @@ use Rattle.composer_begin.proofs.Opened.{still_long, as_long, opened_parts}
 use Rattle.composer_begin.proofs.open.Statement.{statement}
 use Rattle.composer_begin.proofs.open.Tie as tie
 
--- from the place behind the copy to the function's start
-abbrev start : tie.After-copy → tie.Start
-start c = c.before.before.before.before
-
 -- the setting's bytes
-setting_is : (c : tie.After-copy) → c.copy.new.dst ≡ (start c).args.setting.now
-setting_is c = c.copy.ensures ∙ copied-over _ _ (part-long (start c).args.state.now (start c).requires.0 ∙ sym (start c).requires.1)
+setting_is : (c : tie.After-copy) → c.copy.new.dst ≡ c.args.setting.now
+setting_is c = c.copy.ensures ∙ copied-over _ _ (part-long c.args.state.now c.requires.0 ∙ sym c.requires.1)
   where
     part-long : (b : List ℕ) → length b ≡ composer_length → length (part setting_at setting_length (set b open_at 1)) ≡ setting_length
     part-long b long = length_part setting_at setting_length (set b open_at 1) (rw (length-set b open_at 1) (omega arith))
 
 setting_in_lem : (c : tie.After-copy) → length c.copy.new.dst ≡ setting_length
-setting_in_lem c = ap length (setting_is c) ∙ (start c).requires.1
+setting_in_lem c = ap length (setting_is c) ∙ c.requires.1
 
 -- as long as before, behind the copy
-long_then : (c : tie.After-copy) → length (put setting_at setting_length (set (start c).args.state.now open_at 1) c.copy.new.dst) ≡ composer_length
-long_then c = still_long (start c).args.state.now c.copy.new.dst (start c).requires.0 (setting_in_lem c)
+long_then : (c : tie.After-copy) → length (put setting_at setting_length (set c.args.state.now open_at 1) c.copy.new.dst) ≡ composer_length
+long_then c = still_long c.args.state.now c.copy.new.dst c.requires.0 (setting_in_lem c)
 
 -- no marks
 marks_are : (c : tie.After-fill) → c.fill.new.dst ≡ replicate last_slot 0
 marks_are c =
-    let k = c.before.before.before.before in
-    let state = put setting_at setting_length (set (start k).args.state.now open_at 1) k.copy.new.dst in
-    let long : length state ≡ composer_length = long_then k in
+    let state = put setting_at setting_length (set c.args.state.now open_at 1) c.copy.new.dst in
+    let long : length state ≡ composer_length = long_then c.before.before.before.before in
     c.fill.ensures ∙ ap (λ (n : ℕ). replicate n 0) (length_part filled_at last_slot state (omega arith))
 
 marks_out : (c : tie.After-fill) → length c.fill.new.dst ≡ last_slot
@@ -53,7 +48,7 @@ part_copy_start : tie.Need-slice_bounds-copy-start
 part_copy_start c = search rules
 
 part_copy_end : tie.Need-slice_bounds-copy-end
-part_copy_end c = rw (length-set c.before.before.args.state.now open_at 1) (omega (arith, c.before.before.requires.0))
+part_copy_end c = rw (length-set c.args.state.now open_at 1) (omega (arith, c.requires.0))
 
 copy_requires : tie.Need-copy-requires
 copy_requires c κs = search rules
@@ -72,12 +67,14 @@ part_fill_end c =
 fill_requires : tie.Need-fill-requires
 fill_requires c κs = search rules
 
+same_length : tie.Need-shape_of-state
+same_length c =
+    as_long c.args.state.now c.copy.new.dst c.requires.0 (setting_in_lem c.before.before.before.before.before.before) c.fill.new.dst (marks_out c.before.before)
+
 returns : tie.Need-returns
 returns c =
-    let f = c.before.before in
-    let k = f.before.before.before.before in
-    opened_parts (start k).args.state.now k.copy.new.dst (start k).requires.0 (setting_in_lem k) f.fill.new.dst (marks_out f)
-    ∙ ap₂ (λ (s : List ℕ) (m : List ℕ). take open_at (start k).args.state.now ++ (1 ∷ (s ++ m))) (setting_is k) (marks_are f)
+    opened_parts c.args.state.now c.copy.new.dst c.requires.0 (setting_in_lem c.before.before.before.before.before.before) c.fill.new.dst (marks_out c.before.before)
+    ∙ ap₂ (λ (s : List ℕ) (m : List ℕ). take open_at c.args.state.now ++ (1 ∷ (s ++ m))) (setting_is c.before.before.before.before.before.before) (marks_are c.before.before)
 
 pub open_spec : {M : Type 1} → statement M
 open_spec =
@@ -92,4 +89,5 @@ open_spec =
     part_fill_start
     part_fill_end
     fill_requires
+    same_length
     returns)

@@ -1,4 +1,5 @@
 -- `number_of` meets its contract: after k turns the number is that among 1 to k. Assumes nothing.
+use Rattle.bond_group.proofs.headers.number_of.Goals.{then-ts_id-b}
 use Prim.Native.Nat.{ℕ, ◌+◌, ◌-◌, ◌≤◌}
 use mathlib.Core.Path.{◌≡◌, refl, sym, ap, ◌∙◌}
 use mathlib.Core.List.{List}
@@ -95,29 +96,27 @@ loop_less c = omega arith
 
 loop_again : tie.Need-loop-k-preserved invariant_loop decreases_loop
 loop_again c =
-    let loop = c.before.before.before.before.before.before.before.before.before in
-    let start = loop.before.before.before in
-    let a = start.args in
-    let k = loop.loop-k.k in
-    let held = loop.loop-k.invariant.1 in
-    let ts : c.before.before.before.before.before.word-ts_id.result ≡ get_or (ids_apart 4 last_stream a.ts.now) k 0 = c.before.before.before.before.before.word-ts_id.ensures ∙ sym (apart_at 4 last_stream k a.ts.now (omega arith)) in
-    let os : c.before.before.word-network_id.result ≡ get_or (ids_apart 4 last_stream a.os.now) k 0 = c.before.before.word-network_id.ensures ∙ sym (apart_at 4 last_stream k a.os.now (omega arith)) in (
+    let a = c.args in
+    let k = c.loop-k.k in
+    let held = c.loop-k.invariant.1 in
+    let ts : c.word-ts_id.result ≡ get_or (ids_apart 4 last_stream a.ts.now) k 0 = c.word-ts_id.ensures ∙ sym (apart_at 4 last_stream k a.ts.now (omega arith)) in
+    let os : c.word-network_id.result ≡ get_or (ids_apart 4 last_stream a.os.now) k 0 = c.word-network_id.ensures ∙ sym (apart_at 4 last_stream k a.os.now (omega arith)) in (
       omega arith,
       λ s e f g.
-          ⊎_elim (λ w. w.5 ∙ sym (turn a.b s k e f g (eq-eqb _ _ (sym ts ∙ w.0.taken)) (eq-eqb _ _ (sym os ∙ w.2.taken)) (sym w.3.ensures ∙ w.4.taken)))
-          (⊎_elim (λ w. w.5 ∙ held s e f g ∙ sym (turn a.b s k e f g (eq-eqb _ _ (sym ts ∙ w.0.taken)) (eq-eqb _ _ (sym os ∙ w.2.taken)) (sym w.3.ensures ∙ w.4.left)))
-          (⊎_elim (λ w. w.3 ∙ held s e f g ∙ sym (turn a.b s k e f g (eq-eqb _ _ (sym ts ∙ w.0.taken)) (ne_eqb (get_or (ids_apart 4 last_stream a.os.now) k 0) a.b.original_network_id (λ z. w.2.left (os ∙ z))) refl))
-          (λ w. w.1 ∙ held s e f g ∙ sym (turn a.b s k e f g (ne_eqb (get_or (ids_apart 4 last_stream a.ts.now) k 0) a.b.ts_id (λ z. w.0.left (ts ∙ z))) refl refl))))
-          c.if-ts_id-b.branch,
-      ⊎_elim (λ w. omega (arith, w.5)) (⊎_elim (λ w. omega (arith, w.5)) (⊎_elim (λ w. omega (arith, w.3)) (λ w. omega (arith, w.1)))) c.if-ts_id-b.branch,
+          elim c.if-ts_id-b.branch [
+            | then-ts_id-b w ↦ w.number-is ∙ sym (turn a.b s k e f g (eq-eqb _ _ (sym ts ∙ w.if-ts_id-b.true)) (eq-eqb _ _ (sym os ∙ w.2.taken)) (sym w.3.ensures ∙ w.4.taken))
+            | else-ts_id-b w ↦ (TODO_elim (λ w. w.5 ∙ held s e f g ∙ sym (turn a.b s k e f g (eq-eqb _ _ (sym ts ∙ w.0.taken)) (eq-eqb _ _ (sym os ∙ w.2.taken)) (sym w.3.ensures ∙ w.4.left)))
+                (TODO_elim (λ w. w.3 ∙ held s e f g ∙ sym (turn a.b s k e f g (eq-eqb _ _ (sym ts ∙ w.0.taken)) (ne_eqb (get_or (ids_apart 4 last_stream a.os.now) k 0) a.b.original_network_id (λ z. w.2.left (os ∙ z))) refl))
+                (λ w. w.1 ∙ held s e f g ∙ sym (turn a.b s k e f g (ne_eqb (get_or (ids_apart 4 last_stream a.ts.now) k 0) a.b.ts_id (λ z. w.0.left (ts ∙ z))) refl refl)))) w
+          ],
+      elim c.if-ts_id-b.branch [ then-ts_id-b w ↦ omega (arith, w.number-is) | else-ts_id-b w ↦ (TODO_elim (λ w. omega (arith, w.5)) (TODO_elim (λ w. omega (arith, w.3)) (λ w. omega (arith, w.1)))) w ],
     )
 
 returns : tie.Need-returns invariant_loop decreases_loop
 unfolding number_of
 returns c =
-    let k = c.before in
-    let all : k.loop-k.k ≡ last_stream = omega arith in
-    (λ s e f g. k.loop-k.invariant.1 s e f g ∙ ap (number_up_to k.before.before.before.args.b s) all, k.loop-k.invariant.2)
+    let all : c.loop-k.k ≡ last_stream = omega arith in
+    (λ s e f g. c.loop-k.invariant.1 s e f g ∙ ap (number_up_to c.args.b s) all, c.loop-k.invariant.2)
 
 pub number_of_spec : {M : Type 1} → statement M
 number_of_spec =

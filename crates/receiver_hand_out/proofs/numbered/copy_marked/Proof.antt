@@ -26,72 +26,66 @@ invariant_loop out₀ from store first marks rest₀ at₀ out rest at =
 abbrev decreases_loop : tie.decreases-loop-rest
 decreases_loop out₀ from store first marks rest₀ at₀ out rest at = rest
 
--- what the call was given
-abbrev start : tie.At-loop-rest invariant_loop decreases_loop → tie.Start invariant_loop decreases_loop
-start c = c.before.before.before
-
 -- the packets of the sixteen slots and of those behind them
 abbrev behind : tie.At-loop-rest invariant_loop decreases_loop → List ℕ
-behind c = drop (packet_length * (start c).args.first) (start c).args.store.now
+behind c = drop (packet_length * c.args.first) c.args.store.now
 
 -- the next slot that is marked
 abbrev Found : tie.In-loop-rest invariant_loop decreases_loop → Type 0
 Found c =
-    Next (start c.before).args.marks (start c.before).requires.0 (behind c.before) (start c.before).args.out.now (start c.before).args.from
-    c.before.loop-rest.out c.before.loop-rest.at c.before.loop-rest.rest
+    Next c.args.marks c.requires.0 (behind c.before) c.args.out.now c.args.from
+    c.loop-rest.out c.loop-rest.at c.loop-rest.rest
 
 found : (c : tie.In-loop-rest invariant_loop decreases_loop) → Found c
-found c = next _ _ _ _ _ _ _ 16 (omega arith) c.before.loop-rest.invariant.3 c.before.loop-rest.invariant.4 c.loop-rest-test.true
+found c = next _ _ _ _ _ _ _ 16 (omega arith) c.loop-rest.invariant.3 c.loop-rest.invariant.4 c.loop-rest-test.true
 
-zeros_are : (c : tie.In-loop-rest invariant_loop decreases_loop) → count_leading_zeros 64 c.before.loop-rest.rest ≡ 4 * (found c).place
+zeros_are : (c : tie.In-loop-rest invariant_loop decreases_loop) → count_leading_zeros 64 c.loop-rest.rest ≡ 4 * (found c).place
 zeros_are c = zeros _ _ _ _ _ _ _ (found c)
 
 inside : (c : tie.In-loop-rest invariant_loop decreases_loop) → (found c).place < 16
 inside c = (found c).inside
 
 -- whose packet is stored
-stored : (c : tie.In-loop-rest invariant_loop decreases_loop) → packet_length * ((start c.before).args.first + (found c).place + 1) ≤ length (start c.before).args.store.now
+stored : (c : tie.In-loop-rest invariant_loop decreases_loop) → packet_length * (c.args.first + (found c).place + 1) ≤ length c.args.store.now
 stored c =
-    let l = length-halves (start c.before).args.marks in
+    let l = length-halves c.args.marks in
     let next = inside c in
-    let left = length-drop (packet_length * (start c.before).args.first) (start c.before).args.store.now in
-    let held = has_at (start c.before).requires.1 (found c).place (omega arith) (found c).here in
+    let left = length-drop (packet_length * c.args.first) c.args.store.now in
+    let held = has_at c.requires.1 (found c).place (omega arith) (found c).here in
     omega arith
 
 -- for which there is room
-room : (c : tie.In-loop-rest invariant_loop decreases_loop) → c.before.loop-rest.at + packet_length ≤ length (start c.before).args.out.now
+room : (c : tie.In-loop-rest invariant_loop decreases_loop) → c.loop-rest.at + packet_length ≤ length c.args.out.now
 room c =
-    let l = length-halves (start c.before).args.marks in
+    let l = length-halves c.args.marks in
     let next = inside c in
-    room_for _ _ _ _ _ (found c).handed (omega arith) (found c).here (start c.before).requires.2
+    room_for _ _ _ _ _ (found c).handed (omega arith) (found c).here c.requires.2
 
 -- which is copied
 copied : (c : tie.After-copy invariant_loop decreases_loop)
     → c.copy.new.dst ≡ take packet_length (drop (packet_length * (found c.before.before.before).place) (behind c.before.before.before.before))
 copied c =
-    let t = c.before.before.before in
-    let k = t.before in
-    let first = packet_length * (start k).args.first in
-    let from = packet_length * ((start k).args.first + count_leading_zeros 64 k.loop-rest.rest / 4) in
-    let store = (start k).args.store.now in
-    let left = room t in
-    let long = stored t in
-    let z = zeros_are t in
-    let there : k.loop-rest.at + packet_length - k.loop-rest.at ≡ packet_length = omega arith in
+    let first = packet_length * c.args.first in
+    let from = packet_length * (c.args.first + count_leading_zeros 64 c.loop-rest.rest / 4) in
+    let store = c.args.store.now in
+    let left = room c.before.before.before in
+    let long = stored c.before.before.before in
+    let z = zeros_are c.before.before.before in
+    let there : c.loop-rest.at + packet_length - c.loop-rest.at ≡ packet_length = omega arith in
     let here : from + packet_length - from ≡ packet_length = omega arith in
-    let slot : from ≡ first + packet_length * (found t).place = omega arith in
+    let slot : from ≡ first + packet_length * (found c.before.before.before).place = omega arith in
     c.copy.ensures
     ∙ copied-over _ _
-    (mid_len k.loop-rest.at (k.loop-rest.at + packet_length) k.loop-rest.out (omega arith) ∙ there
+    (mid_len c.loop-rest.at (c.loop-rest.at + packet_length) c.loop-rest.out (omega arith) ∙ there
     ∙ sym (mid_len from (from + packet_length) store (omega arith) ∙ here))
     ∙ ap (λ (n : ℕ). take n (drop from store)) here
     ∙ ap (λ (n : ℕ). take packet_length (drop n store)) slot
-    ∙ ap (take packet_length) (sym (drop-drop (packet_length * (found t).place) first store))
+    ∙ ap (take packet_length) (sym (drop-drop (packet_length * (found c.before.before.before).place) first store))
 
 loop_holds : tie.Need-loop-rest-init invariant_loop decreases_loop
 loop_holds c =
-    let l = length-halves c.before.before.args.marks in
-    (0, omega arith, refl, handing_none _ _ _ _ _ c.before.before.requires.1 (omega arith), sym (joined-halves c.before.before.args.marks (omega arith)))
+    let l = length-halves c.args.marks in
+    (0, omega arith, refl, handing_none _ _ _ _ _ c.requires.1 (omega arith), sym (joined-halves c.args.marks (omega arith)))
 
 cast_start : tie.Need-overflow_cast-start invariant_loop decreases_loop
 cast_start c =
@@ -177,22 +171,21 @@ loop_less c =
 
 loop_again : tie.Need-loop-rest-preserved invariant_loop decreases_loop
 loop_again c =
-    let copy = c.before.before in
-    let t = copy.before.before.before in
-    let k = t.before in
-    let l = length-halves (start k).args.marks in
-    let next = inside t in
-    let left = room t in
-    let long : k.loop-rest.at + packet_length - k.loop-rest.at ≡ packet_length = omega arith in
-    let more = handing_one _ _ _ _ _ (found t).handed (omega arith) (found t).here (k.loop-rest.at + packet_length - k.loop-rest.at) long copy.copy.new.dst (copied copy)
-    (has_at (start k).requires.1 (found t).place (omega arith) (found t).here) in
-    ((found t).place + 1, omega arith, toward_length more.front (omega arith), more, unmarked _ _ _ _ _ _ _ (found t))
+    let l = length-halves c.args.marks in
+    let next = inside c.before.before.before.before.before in
+    let left = room c.before.before.before.before.before in
+    let long : c.loop-rest.at + packet_length - c.loop-rest.at ≡ packet_length = omega arith in
+    let more = handing_one _ _ _ _ _ (found c.before.before.before.before.before).handed (omega arith) (found c.before.before.before.before.before).here (c.loop-rest.at + packet_length - c.loop-rest.at) long c.copy.new.dst (copied c.before.before)
+    (has_at c.requires.1 (found c.before.before.before.before.before).place (omega arith) (found c.before.before.before.before.before).here) in
+    ((found c.before.before.before.before.before).place + 1, omega arith, toward_length more.front (omega arith), more, unmarked _ _ _ _ _ _ _ (found c.before.before.before.before.before))
+
+same_length : tie.Need-shape_of-out invariant_loop decreases_loop
+same_length c = c.loop-rest.invariant.2
 
 returns : tie.Need-returns invariant_loop decreases_loop
 returns c =
-    let k = c.before in
-    let none = no_slot (start k).args.marks (start k).requires.0 k.loop-rest.invariant.0 (sym k.loop-rest.invariant.4 ∙ c.loop-rest-test.false) in
-    (handed _ _ _ _ _ k.loop-rest.invariant.3 none, handing_all _ _ _ _ _ k.loop-rest.invariant.3 none)
+    let none = no_slot c.args.marks c.requires.0 c.loop-rest.invariant.0 (sym c.loop-rest.invariant.4 ∙ c.loop-rest-test.false) in
+    (handed _ _ _ _ _ c.loop-rest.invariant.3 none, handing_all _ _ _ _ _ c.loop-rest.invariant.3 none)
 
 pub copy_marked_spec : {M : Type 1} → statement M
 copy_marked_spec =
@@ -219,4 +212,5 @@ copy_marked_spec =
     sub_rest
     loop_less
     loop_again
+    same_length
     returns)

@@ -15,78 +15,57 @@ use Rattle.receiver_hand_out.proofs.Parts.{Says, says, says_last, slots-all, Gon
 use Rattle.receiver_hand_out.proofs.numbered.hand_out.Statement.{statement}
 use Rattle.receiver_hand_out.proofs.numbered.hand_out.Tie as tie
 
--- what the call was given, and the numbers
-abbrev start : tie.After-last_marks-d → tie.Start
-start c = c.before.before.before.before.before.before.before
-
 abbrev ns : tie.After-last_marks-d → List ℕ
-ns c = unpacked (start c).args.numbers.now
+ns c = unpacked c.args.numbers.now
 
 long : (c : tie.After-last_marks-d) → length (ns c) ≡ last_slot
-long c = length-unpacked (start c).args.numbers.now
+long c = length-unpacked c.args.numbers.now
 
 -- what the words say
-says₁ : (c : tie.After-last_marks-d) → Says (start c).args.r.0 c.before.before.before.marks_at-a.result (take 16 (ns c)) 0
-says₁ c = says _ _ c.before.before.before.marks_at-a.ensures
+says₁ : (c : tie.After-last_marks-d) → Says c.args.r.0 c.marks_at-a.result (take 16 (ns c)) 0
+says₁ c = says _ _ c.marks_at-a.ensures
 
-says₂ : (c : tie.After-last_marks-d) → Says (start c).args.r.0 c.before.before.marks_at-b.result (take 16 (drop 16 (ns c))) 0
-says₂ c = says _ _ c.before.before.marks_at-b.ensures
+says₂ : (c : tie.After-last_marks-d) → Says c.args.r.0 c.marks_at-b.result (take 16 (drop 16 (ns c))) 0
+says₂ c = says _ _ c.marks_at-b.ensures
 
-says₃ : (c : tie.After-last_marks-d) → Says (start c).args.r.0 c.before.marks_at-c.result (take 16 (drop 32 (ns c))) 0
-says₃ c = says _ _ c.before.marks_at-c.ensures
+says₃ : (c : tie.After-last_marks-d) → Says c.args.r.0 c.marks_at-c.result (take 16 (drop 32 (ns c))) 0
+says₃ c = says _ _ c.marks_at-c.ensures
 
-says₄ : (c : tie.After-last_marks-d) → Says (start c).args.r.0 c.last_marks-d.result (take 4 (drop 48 (ns c))) 12
+says₄ : (c : tie.After-last_marks-d) → Says c.args.r.0 c.last_marks-d.result (take 4 (drop 48 (ns c))) 12
 says₄ c = says_last _ _ (take 4 (drop 48 (ns c))) c.last_marks-d.ensures
 
 -- how many slots have the number
-counted : (c : tie.After-count-packets) → c.count-packets.result ≡ slots_for (start c.before).args.r.0 (ns c.before)
+counted : (c : tie.After-count-packets) → c.count-packets.result ≡ slots_for c.args.r.0 (ns c.before)
 counted c =
-    let k = c.before in
-    let all = slots-all (start k).args.r.0 (ns k) (start k).args.store.now (start k).args.out.now (long k) (start k).requires.1 in
-    omega (arith, all, c.count-packets.ensures.0, (says₁ k).count, (says₂ k).count, (says₃ k).count, (says₄ k).count)
+    let all = slots-all c.args.r.0 (ns c.before) c.args.store.now c.args.out.now (long c.before) c.requires.1 in
+    omega (arith, all, c.count-packets.ensures.0, (says₁ c.before).count, (says₂ c.before).count, (says₃ c.before).count, (says₄ c.before).count)
 
-enough : (c : tie.Else-out-packets) → packet_length * slots_for (start c.before.before).args.r.0 (ns c.before.before) ≤ length (start c.before.before).args.out.now
+enough : (c : tie.Else-out-packets) → packet_length * slots_for c.args.r.0 (ns c.before.before) ≤ length c.args.out.now
 enough c =
     let n = counted c.before in
     omega (arith, c.if-out-packets.false)
 
--- from the place behind a word's packets to that behind the marks
-abbrev words₁ : tie.After-copy_marked → tie.After-last_marks-d
-words₁ c = c.before.before.before.before
-
-abbrev words₂ : tie.After-copy_marked-at-2 → tie.After-last_marks-d
-words₂ c = words₁ c.before.before.before.before
-
-abbrev words₃ : tie.After-copy_marked-at-3 → tie.After-last_marks-d
-words₃ c = words₂ c.before.before.before.before
-
-abbrev words₄ : tie.After-copy_marked → tie.After-last_marks-d
-words₄ c = words₃ c.before.before.before.before
-
-abbrev first : tie.After-copy_marked → tie.After-copy_marked
-first c = c.before.before.before.before.before.before.before.before.before.before.before.before
-
 -- what is copied
 abbrev Copied : tie.After-last_marks-d → List ℕ → ℕ → ℕ → Type 0
-Copied k = Gone (start k).args.r.0 (ns k) (start k).args.store.now (start k).args.out.now (long k) (start k).requires.1
+Copied k = Gone k.args.r.0 (ns k) k.args.store.now k.args.out.now (long k) k.requires.1
 
-copied₀ : (k : tie.After-last_marks-d) → Copied k (start k).args.out.now 0 0
+copied₀ : (k : tie.After-last_marks-d) → Copied k k.args.out.now 0 0
 copied₀ k = gone_none _ _ _ _ _ _
 
-copied₁ : (c : tie.After-copy_marked) → Copied (words₁ c) c.copy_marked.new.out 16 c.copy_marked.result
-copied₁ c = gone_more _ _ _ _ _ _ (copied₀ (words₁ c)) _ 16 0 0 (says₁ (words₁ c)) (omega arith) refl c.copy_marked.ensures.1 c.copy_marked.ensures.0
+copied₁ : (c : tie.After-copy_marked-at) → Copied c.before.before.before.before c.copy_marked-at.new.out 16 c.copy_marked-at.result
+copied₁ c = gone_more _ _ _ _ _ _ (copied₀ c.before.before.before.before) _ 16 0 0 (says₁ c.before.before.before.before) (omega arith) refl c.copy_marked-at.ensures.1 c.copy_marked-at.ensures.0
 
-copied₂ : (c : tie.After-copy_marked-at-2) → Copied (words₂ c) c.copy_marked-at-2.new.out 32 c.copy_marked-at-2.result
+copied₂ : (c : tie.After-copy_marked-at-2) → Copied c.before.before.before.before.before.before.before.before c.copy_marked-at-2.new.out 32 c.copy_marked-at-2.result
 copied₂ c =
-    gone_more _ _ _ _ _ _ (copied₁ c.before.before.before.before) _ 16 0 16 (says₂ (words₂ c)) (omega arith) refl c.copy_marked-at-2.ensures.1 c.copy_marked-at-2.ensures.0
+    gone_more _ _ _ _ _ _ (copied₁ c.before.before.before.before) _ 16 0 16 (says₂ c.before.before.before.before.before.before.before.before) (omega arith) refl c.copy_marked-at-2.ensures.1 c.copy_marked-at-2.ensures.0
 
-copied₃ : (c : tie.After-copy_marked-at-3) → Copied (words₃ c) c.copy_marked-at-3.new.out 48 c.copy_marked-at-3.result
+copied₃ : (c : tie.After-copy_marked-at-3) → Copied c.before.before.before.before.before.before.before.before.before.before.before.before c.copy_marked-at-3.new.out 48 c.copy_marked-at-3.result
 copied₃ c =
-    gone_more _ _ _ _ _ _ (copied₂ c.before.before.before.before) _ 16 0 32 (says₃ (words₃ c)) (omega arith) refl c.copy_marked-at-3.ensures.1 c.copy_marked-at-3.ensures.0
+    gone_more _ _ _ _ _ _ (copied₂ c.before.before.before.before) _ 16 0 32 (says₃ c.before.before.before.before.before.before.before.before.before.before.before.before) (omega arith) refl c.copy_marked-at-3.ensures.1 c.copy_marked-at-3.ensures.0
 
-copied₄ : (c : tie.After-copy_marked) → Copied (words₄ c) c.copy_marked.new.out last_slot c.copy_marked.result
+copied₄ : (c : tie.After-copy_marked) → Copied c.before.before.before.before.before.before.before.before.before.before.before.before.before.before.before.before c.copy_marked.new.out last_slot c.copy_marked.result
 copied₄ c =
-    gone_more _ _ _ _ _ _ (copied₃ c.before.before.before.before) _ 4 12 36 (says₄ (words₄ c)) (omega arith) refl c.copy_marked.ensures.1 c.copy_marked.ensures.0
+    gone_more _ _ _ _ _ _ (copied₃ c.before.before.before.before) _ 4 12 36 (says₄ c.before.before.before.before.before.before.before.before.before.before.before.before.before.before.before.before) (omega arith) refl c.copy_marked.ensures.1 c.copy_marked.ensures.0
 
 marks_at_requires : tie.Need-marks_at-a-requires
 marks_at_requires c κs = search rules
@@ -108,49 +87,36 @@ mul_if1 c = search rules
 
 returns : tie.Need-returns-then-out-packets
 returns c =
-    let k = c.before in
-    let s = start k.before in
-    let n = counted k in
-    let less = lt-ltb (length s.args.out.now) (packet_length * slots_for s.args.r.0 (ns k.before)) (omega (arith, c.if-out-packets.true)) in
+    let n = counted c.before in
+    let less = lt-ltb (length c.args.out.now) (packet_length * slots_for c.args.r.0 (ns c.before.before)) (omega (arith, c.if-out-packets.true)) in
     (rw less refl, rw less refl)
 
 copy_marked_requires : tie.Need-copy_marked-at-requires
 copy_marked_requires c κs =
-    let e = c.before in
-    let k = e.before.before in
-    ((says₁ k).are, gone_held _ _ _ _ _ _ (copied₀ k) _ 16 0 0 (says₁ k) (omega arith) refl, gone_room _ _ _ _ _ _ (copied₀ k) _ 16 0 0 (says₁ k) (omega arith) (enough e))
+    ((says₁ c.before.before.before).are, gone_held _ _ _ _ _ _ (copied₀ c.before.before.before) _ 16 0 0 (says₁ c.before.before.before) (omega arith) refl, gone_room _ _ _ _ _ _ (copied₀ c.before.before.before) _ 16 0 0 (says₁ c.before.before.before) (omega arith) (enough c.before))
 
 copy_marked_requires_2 : tie.Need-copy_marked-at-requires-2
 copy_marked_requires_2 c κs =
-    let g = c.before.before.before in
-    let k = words₁ g in
-    let room = gone_room _ _ _ _ _ _ (copied₁ g) _ 16 0 16 (says₂ k) (omega arith) (enough g.before.before) in
-    ((says₂ k).are, gone_held _ _ _ _ _ _ (copied₁ g) _ 16 0 16 (says₂ k) (omega arith) refl, omega (arith, room, g.copy_marked-at.auto.out))
+    let room = gone_room _ _ _ _ _ _ (copied₁ c.before.before.before) _ 16 0 16 (says₂ c.before.before.before.before.before.before.before) (omega arith) (enough c.before.before.before.before.before) in
+    ((says₂ c.before.before.before.before.before.before.before).are, gone_held _ _ _ _ _ _ (copied₁ c.before.before.before) _ 16 0 16 (says₂ c.before.before.before.before.before.before.before) (omega arith) refl, omega (arith, room, c.copy_marked-at.auto.out))
 
 copy_marked_requires_3 : tie.Need-copy_marked-at-requires-3
 copy_marked_requires_3 c κs =
-    let g = c.before.before.before in
-    let f = g.before.before.before.before in
-    let k = words₂ g in
-    let room = gone_room _ _ _ _ _ _ (copied₂ g) _ 16 0 32 (says₃ k) (omega arith) (enough f.before.before) in
-    ((says₃ k).are, gone_held _ _ _ _ _ _ (copied₂ g) _ 16 0 32 (says₃ k) (omega arith) refl, omega (arith, room, g.copy_marked-at-2.auto.out, f.copy_marked-at.auto.out))
+    let room = gone_room _ _ _ _ _ _ (copied₂ c.before.before.before) _ 16 0 32 (says₃ c.before.before.before.before.before.before.before.before.before.before.before) (omega arith) (enough c.before.before.before.before.before.before.before.before.before) in
+    ((says₃ c.before.before.before.before.before.before.before.before.before.before.before).are, gone_held _ _ _ _ _ _ (copied₂ c.before.before.before) _ 16 0 32 (says₃ c.before.before.before.before.before.before.before.before.before.before.before) (omega arith) refl, omega (arith, room, c.copy_marked-at-2.auto.out, c.copy_marked-at.auto.out))
 
 copy_marked_requires_4 : tie.Need-copy_marked-requires
 copy_marked_requires_4 c κs =
-    let g = c.before.before.before in
-    let h = g.before.before.before.before in
-    let f = h.before.before.before.before in
-    let k = words₃ g in
-    let room = gone_room _ _ _ _ _ _ (copied₃ g) _ 4 12 36 (says₄ k) (omega arith) (enough f.before.before) in
-    ((says₄ k).are, gone_held _ _ _ _ _ _ (copied₃ g) _ 4 12 36 (says₄ k) (omega arith) refl, omega (arith, room, g.copy_marked-at-3.auto.out, h.copy_marked-at-2.auto.out, f.copy_marked-at.auto.out))
+    let room = gone_room _ _ _ _ _ _ (copied₃ c.before.before.before) _ 4 12 36 (says₄ c.before.before.before.before.before.before.before.before.before.before.before.before.before.before.before) (omega arith) (enough c.before.before.before.before.before.before.before.before.before.before.before.before.before) in
+    ((says₄ c.before.before.before.before.before.before.before.before.before.before.before.before.before.before.before).are, gone_held _ _ _ _ _ _ (copied₃ c.before.before.before) _ 4 12 36 (says₄ c.before.before.before.before.before.before.before.before.before.before.before.before.before.before.before) (omega arith) refl, omega (arith, room, c.copy_marked-at-3.auto.out, c.copy_marked-at-2.auto.out, c.copy_marked-at.auto.out))
+
+same_length : tie.Need-shape_of-out
+same_length c = search rules
 
 returns_2 : tie.Need-returns
 returns_2 c =
-    let g = c.before.before in
-    let k = words₄ g in
-    let s = start k in
-    let holds = le-ltb (length s.args.out.now) (packet_length * slots_for s.args.r.0 (ns k)) (enough (first g).before.before) in
-    (rw (holds, counted (first g).before.before.before) refl, rw holds (gone_all _ _ _ _ _ _ (copied₄ g)))
+    let holds = le-ltb (length c.args.out.now) (packet_length * slots_for c.args.r.0 (ns c.before.before.before.before.before.before.before.before.before.before.before.before.before.before.before.before.before.before)) (enough c.before.before.before.before.before.before.before.before.before.before.before.before.before.before.before.before) in
+    (rw (holds, counted c.before.before.before.before.before.before.before.before.before.before.before.before.before.before.before.before.before) refl, rw holds (gone_all _ _ _ _ _ _ (copied₄ c.before.before)))
 
 pub hand_out_spec : {M : Type 1} → statement M
 hand_out_spec =
@@ -167,4 +133,5 @@ hand_out_spec =
     copy_marked_requires_2
     copy_marked_requires_3
     copy_marked_requires_4
+    same_length
     returns_2)
