@@ -14,118 +14,88 @@ use Rattle.bond.proofs.spread.Tie as tie
 bare_requires : tie.Need-bare-requires
 bare_requires c κs = search rules
 
-returns : tie.Need-returns
+returns : tie.Need-returns-then-stream-ne0
 returns c =
-    let t = c.before in
-    let s = t.before.before.before in
-    let e = spread_uncut s.args.b s.args.group.now s.args.stream.now t.if1.true in
-    let shown = refused_bare 1 (refused_header s.args.b s.args.group.now) c.bare.ensures (omega arith) refl in
-    (spread_refused s.args.b s.args.group.now s.args.stream.now 1 e (λ z. omega arith) shown, spread_left s.args.b s.args.group.now s.args.stream.now 1 e (λ z. omega arith))
+    let e = spread_uncut c.args.b c.args.group.now c.args.stream.now c.if-stream-ne0.true in
+    let shown = refused_bare 1 (refused_header c.args.b c.args.group.now) c.bare.ensures (omega arith) refl in
+    (spread_refused c.args.b c.args.group.now c.args.stream.now 1 e (λ z. omega arith) shown, spread_left c.args.b c.args.group.now c.args.stream.now 1 e (λ z. omega arith))
 
-slice_aggregate_read_headers : tie.Need-slice-aggregate-read-headers
+slice_aggregate_read_headers : tie.Need-slice_bounds-read_headers-end
 slice_aggregate_read_headers c = search rules
 
-slice_aggregate_read_headers_2 : tie.Need-slice-aggregate-read-headers-2
+slice_aggregate_read_headers_2 : tie.Need-slice_bounds-read_headers-end-2
 slice_aggregate_read_headers_2 c = search rules
 
-read_headers_requires : tie.Need-read-headers-requires
+read_headers_requires : tie.Need-read_headers-headers-requires
 read_headers_requires c κs = search rules
 
--- the stream was found to be whole packets, and what the call was given
-abbrev cut : tie.After-read-headers → tie.Else1
-cut c = c.before.before.before.before
-
-abbrev start : tie.After-read-headers → tie.Start
-start c = (cut c).before.before.before
-
-same_length : tie.Need-same-length
+same_length : tie.Need-shape_of-group-then-refusal-ne0
 same_length c = search rules
 
-returns_2 : tie.Need-returns-2
+returns_2 : tie.Need-returns-then-refusal-ne0
 returns_2 c =
-    let p = c.before.before.before.before.before in
-    let s = start p in
-    let i = refusal_is s.args.b s.args.group.now p.read-headers.ensures.0 in
-    let e = spread-headed s.args.b s.args.group.now s.args.stream.now (cut p).if1.false (λ z. c.if2.true (i ∙ z)) ∙ sym i in
-    let shown = refusal-shown s.args.b s.args.group.now p.read-headers.ensures.0 ∙ ap (group_refusal s.args.b s.args.group.now) (sym i) in (
-      spread_refused s.args.b s.args.group.now s.args.stream.now p.read-headers.result.refusal.number e c.if2.true shown,
-      spread_left s.args.b s.args.group.now s.args.stream.now p.read-headers.result.refusal.number e c.if2.true,
+    let i = refusal_is c.args.b c.args.group.now c.read_headers-headers.ensures.0 in
+    let e = spread-headed c.args.b c.args.group.now c.args.stream.now c.if-stream-ne0.false (λ z. c.if-refusal-ne0.true (i ∙ z)) ∙ sym i in
+    let shown = refusal-shown c.args.b c.args.group.now c.read_headers-headers.ensures.0 ∙ ap (group_refusal c.args.b c.args.group.now) (sym i) in (
+      spread_refused c.args.b c.args.group.now c.args.stream.now c.read_headers-headers.result.refusal.number e c.if-refusal-ne0.true shown,
+      spread_left c.args.b c.args.group.now c.args.stream.now c.read_headers-headers.result.refusal.number e c.if-refusal-ne0.true,
     )
 
-spread_refusal_requires : tie.Need-spread-refusal-requires
+spread_refusal_requires : tie.Need-spread_refusal-last-requires
 spread_refusal_requires c κs = search rules
 
-same_length_2 : tie.Need-same-length-2
+same_length_2 : tie.Need-shape_of-group-then-last-ne0
 same_length_2 c = search rules
 
--- what the headers said
-abbrev heard : tie.Else2 → tie.After-read-headers
-heard c = c.before.before.before.before.before
-
-planned : (c : tie.Else2)
-    → Known (start (heard c)).args.b (start (heard c)).args.group.now (heard c).read-headers.result (heard c).read-headers.new.1.1.0 (heard c).read-headers.new.1.1.1.0
+planned : (c : tie.Else-refusal-ne0)
+    → Known c.args.b c.args.group.now c.read_headers-headers.result c.read_headers-headers.new.frames c.read_headers-headers.new.slots
 planned c =
-    let p = heard c in
-    let s = start p in
-    let e = p.read-headers.ensures in
-    known s.args.b s.args.group.now e.0 c.if2.false e.1.0 e.1.1
+    let e = c.read_headers-headers.ensures in
+    known c.args.b c.args.group.now e.0 c.if-refusal-ne0.false e.1.0 e.1.1
 
-unrefused : (c : tie.Else2) → (heard c).read-headers.result.refusal ≡ group_refusal (start (heard c)).args.b (start (heard c)).args.group.now 0
-unrefused c = let s = start (heard c) in no_refusal s.args.b s.args.group.now (heard c).read-headers.ensures.0 c.if2.false
+unrefused : (c : tie.Else-refusal-ne0) → c.read_headers-headers.result.refusal ≡ group_refusal c.args.b c.args.group.now 0
+unrefused c = no_refusal c.args.b c.args.group.now c.read_headers-headers.ensures.0 c.if-refusal-ne0.false
 
 -- what the checks behind the headers answered
-rest : (c : tie.After-spread-refusal)
-    → spread_refusal (start (heard c.before)).args.b (start (heard c.before)).args.group.now (start (heard c.before)).args.stream.now ≡ c.spread-refusal.result
+rest : (c : tie.After-spread_refusal-last)
+    → spread_refusal c.args.b c.args.group.now c.args.stream.now ≡ c.spread_refusal-last.result
 rest c =
-    let p = heard c.before in
-    let s = start p in
-    spread-rest s.args.b s.args.group.now s.args.stream.now (cut p).if1.left (planned c.before) ∙ sym c.spread-refusal.ensures
+    spread-rest c.args.b c.args.group.now c.args.stream.now c.if-stream-ne0.false (planned c.before) ∙ sym c.spread_refusal-last.ensures
 
-bare_requires_2 : tie.Need-bare-requires-2
+bare_requires_2 : tie.Need-bare-requires-then-last-ne0
 bare_requires_2 c κs = search rules
 
-returns_3 : tie.Need-returns-3
+returns_3 : tie.Need-returns-then-last-ne0
 returns_3 c =
-    let t = c.before in
-    let r = t.before in
-    let h = heard r.before in
-    let s = start h in
-    let said = h.read-headers.result in
-    let not-seven = not_of_spread s.args.b said.is_carried said.packets s.args.stream.now in
-    let shown = refused_bare r.spread-refusal.result (refused_header s.args.b s.args.group.now) c.bare2.ensures (λ z. not-seven (sym r.spread-refusal.ensures ∙ z)) refl in (
-      spread_refused s.args.b s.args.group.now s.args.stream.now r.spread-refusal.result (rest r) t.if3.true shown,
-      spread_left s.args.b s.args.group.now s.args.stream.now r.spread-refusal.result (rest r) t.if3.true,
+    let said = c.read_headers-headers.result in
+    let not-seven = not_of_spread c.args.b said.is_carried said.packets c.args.stream.now in
+    let shown = refused_bare c.spread_refusal-last.result (refused_header c.args.b c.args.group.now) c.bare-then-last-ne0.ensures (λ z. not-seven (sym c.spread_refusal-last.ensures ∙ z)) refl in (
+      spread_refused c.args.b c.args.group.now c.args.stream.now c.spread_refusal-last.result (rest c.before.before) c.if-last-ne0.true shown,
+      spread_left c.args.b c.args.group.now c.args.stream.now c.spread_refusal-last.result (rest c.before.before) c.if-last-ne0.true,
     )
 
-cast_spread_over : tie.Need-overflow-cast-spread-over
+cast_spread_over : tie.Need-overflow_cast-b
 cast_spread_over c = search rules
 
-slice_aggregate_spread_over : tie.Need-slice-aggregate-spread-over
+slice_aggregate_spread_over : tie.Need-slice_bounds-spread_over-end
 slice_aggregate_spread_over c = search rules
 
-slice_aggregate_spread_over_2 : tie.Need-slice-aggregate-spread-over-2
+slice_aggregate_spread_over_2 : tie.Need-slice_bounds-spread_over-end-2
 slice_aggregate_spread_over_2 c = search rules
 
-spread_over_requires : tie.Need-spread-over-requires
+spread_over_requires : tie.Need-spread_over-requires
 spread_over_requires c κs =
-    let t = c.before.before.before.before in
-    let d = t.before.before in
-    let s = start (heard d) in
-    to_spread s.args.b s.args.group.now s.args.stream.now (planned d) (rest t.before ∙ t.if3.false)
+    to_spread c.args.b c.args.group.now c.args.stream.now (planned c.before.before.before.before.before.before) (rest c.before.before.before.before.before ∙ c.if-last-ne0.false)
 
-same_length_3 : tie.Need-same-length-3
+same_length_3 : tie.Need-shape_of-group
 same_length_3 c = search rules
 
-returns_4 : tie.Need-returns-4
+returns_4 : tie.Need-returns
 returns_4 c =
-    let o = c.before.before in
-    let t = o.before.before.before.before.before in
-    let d = t.before.before in
-    let s = start (heard d) in
-    let granted = rest t.before ∙ t.if3.false in (
-      spread_granted s.args.b s.args.group.now s.args.stream.now (heard d).read-headers.result.packets granted (planned d).packets_are (unrefused d),
-      o.spread-over.ensures ∙ ap (λ (ms : List ℕ). spread_over ms s.args.stream.now s.args.group.now) (listed_by s.args.b s.args.group.now (planned d))
-          ∙ spread-made s.args.b s.args.group.now s.args.stream.now granted,
+    let granted = rest c.before.before.before.before.before.before.before.before ∙ c.if-last-ne0.false in (
+      spread_granted c.args.b c.args.group.now c.args.stream.now c.read_headers-headers.result.packets granted (planned c.before.before.before.before.before.before.before.before.before).packets_are (unrefused c.before.before.before.before.before.before.before.before.before),
+      c.spread_over.ensures ∙ ap (λ (ms : List ℕ). spread_over ms c.args.stream.now c.args.group.now) (listed_by c.args.b c.args.group.now (planned c.before.before.before.before.before.before.before.before.before))
+          ∙ spread-made c.args.b c.args.group.now c.args.stream.now granted,
     )
 
 pub spread_spec : {M : Type 1} → statement M

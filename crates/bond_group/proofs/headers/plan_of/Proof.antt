@@ -1,5 +1,5 @@
 -- `plan_of` meets its contract: behind j headers the plan of j headers is written. Assumes nothing.
-use Rattle.bond_group.proofs.headers.plan_of.Goals.{else-j-eq0, then-j-eq0}
+use Rattle.bond_group.proofs.headers.plan_of.Lts.{else-j-eq0, then-j-eq0}
 use Prim.Native.Nat.{ℕ, ◌-◌, ◌*◌, ◌≤◌, ◌<◌}
 use mathlib.Core.Path.{◌≡◌, refl, sym, ap, ◌∙◌}
 use mathlib.Core.Logic.{⊎_elim}

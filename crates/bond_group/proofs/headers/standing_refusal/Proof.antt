@@ -1,5 +1,5 @@
 -- `standing_refusal` meets its contract, check by check. Assumes nothing.
-use Rattle.bond_group.proofs.headers.standing_refusal.Goals.{else-not-is_last, then-not-is_last}
+use Rattle.bond_group.proofs.headers.standing_refusal.Lts.{else-not-is_last, then-not-is_last+else-h-behind}
 use Prim.Native.Nat.{ℕ}
 use mathlib.Core.Path.{◌≡◌, sym, ap, ◌∙◌}
 use mathlib.Core.Logic.{⊎_elim}
@@ -41,7 +41,7 @@ unfolding standing_checks
 past_5 c =
     let last = c.is_last.ensures in
     let same : not (is_last c.args.behind) && not (eqb c.args.h.number_of_frames c.args.behind.number_of_frames) ≡ false =
-    elim c.if-not-is_last.branch [ then-not-is_last w ↦ simp (sym last ∙ not-true _ w.if-not-is_last.true, eq-eqb _ _ w.3.left) | else-not-is_last w ↦ simp (sym last ∙ not-false _ w.left) ] in
+    elim c.if-not-is_last.branch [ then-not-is_last+else-h-behind w ↦ simp (sym last ∙ not-true _ w.if-not-is_last.true-raw, eq-eqb _ _ w.if-h-behind.false) | else-not-is_last w ↦ simp (sym last ∙ not-false _ w.if-not-is_last.false-raw) ] in
     past_4 c.before.before ∙ passed 14 _ same
 
 is_end_requires : tie.Need-is_end-requires

@@ -1,5 +1,5 @@
 -- `number` meets its contract: after i turns i slots are numbered. Assumes nothing.
-use Rattle.composer_close.proofs.header.number.Goals.{else-opened-i-ne1, then-opened-i-ne1}
+use Rattle.composer_close.proofs.header.number.Lts.{else-opened-i-ne1, then-opened-i-ne1}
 use Prim.Native.Nat.{ℕ, ◌+◌, ◌-◌, ◌≤◌, ◌<◌}
 use mathlib.Core.Path.{◌≡◌, sym, ap, ◌∙◌}
 use mathlib.Core.List.{List}
