@@ -1,5 +1,5 @@
 -- A buffer of composed frames with good packets written over slots: cut into frames, each is a good frame still. Assumes nothing.
-use Prim.Native.Nat.{ℕ, suc, ◌+◌, ◌*◌, ◌≤◌, ◌<◌}
+use Prim.Native.Nat.{◌%◌, ℕ, suc, ◌+◌, ◌*◌, ◌≤◌, ◌<◌}
 use mathlib.Core.Path.{◌≡◌, sym, ap, subst, ◌∙◌}
 use mathlib.Core.Bool.{false}
 use mathlib.Core.List.{List, [], ◌∷◌, ◌++◌, flatten, append_assoc}
@@ -97,7 +97,7 @@ module _ (kind : Kind) (pid : ℕ) (slots : slots_of kind ≡ last_slot) where
       let first : g ≡ f ++ (flatten fs ++ rest) = e ∙ append_assoc f (flatten fs) rest in
       let later : drop (frame_length last_slot) g ≡ flatten fs ++ rest =
       ap (drop (frame_length last_slot)) first ∙ drop_at f (flatten fs ++ rest) (frame_length last_slot) (good.long ∙ ap (λ (n : ℕ). packet_length * (n + 1)) slots) in
-      let ih = cut-frames _ fs old new rest (drop (frame_length last_slot) g) (drop (frame_length last_slot) h) c on later (later_alike g h a) in
+      let ih = cut-frames ((n + 1) % 16) fs old new rest (drop (frame_length last_slot) g) (drop (frame_length last_slot) h) c on later (later_alike g h a) in
       let at : frame_length last_slot + frame_length last_slot * length fs ≡ frame_length last_slot * suc (length fs) = omega arith in
       record {
         counts = and_then (first_good n f (flatten fs ++ rest) g h good first a) ih.counts;

@@ -42,6 +42,7 @@ record Found (m : ℕ) (ms : List ℕ) : Type 0 where
   is : get_or ms at 0 ≡ m
 
 found : (m : ℕ) (ms : List ℕ) → Among m ms → Found m ms
+found m [] x' = elim x' [ ]
 found m (k ∷ ms) here = record { at = 0; inside = omega arith; is = refl }
 found m (k ∷ ms) (there a) = let f = found m ms a in record { at = suc f.at; inside = omega (arith, f.inside); is = f.is }
 

@@ -25,7 +25,7 @@ use Rattle.header_layout.specs.Header.{reading}
 use Rattle.header_check.specs.Checking.{read_checks}
 use Rattle.header_check.proofs.Accepted.{shown}
 use Rattle.packet.specs.Packets.{packet_length, frame_length, slot, unfit}
-use Rattle.composer.specs.Composing.{saying}
+use Rattle.composer.specs.Composing.{saying, counter_behind, version_behind}
 use Rattle.receiver.specs.Store.{store_length}
 use Rattle.receiver.specs.Bytes.{receiver_length}
 use Rattle.receiver.specs.Calls.{start_refused}
@@ -128,7 +128,7 @@ say_behind : (counter version : ℕ) (last : Announced) (positions : List ℕ)
     → SayAll positions (framed (headed_behind counter version last (map work_of (map at positions))))
 unfolding headed_behind
 say_behind counter version last [] g = no_more
-say_behind counter version last (p ∷ ps) (more g gs) = and_then (says p _ _ g) (say_behind _ _ _ ps gs)
+say_behind counter version last (p ∷ ps) (more g gs) = and_then (says p _ _ g) (say_behind (counter_behind counter) (version_behind version last (work_of (at p)).setting) (announced (work_of (at p)).setting) ps gs)
 
 say_all : (positions : List ℕ) → Each (Good Kind.Extended the_pid) (headed (map work_of (map at positions))) → SayAll positions (framed (headed (map work_of (map at positions))))
 unfolding headed
@@ -148,6 +148,7 @@ head_at (f ∷ fs) (suc j) (more l ls) h =
     ∙ ap (slot (frame_packets * j)) (drop_at f (flatten fs) (frame_length last_slot) l) ∙ head_at fs j ls (omega arith)
 
 among_some : {m : ℕ} (ms : List ℕ) → Among m ms → 1 ≤ length ms
+among_some {m = m} [] a = elim a [ ]
 among_some (k ∷ ms) a = omega arith
 
 module _ (f₁ f₂ f₃ : List ℕ) (s₁ : Says 1 f₁) (s₂ : Says 2 f₂) (s₃ : Says 3 f₃) where
