@@ -1,6 +1,6 @@
 // The fields that a caller can set, each with what plain, what extended and what short headers allow.
+use crate::STDOUT_FILENO;
 use counters::{FramePosition, RelativeNumber, Slot};
-use libc::STDOUT_FILENO;
 use setting::limits;
 
 // The largest number that a field of one byte holds, and of two.
