@@ -45,7 +45,7 @@ const NOT_OPEN: i32 = 9;
 fn path_of(name: &[u8]) -> Result<&str> {
     match std::str::from_utf8(name) {
         Ok(text) => Ok(text),
-        Err(_) => Err(Error::from(ErrorKind::InvalidFilename)),
+        Err(_) => Err(Error::new(ErrorKind::InvalidFilename, "The name is not UTF-8")),
     }
 }
 

@@ -76,3 +76,15 @@ pub fn left(rt: HostRuntime, input: &Input) -> Option<u64> {
         Input::None => None,
     }
 }
+
+#[cfg(test)]
+mod tests {
+    use super::*;
+
+    #[test]
+    fn reads_the_first_line(rt: HostRuntime) {
+        assert!(rt; place_in("pos:\t188\nflags:\t0100000\n") == Some(188));
+        assert!(rt; place_in("pos:\t0\n") == Some(0));
+        assert!(rt; place_in("flags:\t0\n") == None);
+    }
+}

@@ -36,3 +36,19 @@ pub fn fail(what: &[u8], error: Error) {
     io::write_all(STDERR, &text[..end]);
     io::write_all(STDERR, b"\n");
 }
+
+#[cfg(test)]
+mod tests {
+    use super::*;
+    use std::io::ErrorKind;
+
+    #[test]
+    fn says_the_text_alone(rt: HostRuntime) {
+        let of_system = text_of(Error::from_raw_os_error(2));
+        let end = text_end(&of_system);
+        assert!(rt; of_system[..end].starts_with(b"No such file or directory") && end == 25);
+        let of_name = text_of(Error::new(ErrorKind::InvalidFilename, "The name is not UTF-8"));
+        let end = text_end(&of_name);
+        assert!(rt; of_name[..end].starts_with(b"The name is not UTF-8") && end == 21);
+    }
+}
