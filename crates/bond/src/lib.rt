@@ -14,7 +14,7 @@ use header_check::Refusal;
 use packet::PACKET_BYTES;
 
 // What a spread or a gather answers: refusal 0 and the number of packets, or the refusal and 0.
-#[derive(Drop)]
+#[derive(Clone, Copy)]
 pub struct Moved {
     pub refusal: Refusal,
     pub packets: usize,

@@ -29,7 +29,7 @@ pub const CARRIERS: usize = limits::LAST_CARRIER as usize;
 pub const FRAMES: usize = CARRIERS * FramePosition::LAST as usize;
 
 // The fields of a header that tell where its frame stands in the group.
-#[derive(Drop)]
+#[derive(Clone, Copy)]
 pub struct Shown {
     pub group_id: u8,
     pub number_of_carriers: u8,
@@ -40,7 +40,7 @@ pub struct Shown {
 
 // What the headers of a group say of a stream: refusal 0, whether one of them carries it, and how many bonded slots there are; or the
 // refusal and zeros.
-#[derive(Drop)]
+#[derive(Clone, Copy)]
 pub struct Headers {
     pub refusal: Refusal,
     pub is_carried: bool,
@@ -89,7 +89,7 @@ fn marks_of(numbers: &[u8], r: RelativeNumber) -> u64
 }
 
 // What a header says of the stream: whether it carries it, and in which slots, slot i in bit i.
-#[derive(Drop)]
+#[derive(Clone, Copy)]
 struct Bonded {
     is_carried: bool,
     marks: u64,

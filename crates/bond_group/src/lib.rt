@@ -12,7 +12,7 @@ use header_check::Refusal;
 use headers::Headers;
 
 // A bond: the number of carriers, the header PID, and the stream's identifiers.
-#[derive(Drop)]
+#[derive(Clone, Copy)]
 pub struct Bond {
     pub carriers: u8,
     pub pid: u16,

@@ -6,31 +6,31 @@ ghost use Rattle.std.specs.Prelude.{◌≡◌};
 ghost use Rattle.counters.specs.Counters.{first_slot, last_slot, first_stream, last_stream, first_position, last_position, checked, slot_answer, relative_number_answer, frame_position_answer, available, count_available};
 
 // A slot of a frame. Slot 0 is the header's and is no value of this type.
-#[derive(Drop)]
+#[derive(Clone, Copy)]
 pub struct Slot(pub u8);
 
 // The number by which a frame's header knows a stream.
-#[derive(Drop)]
+#[derive(Clone, Copy)]
 pub struct RelativeNumber(pub u8);
 
 // The place of a frame in its super frame: a count, and no offset.
-#[derive(Drop)]
+#[derive(Clone, Copy)]
 pub struct FramePosition(pub u8);
 
 // What a checked constructor answers: the value, or the refusal's number.
-#[derive(Drop)]
+#[derive(Clone, Copy)]
 pub enum SlotAnswer {
     Is(Slot),
     Refused(u8),
 }
 
-#[derive(Drop)]
+#[derive(Clone, Copy)]
 pub enum RelativeNumberAnswer {
     Is(RelativeNumber),
     Refused(u8),
 }
 
-#[derive(Drop)]
+#[derive(Clone, Copy)]
 pub enum FramePositionAnswer {
     Is(FramePosition),
     Refused(u8),

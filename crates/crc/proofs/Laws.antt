@@ -4,7 +4,7 @@ use Prim.Native.Nat.{ℕ, zero, suc, ◌+◌, ◌*◌, ◌/◌, ◌%◌, ◌^◌
 use mathlib.Core.Path.{◌≡◌, refl, sym, ap, ap₂, ◌∙◌, subst}
 use mathlib.Core.List.{List, [], ◌∷◌, ◌++◌}
 use native.Mathlib.Omega.{arith}
-use native.Mathlib.Nat.{add-mul, add-suc, suc-add, zero-add, lt_of_lt_of_le, pow-le-pow_right, pow-succ', mul_assoc, mod-lt, mod-eq_of_lt, mod-one, div-eq_of_lt, pow-suc, zero-mul, mul-mod_left, mul_one, suc_inj}
+use native.Mathlib.Nat.{add-mul, add-suc, suc-add, zero-add, lt_of_lt_of_le, pow-le-pow_right, pow-succ', mul_assoc, mod-lt, mod-eq_of_lt, mod-one, div-eq_of_lt, pow-suc, zero-mul, mul-mod_left, mul-one, suc_inj}
 use native.Mathlib.Numerals.{one-add}
 use lib.Dec.{lit<}
 use lib.Bits.{bit_xor, xor_lt, xor_mod, xor_self, xor_shifted, xor_shr, xor_zero_r}
@@ -84,7 +84,7 @@ shifts_linear (suc n) s t = ap (shifts n) (shift_linear s t) ∙ shifts_linear n
 -- nothing falls out at the top
 pub shifts_low : (w n v : ℕ) → w + n ≤ 32 → v < 2 ^ w → shifts n v ≡ v * 2 ^ n
 unfolding shifts
-shifts_low w zero v e h = sym (mul_one v)
+shifts_low w zero v e h = sym (mul-one v)
 shifts_low w (suc n) v e h =
     ap (shifts n) (shift_low v (lt_of_lt_of_le h (pow-le-pow_right (lit< tt) {i = w} {j = 31} (omega arith))))
     ∙ shifts_low (w + 1) n (v * 2) (omega arith) (shl_lt w 1 h)
@@ -136,7 +136,7 @@ field_in (suc w) k e s v =
     later = shift_low (r * 2 ^ k) low ∙ mul_assoc r (2 ^ k) 2 ∙ ap (λ (x : ℕ). r * x) (sym (pow-suc 2 k))
 
 pub word_in : (s v : ℕ) → v < 2 ^ 32 → register_from s (bits_of 32 v) ≡ shifts 32 (bit_xor s v)
-word_in s v h = field_in 32 0 refl s v ∙ ap (λ (x : ℕ). shifts 32 (bit_xor s x)) (mul_one (v % 2 ^ 32) ∙ mod-eq_of_lt h)
+word_in s v h = field_in 32 0 refl s v ∙ ap (λ (x : ℕ). shifts 32 (bit_xor s x)) (mul-one (v % 2 ^ 32) ∙ mod-eq_of_lt h)
 
 -- the register's own bits behind a message bring it to zero
 pub own_bits : (s : ℕ) → s < 2 ^ 32 → register_from s (bits_of 32 s) ≡ 0

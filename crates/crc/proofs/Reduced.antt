@@ -2,7 +2,7 @@
 use Prim.Native.Nat.{ℕ, zero, suc, ◌+◌, ◌*◌, ◌/◌, ◌%◌, ◌^◌, ◌≤◌, ◌<◌}
 use mathlib.Core.Path.{◌≡◌, refl, sym, ap, ap₂, ◌∙◌, subst}
 use native.Mathlib.Omega.{arith}
-use native.Mathlib.Nat.{add_assoc, add_comm, div-eq_of_lt, lt_of_lt_of_le, mod-eq_of_lt, mod-lt, mul_assoc, mul-mod_left, mul_one, pow-le-pow_right, pow-succ'}
+use native.Mathlib.Nat.{add_assoc, add_comm, div-eq_of_lt, lt_of_lt_of_le, mod-eq_of_lt, mod-lt, mul_assoc, mul-mod_left, mul-one, pow-le-pow_right, pow-succ'}
 use lib.Bits.{bit_xor, xor_comm, xor_lt, xor_mod, xor_shifted, xor_shr, xor_zero_l, xor_zero_r}
 use lib.Dec.{lit<}
 use lib.Pow.{mod-pow-add, pow_pos, shl_exact, shl_lt, shl-shr, shr_lt, shr_mod, shr-shr, split}
@@ -73,7 +73,7 @@ reduced_twice x h =
 -- a number moved up is a register shifted, while it fits
 reduced_up : (j n x : ℕ) → j + n ≤ 64 → x < 2 ^ j → reduced (x * 2 ^ n) ≡ shifts n (reduced x)
 unfolding shifts
-reduced_up j zero x e h = ap reduced (mul_one x)
+reduced_up j zero x e h = ap reduced (mul-one x)
 reduced_up j (suc n) x e h =
     ap reduced (ap (λ (y : ℕ). x * y) (pow-succ' 2 n) ∙ sym (mul_assoc x 2 (2 ^ n)))
     ∙ reduced_up (j + 1) n (x * 2) (omega arith) (shl_lt j 1 h)
@@ -133,7 +133,7 @@ long_in s w h =
     ∙ ap (shifts 32) (halves_meet s w)
   where
     half : (t v : ℕ) → register_from t (bits_of 32 v) ≡ shifts 32 (bit_xor t (v % 2 ^ 32))
-    half t v = field_in 32 0 refl t v ∙ ap (λ (x : ℕ). shifts 32 (bit_xor t x)) (mul_one (v % 2 ^ 32))
+    half t v = field_in 32 0 refl t v ∙ ap (λ (x : ℕ). shifts 32 (bit_xor t x)) (mul-one (v % 2 ^ 32))
 
 -- the first sixteen bytes: the register meets the highest bits of the first eight
 pub held_first : (s v w : ℕ) → v < 2 ^ 64 → w < 2 ^ 64 → held (bit_xor v (s * 2 ^ 32)) w ≡ register_from (register_from s (bits_of 64 v)) (bits_of 64 w)

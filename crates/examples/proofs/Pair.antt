@@ -3,7 +3,7 @@ use Prim.Native.Nat.{ℕ, zero, suc, ◌+◌, ◌-◌, ◌*◌, ◌/◌, ◌%◌
 use mathlib.Core.Path.{◌≡◌, refl, sym, ap, ap₂, ◌∙◌}
 use mathlib.Core.Logic.{◌⊎◌, inl, inr}
 use mathlib.Core.Bool.{Bool, cond}
-use mathlib.Core.List.{List, [], ◌∷◌, ◌++◌, map, map_append, append_assoc}
+use mathlib.Core.List.{List, [], ◌∷◌, ◌++◌, map, map-append, append_assoc}
 use native.Mathlib.Omega.{arith}
 use native.Mathlib.Decide.{dec_lt}
 use borrow.Author.Tests.{lt-ltb, le-ltb}
@@ -177,7 +177,7 @@ module _ (behind : ℕ → Setting) where
       let e : last_carrier * twelfths ≡ steps + (last_carrier * twelfths - steps) = refl in
       sym (swept 2 7 counts (place_by saying) (bonded_by saying) grouped no_header)
       ∙ ap (map (packet_at counts)) (ap (picked stopping 0) e ∙ picked_append stopping 0 steps (last_carrier * twelfths - steps))
-      ∙ map_append (packet_at counts) (picked stopping 0 steps) (picked stopping (0 + steps) (last_carrier * twelfths - steps))
+      ∙ map-append (packet_at counts) (picked stopping 0 steps) (picked stopping (0 + steps) (last_carrier * twelfths - steps))
       ∙ ap (λ (l : List ℕ). l ++ rest) seven
 
   by_saying : first_seven (place_by saying) (order_by saying 7) ≡ 2 ∷ 1 ∷ 1 ∷ 1 ∷ 2 ∷ 2 ∷ 1 ∷ 2 ∷ 2 ∷ 3 ∷ 1 ∷ 3 ∷ 2 ∷ 4 ∷ 1 ∷ []

@@ -101,30 +101,26 @@ bare_is n p h = rw (ne_eqb n 7 h) refl
 pub refused_bare : (n : ℕ) {m : ℕ} (p : List ℕ) {r : Refusal} → r ≡ bare n → (n ≡ 7 → ⊥) → n ≡ m → r ≡ refusal_by m p
 refused_bare n p e h s = e ∙ bare_is n p h ∙ ap (λ (k : ℕ). refusal_by k p) s
 
--- what a check answers: the refusal with zeros, or refusal 0 with what the packet says
-module _ (kind : Kind) (pid : ℕ) (p : List ℕ) {f : Refusal} (e : f ≡ refusal_by (read_refusal kind pid p) p) where
-  pub number_is : f.number ≡ read_refusal kind pid p
-  unfolding refusal_by
-  number_is = ap (λ (x : Refusal). x.number) e
+-- n is the refusal's number, and m what the code found it to be
+module _ (kind : Kind) (p : List ℕ) {m n : ℕ} (e : n ≡ m) (r : Checked) where
+  pub refused_with_lem : (m ≡ 0 → ⊥) → {f : Refusal} → f ≡ refusal_by m p → r ≡ parts_of f blank → r ≡ parts_beside n kind p
+  unfolding parts_beside
+  refused_with_lem h f s = rw (e, ne_eqb m 0 h) (s ∙ ap (λ (x : Refusal). parts_of x blank) f)
 
-  pub refused_is : (f.number ≡ 0 → ⊥) → parts_of f blank ≡ checked_of kind pid p
-  unfolding checked_of parts_beside
-  refused_is h = rw (ne_eqb (read_refusal kind pid p) 0 (λ z. h (number_is ∙ z))) (ap (λ (x : Refusal). parts_of x blank) e)
+  pub refused : (m ≡ 0 → ⊥) → (m ≡ 7 → ⊥) → r ≡ parts_of (bare m) blank → r ≡ parts_beside n kind p
+  refused h seven s = refused_with_lem h (bare_is m p seven) s
 
-  pub accepted_is : f.number ≡ 0 → parts_of (bare 0) (reading kind p) ≡ checked_of kind pid p
-  unfolding checked_of parts_beside refusal_by
-  accepted_is z = rw (sym number_is ∙ z) refl
-
-pub answered : (kind : Kind) (p : List ℕ) (r : Checked) → r.refusal ≡ bare 0 → Answers kind p r → r ≡ parts_of (bare 0) (reading kind p)
-unfolding parts_of reading
-answered kind p r s a =
-    λ i. record {
-      refusal = s i;
-      continuity_counter = a.counter i;
-      availability = a.streams i;
-      group_id = a.group i;
-      number_of_carriers = a.carriers i;
-      carrier_sequence = a.sequence i;
-      number_of_frames = a.frames i;
-      frame_position = record { 0 = a.position i };
-    }
+  pub accepted : m ≡ 0 → r.refusal ≡ bare 0 → Answers kind p r → r ≡ parts_beside n kind p
+  unfolding parts_beside parts_of refusal_by reading
+  accepted z s a =
+      rw (e ∙ z)
+      (λ i. record {
+        refusal = s i;
+        continuity_counter = a.counter i;
+        availability = a.streams i;
+        group_id = a.group i;
+        number_of_carriers = a.carriers i;
+        carrier_sequence = a.sequence i;
+        number_of_frames = a.frames i;
+        frame_position = record { 0 = a.position i };
+      })

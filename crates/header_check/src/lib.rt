@@ -3,7 +3,7 @@
 #![tactic(auto)]
 
 ghost use Rattle.std.specs.Prelude.{◌≡◌};
-ghost use Rattle.header_check.specs.Checking.{read_refusal, bare, refusal_by, checked_of, numbers_into};
+ghost use Rattle.header_check.specs.Checking.{bare, checked_of, numbers_into};
 ghost use Rattle.header_check.specs.Cutting.{cut_into};
 
 use counters::{FramePosition, SLOTS};
@@ -15,7 +15,7 @@ mod reserved;
 
 // Why a header is refused: the refusal's number, or 0 if it is not refused. Beside 7 stands the remainder, which is what bytes 4 to 187 leave in
 // the CRC register. Beside any other number it is 0. Callers pass it up as it is.
-#[derive(Drop)]
+#[derive(Clone, Copy)]
 pub struct Refusal {
     pub number: u8,
     pub remainder: u32,
@@ -35,7 +35,7 @@ impl Refusal {
 
 // Refusal 0 and the fields that receiving and gathering use, or the refusal and zeros. The slots' numbers are read apart, by
 // `read_numbers`.
-#[derive(Drop)]
+#[derive(Clone, Copy)]
 pub struct Checked {
     pub refusal: Refusal,
     pub continuity_counter: u8,
@@ -47,35 +47,23 @@ pub struct Checked {
     pub frame_position: FramePosition,
 }
 
-// Why the packet is refused as a header: 1 to 7, then 20, then 8 to 11.
-fn refusal_of(packet: &[u8], pid: u16, kind: Kind) -> Refusal
-    ensures { result ≡ refusal_by (read_refusal kind pid packet.now) packet.now }
-{
-    if packet.len() != header_layout::HEADER_LENGTH {
-        return Refusal::bare(1);
-    }
-    if !setting::pid_allowed(pid) {
-        return Refusal::bare(2);
-    }
-    let shown = parts::packet_refusal(packet, pid);
-    if shown.number != 0 {
-        return shown;
-    }
-    let number = reserved::refusal(packet, kind);
-    if number != 0 {
-        return Refusal::bare(number);
-    }
-    Refusal::bare(parts::rules_refusal(packet, kind))
-}
-
-// Checks the packet as a header: refused, or what it says. That is read behind all checks. When each check that refused gave the zeros itself, the
-// compiler packed these parts into words on every path, and unpacked them again.
+// Checks the packet as a header, for refusals 1 to 7, then 20, then 8 to 11.
 pub fn check(packet: &[u8], pid: u16, kind: Kind) -> Checked
     ensures { result ≡ checked_of kind pid packet.now }
 {
-    let refusal = refusal_of(packet, pid, kind);
-    if refusal.number != 0 {
-        return parts::refused(refusal);
+    if packet.len() != header_layout::HEADER_LENGTH {
+        return parts::refused(1);
+    }
+    if !setting::pid_allowed(pid) {
+        return parts::refused(2);
+    }
+    let shown = parts::packet_refusal(packet, pid);
+    if shown.number != 0 {
+        return parts::refused_with(shown);
+    }
+    let number = reserved::refusal(packet, kind);
+    if number != 0 {
+        return parts::refused(number);
     }
     parts::said_by(packet, kind)
 }

@@ -6,7 +6,7 @@ ghost use Rattle.setting.specs.Refusal.{first_of};
 ghost use Rattle.counters.specs.Counters.{last_slot};
 ghost use Rattle.setting.specs.Rules.{some_unavailable, pair_twice, bonding_checks, rule_checks};
 ghost use Rattle.header_layout.specs.Header.{header_length, remainder_of, packet_checks, reading};
-ghost use Rattle.header_check.specs.Checking.{bare, refusal_by, parts_of};
+ghost use Rattle.header_check.specs.Checking.{bare, refusal_by, parts_of, parts_beside};
 
 use crate::{Checked, Refusal, packed};
 use counters::{FramePosition, RelativeNumber, SHORT_SLOTS, SLOTS, STREAMS};
@@ -170,7 +170,7 @@ fn has_pair_twice(packet: &[u8], kind: Kind, availability: u16) -> bool
 }
 
 // The bonding fields: those of the packet for an extended header, zeros for any other.
-#[derive(Drop)]
+#[derive(Clone, Copy)]
 struct Bonding {
     group_id: u8,
     number_of_carriers: u8,
@@ -228,34 +228,30 @@ fn bonding_refusal(bonding: Bonding, kind: Kind) -> u8
     )
 }
 
-// 8 to 11. Each part is read when it is first needed.
-pub(crate) fn rules_refusal(packet: &[u8], kind: Kind) -> u8
+// 8 to 11, and what the packet says if none of them applies. Each part is read when it is first needed.
+pub(crate) fn said_by(packet: &[u8], kind: Kind) -> Checked
     requires { length packet.now ≡ header_length }
-    ensures { result ≡ first_of (rule_checks kind (reading kind packet.now)) }
+    ensures { result ≡ parts_beside (first_of (rule_checks kind (reading kind packet.now))) kind packet.now }
 {
     if !setting_rules::frame_type_allowed(kind, packet[6] % 16) {
-        return 8;
+        return refused(8);
     }
     let availability = availability_of(packet, kind);
     if has_unavailable(packet, kind, availability) {
-        return 9;
+        return refused(9);
     }
     if has_pair_twice(packet, kind, availability) {
-        return 10;
+        return refused(10);
     }
-    bonding_refusal(bonding_of(packet, kind), kind)
-}
-
-// What the packet says, beside refusal 0.
-pub(crate) fn said_by(packet: &[u8], kind: Kind) -> Checked
-    requires { length packet.now ≡ header_length }
-    ensures { result ≡ parts_of (bare 0) (reading kind packet.now) }
-{
     let bonding = bonding_of(packet, kind);
+    let number = bonding_refusal(bonding, kind);
+    if number != 0 {
+        return refused(number);
+    }
     Checked {
         refusal: Refusal::bare(0),
         continuity_counter: packet[3] % 16,
-        availability: availability_of(packet, kind),
+        availability,
         group_id: bonding.group_id,
         number_of_carriers: bonding.number_of_carriers,
         carrier_sequence: bonding.carrier_sequence,
@@ -264,8 +260,15 @@ pub(crate) fn said_by(packet: &[u8], kind: Kind) -> Checked
     }
 }
 
+// A refusal by any number but 7: zeros in every other part.
+pub(crate) fn refused(number: u8) -> Checked
+    ensures { result ≡ parts_of (bare number) blank }
+{
+    refused_with(Refusal::bare(number))
+}
+
 // A refusal, with zeros in the parts of a setting.
-pub(crate) fn refused(refusal: Refusal) -> Checked
+pub(crate) fn refused_with(refusal: Refusal) -> Checked
     ensures { result ≡ parts_of refusal blank }
 {
     Checked {

@@ -52,7 +52,7 @@ pub const BONDING_BYTES: usize = 4;
 pub const BONDING: usize = RESERVED - BONDING_BYTES;
 
 // The bytes at which the parts start whose place depends on the size.
-#[derive(Drop)]
+#[derive(Clone, Copy)]
 pub struct Places {
     pub identifiers: usize,
     pub control: usize,

@@ -11,7 +11,7 @@ use setting_bytes::SETTING_BYTES;
 mod reader;
 
 // What a read answers: refusal 0 and the setting, or the refusal and zeros.
-#[derive(Drop)]
+#[derive(Clone, Copy)]
 pub struct Reading {
     pub refusal: Refusal,
     pub setting: Setting,

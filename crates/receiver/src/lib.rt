@@ -8,7 +8,7 @@ use packet::PACKET_BYTES;
 pub mod events;
 
 // Where a receiver stands.
-#[derive(Drop)]
+#[derive(Clone, Copy)]
 pub enum Stage {
     // No frame is open.
     Waiting,
@@ -19,7 +19,7 @@ pub enum Stage {
 }
 
 // What a packet did, by the receiver's table.
-#[derive(Drop)]
+#[derive(Clone, Copy)]
 pub enum Event {
     // Nothing: the receiver waits, or the call was refused.
     Nothing,
@@ -37,21 +37,21 @@ pub enum Event {
 }
 
 // What a packet did, as a call answers it: the event's number, and the remainder.
-#[derive(Drop)]
+#[derive(Clone, Copy)]
 pub struct Told {
     pub event: u8,
     pub remainder: u32,
 }
 
 // A row of the receiver's table: what happened, and where the receiver stands then.
-#[derive(Drop)]
+#[derive(Clone, Copy)]
 pub struct Row {
     pub event: Event,
     pub stage: Stage,
 }
 
 // What a hand out answers: refusal 0 and how many packets, or the refusal's number and 0.
-#[derive(Drop)]
+#[derive(Clone, Copy)]
 pub struct HandedOut {
     pub refusal: u8,
     pub packets: usize,

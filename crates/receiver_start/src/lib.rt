@@ -12,7 +12,7 @@ use setting::Kind;
 use setting_bytes::LAST_KIND;
 
 // What a start by value answers: refusal 0 and the state, or the refusal's number and the fresh plain state of PID 0.
-#[derive(Drop)]
+#[derive(Clone, Copy)]
 pub struct Started {
     pub refusal: u8,
     pub state: [u8; RECEIVER_BYTES],

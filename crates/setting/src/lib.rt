@@ -20,7 +20,7 @@ pub const PRIVATE_BYTES: usize = 131;
 pub const AUXILIARY_BYTES: usize = 28;
 
 // Whether a header is plain, extended or short. The caller says which.
-#[derive(Drop)]
+#[derive(Clone, Copy)]
 pub enum Kind {
     Plain,
     Extended,
@@ -29,7 +29,7 @@ pub enum Kind {
 
 // The size of a header and of its frame: how many slots carry packets, how many streams the header knows, the bits of a slot's number, and
 // the bytes of private data.
-#[derive(Drop)]
+#[derive(Clone, Copy)]
 pub struct Size {
     pub slots: u8,
     pub streams: u8,
@@ -64,7 +64,7 @@ pub fn size_of(kind: Kind) -> Size
 }
 
 // Every field that a caller sets, by J.183's names. A part that the kind does not have is zeros.
-#[derive(Drop)]
+#[derive(Clone, Copy)]
 pub struct Setting {
     pub continuity_counter: u8,
     pub version_number: u8,
@@ -127,7 +127,7 @@ pub fn pid_allowed(pid: u16) -> bool
 }
 
 // What of the last closed header decides on the next version: slot information, identifiers and control information.
-#[derive(Drop)]
+#[derive(Clone, Copy)]
 pub struct Announced {
     pub slot_allocation_type: u8,
     pub frame_type: u8,

@@ -3,7 +3,7 @@ use Prim.Native.Nat.{ℕ, zero, suc, ◌+◌, ◌*◌, ◌/◌, ◌%◌, ◌^◌
 use mathlib.Core.Path.{◌≡◌, refl, sym, ap, ap₂, ◌∙◌}
 use mathlib.Core.Bool.{Bool, true, false, cond}
 use mathlib.Core.List.{List, [], ◌∷◌, ◌++◌}
-use native.Mathlib.Nat.{add_assoc, add-zero, zero-add, zero-mul, one-mul, mul_one, add-mul, mul-add, mul_assoc, mul_comm, pow-suc}
+use native.Mathlib.Nat.{add_assoc, add-zero, zero-add, zero-mul, one-mul, mul-one, add-mul, mul-add, mul_assoc, mul_comm, pow-suc}
 use native.Mathlib.Numerals.{add-one}
 use native.Mathlib.Omega.{arith}
 use lib.ListN.{length, get_or, take, drop, set, replicate, drop_of_length-le}
@@ -51,7 +51,7 @@ bits_from k (b ∷ bs) = cond b (2 ^ (k % 8)) 0 ∷ bits_from (k + 1) bs
 bit_is : (k : ℕ) (b : Bool) → cond b (2 ^ (k % 8)) 0 * 2 ^ (8 * (k / 8)) ≡ 2 ^ k * cond b 1 0
 bit_is k true =
     let whole : k % 8 + 8 * (k / 8) ≡ k = omega arith in
-    sym (pow-add 2 (k % 8) (8 * (k / 8))) ∙ ap (λ (n : ℕ). 2 ^ n) whole ∙ sym (mul_one (2 ^ k))
+    sym (pow-add 2 (k % 8) (8 * (k / 8))) ∙ ap (λ (n : ℕ). 2 ^ n) whole ∙ sym (mul-one (2 ^ k))
 bit_is k false = zero-mul (2 ^ (8 * (k / 8))) ∙ sym (mul_comm (2 ^ k) 0 ∙ zero-mul (2 ^ k))
 
 pub bits_make : (k : ℕ) (bs : List Bool) → in_bytes k (bits_from k bs) ≡ 2 ^ k * as_bits bs

@@ -22,19 +22,19 @@ use Rattle.header_write.proofs.write.Statement.{statement}
 use Rattle.header_write.proofs.write.Tie as tie
 
 -- from the place after a check that did not hold to the function's start
-abbrev start₁ : tie.Else1 → tie.Start
+abbrev start₁ : tie.Else-setting-ne-SETTING_BYTES → tie.Start
 start₁ c = c.before.before.before
 
-abbrev start₂ : tie.Else2 → tie.Start
+abbrev start₂ : tie.Else-buffer-ne-HEADER_LENGTH → tie.Start
 start₂ c = start₁ c.before
 
-abbrev start₃ : tie.Else3 → tie.Start
+abbrev start₃ : tie.Else-not-pid_allowed → tie.Start
 start₃ c = start₂ c.before.before
 
-abbrev start₄ : tie.Else4 → tie.Start
+abbrev start₄ : tie.Else-width-ne0 → tie.Start
 start₄ c = start₃ c.before.before
 
-abbrev start₅ : tie.Else5 → tie.Start
+abbrev start₅ : tie.Else-rule-ne0 → tie.Start
 start₅ c = start₄ c.before.before
 
 -- the setting, the refusal of the whole, and those of its last two parts
@@ -51,85 +51,96 @@ abbrev rules : tie.Start → List Check
 rules c = rule_checks c.args.kind (said c)
 
 -- a refusal of the setting's own
-refused : (c : tie.Else1) {n : ℕ} → all (start₁ c) ≡ n → (n ≡ 0 → ⊥)
+refused : (c : tie.Else-setting-ne-SETTING_BYTES) {n : ℕ} → all (start₁ c) ≡ n → (n ≡ 0 → ⊥)
     → (n ≡ of_length setting_length (length (start₁ c).args.setting.now) (all (start₁ c)))
     × ((start₁ c).args.buffer.now ≡ cond (eqb (length (start₁ c).args.setting.now) setting_length) (written (start₁ c).args.kind (start₁ c).args.pid (said (start₁ c)) (start₁ c).args.buffer.now) (start₁ c).args.buffer.now)
 refused c e h =
-    (sym (at_length _ _ _ c.if1.false ∙ e), rw (eq-eqb _ _ c.if1.false) (left (start₁ c).args.kind (start₁ c).args.pid (said (start₁ c)) (start₁ c).args.buffer.now e h))
+    (sym (at_length _ _ _ c.if-setting-ne-SETTING_BYTES.false ∙ e), rw (eq-eqb _ _ c.if-setting-ne-SETTING_BYTES.false) (left (start₁ c).args.kind (start₁ c).args.pid (said (start₁ c)) (start₁ c).args.buffer.now e h))
 
-allowed : (c : tie.Else3) → pid_allowed (start₃ c).args.pid ≡ true
-allowed c = sym c.before.pid-allowed.ensures ∙ not-false _ c.if3.false
+allowed : (c : tie.Else-not-pid_allowed) → pid_allowed (start₃ c).args.pid ≡ true
+allowed c = sym c.before.pid_allowed.ensures ∙ not-false _ c.if-not-pid_allowed.false-raw
 
-past₃ : (c : tie.Else3) → all (start₃ c) ≡ first_of (widths (start₃ c) ++ rules (start₃ c))
+past₃ : (c : tie.Else-not-pid_allowed) → all (start₃ c) ≡ first_of (widths (start₃ c) ++ rules (start₃ c))
 unfolding write_refusal
-past₃ c = right_call (start₃ c).args.pid _ _ c.before.before.if2.false (allowed c)
+past₃ c = right_call (start₃ c).args.pid _ _ c.before.before.if-buffer-ne-HEADER_LENGTH.false (allowed c)
 
-no_width : (c : tie.Else4) → NoneHolds (widths (start₄ c))
+no_width : (c : tie.Else-width-ne0) → NoneHolds (widths (start₄ c))
 no_width c =
     width_none (start₄ c).args.kind (said (start₄ c))
-    (sym (c.before.width-refusal.ensures ∙ at_length _ _ _ c.before.before.before.before.before.if1.false) ∙ c.if4.false)
+    (sym (c.before.width_refusal-width.ensures ∙ at_length _ _ _ c.before.before.before.before.before.if-setting-ne-SETTING_BYTES.false) ∙ c.if-width-ne0.false)
 
-past₄ : (c : tie.Else4) → all (start₄ c) ≡ first_of (rules (start₄ c))
+past₄ : (c : tie.Else-width-ne0) → all (start₄ c) ≡ first_of (rules (start₄ c))
 past₄ c = past₃ c.before.before ∙ onward (rules (start₄ c)) (no_width c)
 
-rule_is : (c : tie.After-rule-refusal) → c.rule-refusal.result ≡ first_of (rules (start₄ c.before))
-rule_is c = c.rule-refusal.ensures ∙ at_length _ _ _ c.before.before.before.before.before.before.if1.false
+rule_is : (c : tie.After-rule_refusal-rule) → c.rule_refusal-rule.result ≡ first_of (rules (start₄ c.before))
+rule_is c = c.rule_refusal-rule.ensures ∙ at_length _ _ _ c.before.before.before.before.before.before.if-setting-ne-SETTING_BYTES.false
 
-returns : tie.Need-returns
+returns : tie.Need-returns-then-setting-ne-SETTING_BYTES
 returns c =
-    let b = c.before.before.before.args.setting.now in
-    (sym (off_length _ _ _ c.if1.true), rw (ne_eqb (length b) setting_length c.if1.true) refl)
+    let b = c.before.before.before.args.setting.now in record {
+      value = sym (off_length _ _ _ c.if-setting-ne-SETTING_BYTES.true);
+      buffer_after = rw (ne_eqb (length b) setting_length c.if-setting-ne-SETTING_BYTES.true) refl;
+    }
 
-returns_2 : tie.Need-returns-2
+returns_2 : tie.Need-returns-then-buffer-ne-HEADER_LENGTH
 unfolding write_refusal
 returns_2 c =
-    let start = start₁ c.before in
-    refused c.before (wrong_length start.args.pid _ (widths start ++ rules start) c.if2.true) (omega arith)
+    let start = start₁ c.before in let all = refused c.before (wrong_length start.args.pid _ (widths start ++ rules start) c.if-buffer-ne-HEADER_LENGTH.true) (omega arith) in record {
+      value = all.0;
+      buffer_after = all.1;
+    }
 
-pid_allowed_requires : tie.Need-pid-allowed-requires
+pid_allowed_requires : tie.Need-pid_allowed-requires
 pid_allowed_requires c κs = search rules
 
-returns_3 : tie.Need-returns-3
+returns_3 : tie.Need-returns-then-not-pid_allowed
 unfolding write_refusal
 returns_3 c =
-    let start = start₂ c.before.before in
-    refused c.before.before.before
-    (wrong_pid start.args.pid _ (widths start ++ rules start) c.before.before.if2.false (sym c.before.pid-allowed.ensures ∙ not-true _ c.if3.true)) (omega arith)
+    let start = start₂ c.before.before in let all = refused c.before.before.before
+    (wrong_pid start.args.pid _ (widths start ++ rules start) c.before.before.if-buffer-ne-HEADER_LENGTH.false (sym c.before.pid_allowed.ensures ∙ not-true _ c.if-not-pid_allowed.true-raw)) (omega arith) in record {
+      value = all.0;
+      buffer_after = all.1;
+    }
 
-width_refusal_requires : tie.Need-width-refusal-requires
+width_refusal_requires : tie.Need-width_refusal-width-requires
 width_refusal_requires c κs = search rules
 
-returns_4 : tie.Need-returns-4
+returns_4 : tie.Need-returns-then-width-ne0
 returns_4 c =
     let start = start₃ c.before.before in
-    let n = c.before.width-refusal.ensures ∙ at_length _ _ _ c.before.before.before.before.before.if1.false in
-    refused c.before.before.before.before.before (past₃ c.before.before ∙ at_once (widths start) (rules start) (λ z. c.if4.true (n ∙ z)) ∙ sym n) c.if4.true
+    let n = c.before.width_refusal-width.ensures ∙ at_length _ _ _ c.before.before.before.before.before.if-setting-ne-SETTING_BYTES.false in let all = refused c.before.before.before.before.before (past₃ c.before.before ∙ at_once (widths start) (rules start) (λ z. c.if-width-ne0.true (n ∙ z)) ∙ sym n) c.if-width-ne0.true in record {
+      value = all.0;
+      buffer_after = all.1;
+    }
 
-rule_refusal_requires : tie.Need-rule-refusal-requires
+rule_refusal_requires : tie.Need-rule_refusal-rule-requires
 rule_refusal_requires c κs = search rules
 
-returns_5 : tie.Need-returns-5
-returns_5 c = refused c.before.before.before.before.before.before.before (past₄ c.before.before ∙ sym (rule_is c.before)) c.if5.true
+returns_5 : tie.Need-returns-then-rule-ne0
+returns_5 c =let all = refused c.before.before.before.before.before.before.before (past₄ c.before.before ∙ sym (rule_is c.before)) c.if-rule-ne0.true in record {
+      value = all.0;
+      buffer_after = all.1;
+    }
 
-write_header_requires : tie.Need-write-header-requires
+write_header_requires : tie.Need-write_header-requires
 write_header_requires c κs = search rules
 
-same_length : tie.Need-same-length
+same_length : tie.Need-shape_of-buffer
 same_length c = search rules
 
-returns_6 : tie.Need-returns-6
+returns_6 : tie.Need-returns
 returns_6 c =
     let write = c.before.before in
     let rule = write.before.before in
     let start = start₅ rule in
-    let whole = rule.before.before.before.before.before.before.before.if1.false in
-    let long = rule.before.before.before.before.before.before.if2.false in
-    let e = past₄ rule.before.before ∙ sym (rule_is rule.before) ∙ rule.if5.false in
-    let buffer = start.args.buffer.now in (
-      sym (at_length _ _ _ whole ∙ e),
-      (rw (eq-eqb (length buffer) header_length long, eq-eqb _ _ whole) at write.write-header.ensures)
-          ∙ rw (eq-eqb _ _ whole) (made start.args.kind start.args.pid (said start) buffer e),
-    )
+    let whole = rule.before.before.before.before.before.before.before.if-setting-ne-SETTING_BYTES.false in
+    let long = rule.before.before.before.before.before.before.if-buffer-ne-HEADER_LENGTH.false in
+    let e = past₄ rule.before.before ∙ sym (rule_is rule.before) ∙ rule.if-rule-ne0.false in
+    let buffer = start.args.buffer.now in record {
+      value = sym (at_length _ _ _ whole ∙ e);
+      buffer_after = (rw (eq-eqb (length buffer) header_length long, eq-eqb _ _ whole) at write.write_header.ensures)
+          ∙ rw (eq-eqb _ _ whole) (made start.args.kind start.args.pid (said start) buffer e);
+    }
 
 pub write_spec : {M : Type 1} → statement M
 write_spec =

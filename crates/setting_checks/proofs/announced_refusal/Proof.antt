@@ -20,38 +20,38 @@ use Rattle.setting_checks.proofs.announced_refusal.Statement.{statement}
 use Rattle.setting_checks.proofs.announced_refusal.Tie as tie
 
 -- from the place after a check that did not hold to the function's start
-abbrev start₁ : tie.Else1 → tie.Start
+abbrev start₁ : tie.Else-bytes-ne-ANNOUNCED_BYTES → tie.Start
 start₁ c = c.before.before
 
-abbrev start₂ : tie.Else2 → tie.Start
+abbrev start₂ : tie.Else-bytes-ge-SLOT_ALLOCATION_TYPES → tie.Start
 start₂ c = start₁ c.before.before
 
-abbrev start₃ : tie.Else3 → tie.Start
+abbrev start₃ : tie.Else-bytes-ge-FRAME_TYPES → tie.Start
 start₃ c = start₂ c.before.before
 
-abbrev start₄ : tie.Else4 → tie.Start
+abbrev start₄ : tie.Else-availability-ge-AVAILABILITIES → tie.Start
 start₄ c = start₃ c.before.before.before.before
 
-abbrev start₅ : tie.Else5 → tie.Start
+abbrev start₅ : tie.Else-some_at_least → tie.Start
 start₅ c = start₄ c.before.before.before
 
-abbrev start₆ : tie.Else6 → tie.Start
+abbrev start₆ : tie.Else-bytes-ge-EMERGENCY_INDICATORS → tie.Start
 start₆ c = start₅ c.before.before
 
 -- and to that behind the length
-abbrev first₂ : tie.Else2 → tie.Else1
+abbrev first₂ : tie.Else-bytes-ge-SLOT_ALLOCATION_TYPES → tie.Else-bytes-ne-ANNOUNCED_BYTES
 first₂ c = c.before.before
 
-abbrev first₃ : tie.Else3 → tie.Else1
+abbrev first₃ : tie.Else-bytes-ge-FRAME_TYPES → tie.Else-bytes-ne-ANNOUNCED_BYTES
 first₃ c = first₂ c.before.before
 
-abbrev first₄ : tie.Else4 → tie.Else1
+abbrev first₄ : tie.Else-availability-ge-AVAILABILITIES → tie.Else-bytes-ne-ANNOUNCED_BYTES
 first₄ c = first₃ c.before.before.before.before
 
-abbrev first₅ : tie.Else5 → tie.Else1
+abbrev first₅ : tie.Else-some_at_least → tie.Else-bytes-ne-ANNOUNCED_BYTES
 first₅ c = first₄ c.before.before.before
 
-abbrev first₆ : tie.Else6 → tie.Else1
+abbrev first₆ : tie.Else-bytes-ge-EMERGENCY_INDICATORS → tie.Else-bytes-ne-ANNOUNCED_BYTES
 first₆ c = first₅ c.before.before
 
 -- the rows that the function goes through: five of the information, and those of the streams behind the last one
@@ -61,100 +61,100 @@ behind c = behind_of (streams_of c.args.kind) (announced_of c.args.bytes.now)
 abbrev rows : tie.Start → List Check
 rows c = information_in c.args.bytes.now ++ behind c
 
-told : (c : tie.Else1) → let s = (start₁ c).args in of_length announced_length (length s.bytes.now) (first_of (announced_checks s.kind (announced_of s.bytes.now))) ≡ first_of (rows (start₁ c))
-told c = let s = (start₁ c).args in at_length _ _ _ c.if1.false ∙ ap first_of (announced_in s.kind s.bytes.now c.if1.false)
+told : (c : tie.Else-bytes-ne-ANNOUNCED_BYTES) → let s = (start₁ c).args in of_length announced_length (length s.bytes.now) (first_of (announced_checks s.kind (announced_of s.bytes.now))) ≡ first_of (rows (start₁ c))
+told c = let s = (start₁ c).args in at_length _ _ _ c.if-bytes-ne-ANNOUNCED_BYTES.false ∙ ap first_of (announced_in s.kind s.bytes.now c.if-bytes-ne-ANNOUNCED_BYTES.false)
 
-past_1 : (c : tie.Else2) → Past 1 (rows (start₂ c))
-past_1 c = passed _ _ (lt-leb _ _ c.if2.false)
+past_1 : (c : tie.Else-bytes-ge-SLOT_ALLOCATION_TYPES) → Past 1 (rows (start₂ c))
+past_1 c = passed _ _ (lt-leb _ _ c.if-bytes-ge-SLOT_ALLOCATION_TYPES.false)
 
-past_2 : (c : tie.Else3) → Past 2 (rows (start₃ c))
-past_2 c = past_1 c.before.before ∙ passed _ _ (lt-leb _ _ c.if3.false)
+past_2 : (c : tie.Else-bytes-ge-FRAME_TYPES) → Past 2 (rows (start₃ c))
+past_2 c = past_1 c.before.before ∙ passed _ _ (lt-leb _ _ c.if-bytes-ge-FRAME_TYPES.false)
 
-past_3 : (c : tie.Else4) → Past 3 (rows (start₄ c))
-past_3 c = past_2 c.before.before.before.before ∙ passed _ _ (ap (leb (2 ^ last_stream)) (sym c.before.word.ensures) ∙ lt-leb _ _ c.if4.false)
+past_3 : (c : tie.Else-availability-ge-AVAILABILITIES) → Past 3 (rows (start₄ c))
+past_3 c = past_2 c.before.before.before.before ∙ passed _ _ (ap (leb (2 ^ last_stream)) (sym c.before.word-availability.ensures) ∙ lt-leb _ _ c.if-availability-ge-AVAILABILITIES.false)
 
-past_4 : (c : tie.Else5) → Past 4 (rows (start₅ c))
+past_4 : (c : tie.Else-some_at_least) → Past 4 (rows (start₅ c))
 past_4 c =
     past_3 c.before.before.before
-    ∙ passed _ _ (statuses_fit (start₅ c).args.bytes.now (first₅ c).if1.false (sym c.before.some-at-least.ensures ∙ c.if5.false))
+    ∙ passed _ _ (statuses_fit (start₅ c).args.bytes.now (first₅ c).if-bytes-ne-ANNOUNCED_BYTES.false (sym c.before.some_at_least.ensures ∙ c.if-some_at_least.false))
 
-past_5 : (c : tie.Else6) → Past 5 (rows (start₆ c))
-past_5 c = past_4 c.before.before ∙ passed _ _ (lt-leb _ _ c.if6.false)
+past_5 : (c : tie.Else-bytes-ge-EMERGENCY_INDICATORS) → Past 5 (rows (start₆ c))
+past_5 c = past_4 c.before.before ∙ passed _ _ (lt-leb _ _ c.if-bytes-ge-EMERGENCY_INDICATORS.false)
 
 -- how many streams the kind has
-streams-told : (c : tie.After-size-of) → c.type_size.result.streams ≡ streams_of (start₆ c.before).args.kind
-streams-told c = ap (λ (z : Size). z.streams) c.type_size.ensures
+streams-told : (c : tie.After-size_of-size) → c.size_of-size.result.streams ≡ streams_of (start₆ c.before).args.kind
+streams-told c = ap (λ (z : Size). z.streams) c.size_of-size.ensures
 
-returns : tie.Need-returns
-returns c = sym (off_length _ _ _ c.if1.true)
+returns : tie.Need-returns-then-bytes-ne-ANNOUNCED_BYTES
+returns c = sym (off_length _ _ _ c.if-bytes-ne-ANNOUNCED_BYTES.true)
 
-shared_slice_read_if2 : tie.Need-shared-slice-read-if2
+shared_slice_read_if2 : tie.Need-bounds-bytes-0
 shared_slice_read_if2 c = search rules
 
-returns_2 : tie.Need-returns-2
-returns_2 c = sym (told c.before.before ∙ answers _ _ (le-leb _ _ c.if2.true))
+returns_2 : tie.Need-returns-then-bytes-ge-SLOT_ALLOCATION_TYPES
+returns_2 c = sym (told c.before.before ∙ answers _ _ (le-leb _ _ c.if-bytes-ge-SLOT_ALLOCATION_TYPES.true))
 
-shared_slice_read_if3 : tie.Need-shared-slice-read-if3
+shared_slice_read_if3 : tie.Need-bounds-bytes-1
 shared_slice_read_if3 c = search rules
 
-returns_3 : tie.Need-returns-3
-returns_3 c = sym (told (first₂ c.before.before) ∙ past_1 c.before.before ∙ answers _ _ (le-leb _ _ c.if3.true))
+returns_3 : tie.Need-returns-then-bytes-ge-FRAME_TYPES
+returns_3 c = sym (told (first₂ c.before.before) ∙ past_1 c.before.before ∙ answers _ _ (le-leb _ _ c.if-bytes-ge-FRAME_TYPES.true))
 
-shared_slice_read_word : tie.Need-shared-slice-read-word
+shared_slice_read_word : tie.Need-bounds-bytes-2
 shared_slice_read_word c = search rules
 
-shared_slice_read_word_2 : tie.Need-shared-slice-read-word-2
+shared_slice_read_word_2 : tie.Need-bounds-bytes-3
 shared_slice_read_word_2 c = search rules
 
-word_requires : tie.Need-word-requires
+word_requires : tie.Need-word-availability-requires
 word_requires c κs = search rules
 
-returns_4 : tie.Need-returns-4
+returns_4 : tie.Need-returns-then-availability-ge-AVAILABILITIES
 returns_4 c =
     let k = c.before.before.before.before in
-    sym (told (first₃ k) ∙ past_2 k ∙ answers _ _ (ap (leb (2 ^ last_stream)) (sym c.before.word.ensures) ∙ le-leb _ _ c.if4.true))
+    sym (told (first₃ k) ∙ past_2 k ∙ answers _ _ (ap (leb (2 ^ last_stream)) (sym c.before.word-availability.ensures) ∙ le-leb _ _ c.if-availability-ge-AVAILABILITIES.true))
 
-sub_some_at_least : tie.Need-overflow-sub-some-at-least
+sub_some_at_least : tie.Need-slice_bounds-some_at_least-count
 sub_some_at_least c = search rules
 
-part-some_at_least-start : tie.Need-slice-bounds-some-at-least-start
+part-some_at_least-start : tie.Need-slice_bounds-some_at_least-start
 part-some_at_least-start c = search rules
 
-part_some_at_least_end : tie.Need-slice-bounds-some-at-least-end
+part_some_at_least_end : tie.Need-slice_bounds-some_at_least-end
 part_some_at_least_end c = search rules
 
-some_at_least_requires : tie.Need-some-at-least-requires
+some_at_least_requires : tie.Need-some_at_least-requires
 some_at_least_requires c κs = search rules
 
-returns_5 : tie.Need-returns-5
+returns_5 : tie.Need-returns-then-some_at_least
 returns_5 c =
     let k = c.before.before.before in
-    sym (told (first₄ k) ∙ past_3 k ∙ control_answers (start₄ k).args.bytes.now (first₄ k).if1.false _ (sym c.before.some-at-least.ensures ∙ c.if5.true))
+    sym (told (first₄ k) ∙ past_3 k ∙ control_answers (start₄ k).args.bytes.now (first₄ k).if-bytes-ne-ANNOUNCED_BYTES.false _ (sym c.before.some_at_least.ensures ∙ c.if-some_at_least.true))
 
-shared_slice_read_if6 : tie.Need-shared-slice-read-if6
+shared_slice_read_if6 : tie.Need-bounds-bytes-79
 shared_slice_read_if6 c = search rules
 
-returns_6 : tie.Need-returns-6
-returns_6 c = sym (told (first₅ c.before.before) ∙ past_4 c.before.before ∙ answers _ _ (le-leb _ _ c.if6.true))
+returns_6 : tie.Need-returns-then-bytes-ge-EMERGENCY_INDICATORS
+returns_6 c = sym (told (first₅ c.before.before) ∙ past_4 c.before.before ∙ answers _ _ (le-leb _ _ c.if-bytes-ge-EMERGENCY_INDICATORS.true))
 
-size_of_requires : tie.Need-size-of-requires
+size_of_requires : tie.Need-size_of-size-requires
 size_of_requires c κs = search rules
 
-returns_7 : tie.Need-returns-7
+returns_7 : tie.Need-returns-then-size-eq-LAST
 returns_7 c =
     let k = c.before.before.before in
-    let all = sym (streams-told c.before.before) ∙ c.if7.true in
-    sym (told (first₆ k) ∙ past_5 k ∙ rw all (nothing_behind (start₆ k).args.bytes.now (first₆ k).if1.false))
+    let all = sym (streams-told c.before.before) ∙ c.if-size-eq-LAST.true in
+    sym (told (first₆ k) ∙ past_5 k ∙ rw all (nothing_behind (start₆ k).args.bytes.now (first₆ k).if-bytes-ne-ANNOUNCED_BYTES.false))
 
-behind_refusal_requires : tie.Need-behind-refusal-requires
+behind_refusal_requires : tie.Need-behind_refusal-requires
 behind_refusal_requires c κs =
     let k = c.before.before.before in
-    ((first₆ k).if1.false, rw (streams-told c.before.before) (sized (start₆ k).args.kind).streams)
+    ((first₆ k).if-bytes-ne-ANNOUNCED_BYTES.false, rw (streams-told c.before.before) (sized (start₆ k).args.kind).streams)
 
-returns_8 : tie.Need-returns-8
+returns_8 : tie.Need-returns
 returns_8 c =
     let k = c.before.before.before.before in
-    c.behind-refusal.ensures ∙ rw (streams-told c.before.before.before) refl ∙ sym (told (first₆ k) ∙ past_5 k)
+    c.behind_refusal.ensures ∙ rw (streams-told c.before.before.before) refl ∙ sym (told (first₆ k) ∙ past_5 k)
 
 pub announced_refusal_spec : {M : Type 1} → statement M
 announced_refusal_spec =

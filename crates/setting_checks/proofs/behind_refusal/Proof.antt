@@ -28,104 +28,102 @@ told c = ap first_of (behind_in_lem c.args.streams c.args.bytes.now c.requires.0
 bits : (c : tie.Start) → 1 * 2 ^ (last_stream - c.args.streams) % 2 ^ 16 ≡ 2 ^ (last_stream - c.args.streams)
 bits c = shl_exact 1 (last_stream - c.args.streams) 16 (omega arith) (omega arith) ∙ one-mul (2 ^ (last_stream - c.args.streams))
 
-rest : (c : tie.After-word) → let s = c.before.before.before.before in c.word.result % (1 * 2 ^ (last_stream - s.args.streams) % 2 ^ 16) ≡ word_at availability_at s.args.bytes.now % 2 ^ (last_stream - s.args.streams)
-rest c = rw (bits c.before.before.before.before, c.word.ensures) refl
+rest : (c : tie.After-word-availability) → let s = c.before.before.before.before in c.word-availability.result % (1 * 2 ^ (last_stream - s.args.streams) % 2 ^ 16) ≡ word_at availability_at s.args.bytes.now % 2 ^ (last_stream - s.args.streams)
+rest c = rw (bits c.before.before.before.before, c.word-availability.ensures) refl
 
-past_1 : (c : tie.Else1) → Past 1 (rows c.before.before.before.before.before)
-past_1 c = passed _ _ (ap not (eq-eqb _ _ (sym (rest c.before) ∙ c.if1.false)))
+past_1 : (c : tie.Else-availability-streams-ne0) → Past 1 (rows c.before.before.before.before.before)
+past_1 c = passed _ _ (ap not (eq-eqb _ _ (sym (rest c.before) ∙ c.if-availability-streams-ne0.false)))
 
-past_2 : (c : tie.Else2) → Past 2 (rows c.before.before.before.before.before.before.before.before)
-past_2 c = past_1 c.before.before.before ∙ passed _ _ (sym c.before.some-behind.ensures ∙ c.if2.false)
+past_2 : (c : tie.Else-some_behind) → Past 2 (rows c.before.before.before.before.before.before.before.before)
+past_2 c = past_1 c.before.before.before ∙ passed _ _ (sym c.before.some_behind.ensures ∙ c.if-some_behind.false)
 
-past_3 : (c : tie.Else3) → Past 3 (rows c.before.before.before.before.before.before.before.before.before.before.before)
-past_3 c = past_2 c.before.before.before ∙ passed _ _ (sym c.before.some-behind2.ensures ∙ c.if3.false)
+past_3 : (c : tie.Else-some_behind-2) → Past 3 (rows c.before.before.before.before.before.before.before.before.before.before.before)
+past_3 c = past_2 c.before.before.before ∙ passed _ _ (sym c.before.some_behind-2.ensures ∙ c.if-some_behind-2.false)
 
-past_4 : (c : tie.Else4) → Past 4 (rows c.before.before.before.before.before.before.before.before.before.before.before.before.before.before)
-past_4 c = past_3 c.before.before.before ∙ passed _ _ (sym c.before.some-behind3.ensures ∙ c.if4.false)
+past_4 : (c : tie.Else-some_behind-3) → Past 4 (rows c.before.before.before.before.before.before.before.before.before.before.before.before.before.before)
+past_4 c = past_3 c.before.before.before ∙ passed _ _ (sym c.before.some_behind-3.ensures ∙ c.if-some_behind-3.false)
 
-shared_slice_read_word : tie.Need-shared-slice-read-word
+shared_slice_read_word : tie.Need-bounds-bytes-2
 shared_slice_read_word c = search rules
 
-shared_slice_read_word_2 : tie.Need-shared-slice-read-word-2
+shared_slice_read_word_2 : tie.Need-bounds-bytes-3
 shared_slice_read_word_2 c = search rules
 
-word_requires : tie.Need-word-requires
+word_requires : tie.Need-word-availability-requires
 word_requires c κs = search rules
 
-sub_if1 : tie.Need-overflow-sub-if1
+sub_if1 : tie.Need-overflow_sub-streams
 sub_if1 c = search rules
 
-cast_if1 : tie.Need-overflow-cast-if1
+cast_if1 : tie.Need-overflow_cast-streams
 cast_if1 c = search rules
 
-cast_if1_2 : tie.Need-overflow-cast-if1-2
+cast_if1_2 : tie.Need-overflow_cast-streams-2
 cast_if1_2 c = search rules
 
-shl_if1 : tie.Need-overflow-shl-if1
+shl_if1 : tie.Need-overflow_shl-streams
 shl_if1 c = search rules
 
-rem_if1 : tie.Need-nonzero-rem-if1
-rem_if1 c =
-    let s = c.before.before.before.before in
-    rw (bits s) (pow_pos (last_stream - s.args.streams))
+returns : tie.Need-returns-then-availability-streams-ne0
+returns c = sym (told c.before.before.before.before.before ∙ answers _ _ (ap not (ne_eqb _ _ (λ e. c.if-availability-streams-ne0.true (rest c.before ∙ e)))))
 
-returns : tie.Need-returns
-returns c = sym (told c.before.before.before.before.before ∙ answers _ _ (ap not (ne_eqb _ _ (λ e. c.if1.true (rest c.before ∙ e)))))
-
-sub_some_behind : tie.Need-overflow-sub-some-behind
+sub_some_behind : tie.Need-slice_bounds-some_behind-count
 sub_some_behind c = search rules
 
-part-some_behind-start : tie.Need-slice-bounds-some-behind-start
+part-some_behind-start : tie.Need-slice_bounds-some_behind-start
 part-some_behind-start c = search rules
 
-part_some_behind_end : tie.Need-slice-bounds-some-behind-end
+part_some_behind_end : tie.Need-slice_bounds-some_behind-end
 part_some_behind_end c = search rules
 
-mul_some_behind : tie.Need-overflow-mul-some-behind
+mul_some_behind : tie.Need-overflow_mul-known
 mul_some_behind c = search rules
 
-some_behind_requires : tie.Need-some-behind-requires
+some_behind_requires : tie.Need-some_behind-requires
 some_behind_requires c κs = search rules
 
-returns_2 : tie.Need-returns-2
-returns_2 c = sym (told c.before.before.before.before.before.before.before.before ∙ past_1 c.before.before.before ∙ answers _ _ (sym c.before.some-behind.ensures ∙ c.if2.true))
+returns_2 : tie.Need-returns-then-some_behind
+returns_2 c = sym (told c.before.before.before.before.before.before.before.before ∙ past_1 c.before.before.before ∙ answers _ _ (sym c.before.some_behind.ensures ∙ c.if-some_behind.true))
 
-sub_some_behind_2 : tie.Need-overflow-sub-some-behind-2
+sub_some_behind_2 : tie.Need-slice_bounds-some_behind-count-2
 sub_some_behind_2 c = search rules
 
-part_some_behind_start_2 : tie.Need-slice-bounds-some-behind-start-2
+part_some_behind_start_2 : tie.Need-slice_bounds-some_behind-start-2
 part_some_behind_start_2 c = search rules
 
-part_some_behind_end_2 : tie.Need-slice-bounds-some-behind-end-2
+part_some_behind_end_2 : tie.Need-slice_bounds-some_behind-end-2
 part_some_behind_end_2 c = search rules
 
-mul_some_behind_2 : tie.Need-overflow-mul-some-behind-2
+mul_some_behind_2 : tie.Need-overflow_mul-known-2
 mul_some_behind_2 c = search rules
 
-some_behind_requires_2 : tie.Need-some-behind-requires-2
+some_behind_requires_2 : tie.Need-some_behind-requires-2
 some_behind_requires_2 c κs = search rules
 
-returns_3 : tie.Need-returns-3
-returns_3 c = sym (told c.before.before.before.before.before.before.before.before.before.before.before ∙ past_2 c.before.before.before ∙ answers _ _ (sym c.before.some-behind2.ensures ∙ c.if3.true))
+returns_3 : tie.Need-returns-then-some_behind-2
+returns_3 c = sym (told c.before.before.before.before.before.before.before.before.before.before.before ∙ past_2 c.before.before.before ∙ answers _ _ (sym c.before.some_behind-2.ensures ∙ c.if-some_behind-2.true))
 
-sub_some_behind_3 : tie.Need-overflow-sub-some-behind-3
+sub_some_behind_3 : tie.Need-slice_bounds-some_behind-count-3
 sub_some_behind_3 c = search rules
 
-part_some_behind_start_3 : tie.Need-slice-bounds-some-behind-start-3
+part_some_behind_start_3 : tie.Need-slice_bounds-some_behind-start-3
 part_some_behind_start_3 c = search rules
 
-part_some_behind_end_3 : tie.Need-slice-bounds-some-behind-end-3
+part_some_behind_end_3 : tie.Need-slice_bounds-some_behind-end-3
 part_some_behind_end_3 c = search rules
 
-some_behind_requires_3 : tie.Need-some-behind-requires-3
+some_behind_requires_3 : tie.Need-some_behind-requires-3
 some_behind_requires_3 c κs = search rules
 
-returns_4 : tie.Need-returns-4
-returns_4 c = sym (told c.before.before.before.before.before.before.before.before.before.before.before.before.before.before ∙ past_3 c.before.before.before ∙ answers _ _ (sym c.before.some-behind3.ensures ∙ c.if4.true))
+returns_4 : tie.Need-returns-then-some_behind-3
+returns_4 c = sym (told c.before.before.before.before.before.before.before.before.before.before.before.before.before.before ∙ past_3 c.before.before.before ∙ answers _ _ (sym c.before.some_behind-3.ensures ∙ c.if-some_behind-3.true))
 
-returns_5 : tie.Need-returns-5
+returns_5 : tie.Need-returns
 unfolding first_of
 returns_5 c = sym (told c.before.before.before.before.before.before.before.before.before.before.before.before.before.before ∙ past_4 c)
+
+nonzero_rem-availability : tie.Need-nonzero_rem-availability
+nonzero_rem-availability c = search rules
 
 pub behind_refusal_spec : {M : Type 1} → statement M
 behind_refusal_spec =
@@ -138,7 +136,7 @@ behind_refusal_spec =
     cast_if1
     cast_if1_2
     shl_if1
-    rem_if1
+    nonzero_rem-availability
     returns
     sub_some_behind
     part-some_behind-start

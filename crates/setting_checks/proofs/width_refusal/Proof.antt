@@ -31,128 +31,128 @@ shown c = announced_checks c.args.kind (announced_of (part announced_at announce
 abbrev rest : tie.Start → List Check
 rest c = rest_in c.args.kind c.args.bytes.now
 
-told : (c : tie.Else1) → let s = c.before.before.args in of_length setting_length (length s.bytes.now) (first_of (width_checks s.kind (setting_of s.bytes.now))) ≡ first_of (rows c.before.before)
-told c = let s = c.before.before.args in at_length _ _ _ c.if1.false ∙ ap first_of (widths_in_lem s.kind s.bytes.now c.if1.false)
+told : (c : tie.Else-bytes-ne-SETTING_BYTES) → let s = c.before.before.args in of_length setting_length (length s.bytes.now) (first_of (width_checks s.kind (setting_of s.bytes.now))) ≡ first_of (rows c.before.before)
+told c = let s = c.before.before.args in at_length _ _ _ c.if-bytes-ne-SETTING_BYTES.false ∙ ap first_of (widths_in_lem s.kind s.bytes.now c.if-bytes-ne-SETTING_BYTES.false)
 
-past_1 : (c : tie.Else2) → Past 1 (rows c.before.before.before.before)
-past_1 c = passed _ _ (lt-leb _ _ c.if2.false)
+past_1 : (c : tie.Else-bytes-ge-COUNTERS) → Past 1 (rows c.before.before.before.before)
+past_1 c = passed _ _ (lt-leb _ _ c.if-bytes-ge-COUNTERS.false)
 
-past_2 : (c : tie.Else3) → Past 2 (rows c.before.before.before.before.before.before)
-past_2 c = past_1 c.before.before ∙ passed _ _ (lt-leb _ _ c.if3.false)
+past_2 : (c : tie.Else-bytes-ge-VERSIONS) → Past 2 (rows c.before.before.before.before.before.before)
+past_2 c = past_1 c.before.before ∙ passed _ _ (lt-leb _ _ c.if-bytes-ge-VERSIONS.false)
 
-asked : (c : tie.After-announced-refusal) → c.announced-refusal.result ≡ first_of (shown c.before.before.before.before.before.before.before.before)
+asked : (c : tie.After-announced_refusal-announced) → c.announced_refusal-announced.result ≡ first_of (shown c.before.before.before.before.before.before.before.before)
 asked c =
     let b = c.before.before.before.before.before.before.before.before.args.bytes.now in
-    let long = c.before.before.before.before.before.before.if1.false in
-    c.announced-refusal.ensures ∙ at_length _ _ _ (length_part announced_at announced_length b (omega (arith, long)))
+    let long = c.before.before.before.before.before.before.if-bytes-ne-SETTING_BYTES.false in
+    c.announced_refusal-announced.ensures ∙ at_length _ _ _ (length_part announced_at announced_length b (omega (arith, long)))
 
-past_shown : (c : tie.Else4) → first_of (rows c.before.before.before.before.before.before.before.before.before) ≡ first_of (rest c.before.before.before.before.before.before.before.before.before)
+past_shown : (c : tie.Else-announced-ne0) → first_of (rows c.before.before.before.before.before.before.before.before.before) ≡ first_of (rest c.before.before.before.before.before.before.before.before.before)
 unfolding announced_checks
-past_shown c = past_2 c.before.before.before ∙ onward (rest c.before.before.before.before.before.before.before.before.before) (none_first (shown c.before.before.before.before.before.before.before.before.before) refl (sym (asked c.before) ∙ c.if4.false))
+past_shown c = past_2 c.before.before.before ∙ onward (rest c.before.before.before.before.before.before.before.before.before) (none_first (shown c.before.before.before.before.before.before.before.before.before) refl (sym (asked c.before) ∙ c.if-announced-ne0.false))
 
 -- the slots' numbers: too large for their bits, behind the last slot
-large : (c : tie.After-some-at-least) → let s = c.before.before.before.before.before.before.before.before.before.before.before.before.before.args in c.some-at-least.result ≡ some_at_least (2 ^ (size_of s.kind).number_bits) (part numbers_at last_slot s.bytes.now)
+large : (c : tie.After-some_at_least) → let s = c.before.before.before.before.before.before.before.before.before.before.before.before.before.args in c.some_at_least.result ≡ some_at_least (2 ^ (size_of s.kind).number_bits) (part numbers_at last_slot s.bytes.now)
 large c =
     let kind = c.before.before.before.before.before.before.before.before.before.before.before.before.before.args.kind in
-    c.some-at-least.ensures ∙ rw (c.before.before.before.type_size.ensures, (sized kind).bits) refl
+    c.some_at_least.ensures ∙ rw (c.before.before.before.size_of-size.ensures, (sized kind).bits) refl
 
-past_large : (c : tie.Else5) → first_of (rows c.before.before.before.before.before.before.before.before.before.before.before.before.before.before) ≡ first_of (drop 1 (rest c.before.before.before.before.before.before.before.before.before.before.before.before.before.before))
-past_large c = past_shown c.before.before.before.before.before ∙ passed _ _ (sym (large c.before) ∙ c.if5.false)
+past_large : (c : tie.Else-some_at_least) → first_of (rows c.before.before.before.before.before.before.before.before.before.before.before.before.before.before) ≡ first_of (drop 1 (rest c.before.before.before.before.before.before.before.before.before.before.before.before.before.before))
+past_large c = past_shown c.before.before.before.before.before ∙ passed _ _ (sym (large c.before) ∙ c.if-some_at_least.false)
 
-behind : (c : tie.After-some-behind) → let s = c.before.before.before.before.before.before.before.before.before.before.before.before.before.before.before.before.before.args in c.some-behind.result ≡ some_behind (slots_of s.kind) (part numbers_at last_slot s.bytes.now)
-behind c = c.some-behind.ensures ∙ rw c.before.before.before.before.before.before.before.type_size.ensures refl
+behind : (c : tie.After-some_behind) → let s = c.before.before.before.before.before.before.before.before.before.before.before.before.before.before.before.before.before.args in c.some_behind.result ≡ some_behind (slots_of s.kind) (part numbers_at last_slot s.bytes.now)
+behind c = c.some_behind.ensures ∙ rw c.before.before.before.before.before.before.before.size_of-size.ensures refl
 
-returns : tie.Need-returns
-returns c = sym (off_length _ _ _ c.if1.true)
+returns : tie.Need-returns-then-bytes-ne-SETTING_BYTES
+returns c = sym (off_length _ _ _ c.if-bytes-ne-SETTING_BYTES.true)
 
-shared_slice_read_if2 : tie.Need-shared-slice-read-if2
+shared_slice_read_if2 : tie.Need-bounds-bytes-0
 shared_slice_read_if2 c = search rules
 
-returns_2 : tie.Need-returns-2
-returns_2 c = sym (told c.before.before ∙ answers _ _ (le-leb _ _ c.if2.true))
+returns_2 : tie.Need-returns-then-bytes-ge-COUNTERS
+returns_2 c = sym (told c.before.before ∙ answers _ _ (le-leb _ _ c.if-bytes-ge-COUNTERS.true))
 
-shared_slice_read_if3 : tie.Need-shared-slice-read-if3
+shared_slice_read_if3 : tie.Need-bounds-bytes-1
 shared_slice_read_if3 c = search rules
 
-returns_3 : tie.Need-returns-3
-returns_3 c = sym (told c.before.before.before.before ∙ past_1 c.before.before ∙ answers _ _ (le-leb _ _ c.if3.true))
+returns_3 : tie.Need-returns-then-bytes-ge-VERSIONS
+returns_3 c = sym (told c.before.before.before.before ∙ past_1 c.before.before ∙ answers _ _ (le-leb _ _ c.if-bytes-ge-VERSIONS.true))
 
-sub_announced_refusal : tie.Need-overflow-sub-announced-refusal
+sub_announced_refusal : tie.Need-slice_bounds-announced_refusal-count
 sub_announced_refusal c = search rules
 
-part-announced-refusal-start : tie.Need-slice-bounds-announced-refusal-start
+part-announced-refusal-start : tie.Need-slice_bounds-announced_refusal-start
 part-announced-refusal-start c = search rules
 
-part_announced_refusal_end : tie.Need-slice-bounds-announced-refusal-end
+part_announced_refusal_end : tie.Need-slice_bounds-announced_refusal-end
 part_announced_refusal_end c = search rules
 
-announced_refusal_requires : tie.Need-announced-refusal-requires
+announced_refusal_requires : tie.Need-announced_refusal-announced-requires
 announced_refusal_requires c κs = search rules
 
-returns_4 : tie.Need-returns-4
+returns_4 : tie.Need-returns-then-announced-ne0
 returns_4 c =
     let answer = asked c.before in
-    sym (told c.before.before.before.before.before.before.before ∙ past_2 c.before.before.before ∙ at_once (shown c.before.before.before.before.before.before.before.before.before) (rest c.before.before.before.before.before.before.before.before.before) (λ e. c.if4.true (answer ∙ e)) ∙ sym answer)
+    sym (told c.before.before.before.before.before.before.before ∙ past_2 c.before.before.before ∙ at_once (shown c.before.before.before.before.before.before.before.before.before) (rest c.before.before.before.before.before.before.before.before.before) (λ e. c.if-announced-ne0.true (answer ∙ e)) ∙ sym answer)
 
-size_of_requires : tie.Need-size-of-requires
+size_of_requires : tie.Need-size_of-size-requires
 size_of_requires c κs = search rules
 
-sub_some_at_least : tie.Need-overflow-sub-some-at-least
+sub_some_at_least : tie.Need-slice_bounds-some_at_least-count
 sub_some_at_least c = search rules
 
-part-some_at_least-start : tie.Need-slice-bounds-some-at-least-start
+part-some_at_least-start : tie.Need-slice_bounds-some_at_least-start
 part-some_at_least-start c = search rules
 
-part_some_at_least_end : tie.Need-slice-bounds-some-at-least-end
+part_some_at_least_end : tie.Need-slice_bounds-some_at_least-end
 part_some_at_least_end c = search rules
 
-add_some_at_least : tie.Need-overflow-add-some-at-least
+add_some_at_least : tie.Need-overflow_add-size
 add_some_at_least c =
     let few = (sized c.before.before.before.before.before.before.before.before.before.before.before.before.args.kind).streams in
-    rw c.before.before.type_size.ensures (omega (arith, few))
+    rw c.before.before.size_of-size.ensures (omega (arith, few))
 
-some_at_least_requires : tie.Need-some-at-least-requires
+some_at_least_requires : tie.Need-some_at_least-requires
 some_at_least_requires c κs = search rules
 
-returns_5 : tie.Need-returns-5
-returns_5 c = sym (told c.before.before.before.before.before.before.before.before.before.before.before.before ∙ past_shown c.before.before.before.before.before ∙ answers _ _ (sym (large c.before) ∙ c.if5.true))
+returns_5 : tie.Need-returns-then-some_at_least
+returns_5 c = sym (told c.before.before.before.before.before.before.before.before.before.before.before.before ∙ past_shown c.before.before.before.before.before ∙ answers _ _ (sym (large c.before) ∙ c.if-some_at_least.true))
 
-sub_some_behind : tie.Need-overflow-sub-some-behind
+sub_some_behind : tie.Need-slice_bounds-some_behind-count
 sub_some_behind c = search rules
 
-part-some_behind-start : tie.Need-slice-bounds-some-behind-start
+part-some_behind-start : tie.Need-slice_bounds-some_behind-start
 part-some_behind-start c = search rules
 
-part_some_behind_end : tie.Need-slice-bounds-some-behind-end
+part_some_behind_end : tie.Need-slice_bounds-some_behind-end
 part_some_behind_end c = search rules
 
-cast_some_behind : tie.Need-overflow-cast-some-behind
+cast_some_behind : tie.Need-overflow_cast-size
 cast_some_behind c = search rules
 
-some_behind_requires : tie.Need-some-behind-requires
+some_behind_requires : tie.Need-some_behind-requires
 some_behind_requires c κs = search rules
 
-returns_6 : tie.Need-returns-6
-returns_6 c = sym (told c.before.before.before.before.before.before.before.before.before.before.before.before.before.before.before.before ∙ past_large c.before.before.before.before ∙ answers _ _ (sym (behind c.before) ∙ c.if6.true))
+returns_6 : tie.Need-returns-then-some_behind
+returns_6 c = sym (told c.before.before.before.before.before.before.before.before.before.before.before.before.before.before.before.before ∙ past_large c.before.before.before.before ∙ answers _ _ (sym (behind c.before) ∙ c.if-some_behind.true))
 
-sub_absent_refusal : tie.Need-overflow-sub-absent-refusal
+sub_absent_refusal : tie.Need-slice_bounds-absent_refusal-count
 sub_absent_refusal c = search rules
 
-part_absent_refusal_start : tie.Need-slice-bounds-absent-refusal-start
+part_absent_refusal_start : tie.Need-slice_bounds-absent_refusal-start
 part_absent_refusal_start c = search rules
 
-part_absent_refusal_end : tie.Need-slice-bounds-absent-refusal-end
+part_absent_refusal_end : tie.Need-slice_bounds-absent_refusal-end
 part_absent_refusal_end c = search rules
 
-absent_refusal_requires : tie.Need-absent-refusal-requires
+absent_refusal_requires : tie.Need-absent_refusal-requires
 absent_refusal_requires c κs = search rules
 
-returns_7 : tie.Need-returns-7
+returns_7 : tie.Need-returns
 returns_7 c =
     let start = c.before.before.before.before.before.before.before.before.before.before.before.before.before.before.before.before.before.before.before.before in
     let one = c.before.before.before.before.before.before.before.before.before.before.before.before.before.before.before.before.before.before in
-    c.absent-refusal.ensures ∙ ap first_of (absent_in_lem start.args.kind start.args.bytes.now one.if1.false)
-    ∙ sym (told one ∙ past_large c.before.before.before.before.before.before ∙ passed _ _ (sym (behind c.before.before.before) ∙ c.before.before.if6.false))
+    c.absent_refusal.ensures ∙ ap first_of (absent_in_lem start.args.kind start.args.bytes.now one.if-bytes-ne-SETTING_BYTES.false)
+    ∙ sym (told one ∙ past_large c.before.before.before.before.before.before ∙ passed _ _ (sym (behind c.before.before.before) ∙ c.before.before.if-some_behind.false))
 
 pub width_refusal_spec : {M : Type 1} → statement M
 width_refusal_spec =

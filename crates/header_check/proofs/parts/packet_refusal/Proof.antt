@@ -17,143 +17,143 @@ use Rattle.header_check.proofs.parts.packet_refusal.Statement.{statement}
 use Rattle.header_check.proofs.parts.packet_refusal.Tie as tie
 
 -- the packet, its bytes and its length, and the checks on it
-abbrev packet : tie.After-shared-slice-known → List ℕ
+abbrev packet : tie.After-shared_slice_known-1 → List ℕ
 packet c = c.before.args.packet.now
 
-bytes : (c : tie.After-shared-slice-known) → Fit 8 (packet c)
-bytes c = fit_of 8 (packet c) (λ i. (c.shared-slice-known.given i).fits)
+bytes : (c : tie.After-shared_slice_known-1) → Fit 8 (packet c)
+bytes c = fit_of 8 (packet c) (λ i. (c.shared_slice_known-1.given i).fits)
 
-abbrev checks : tie.After-shared-slice-known → List Check
+abbrev checks : tie.After-shared_slice_known-1 → List Check
 checks c = packet_checks c.before.args.pid (packet c)
 
 -- the places after each check that did not hold
-abbrev known₁ : tie.Else1 → tie.After-shared-slice-known
+abbrev known₁ : tie.Else-packet-ne71 → tie.After-shared_slice_known-1
 known₁ c = c.before.before
 
-abbrev known₂ : tie.Else2 → tie.After-shared-slice-known
+abbrev known₂ : tie.Else-word_at-pid → tie.After-shared_slice_known-1
 known₂ c = known₁ c.before.before
 
-abbrev known₃ : tie.Else3 → tie.After-shared-slice-known
+abbrev known₃ : tie.Else-packet-ne0 → tie.After-shared_slice_known-1
 known₃ c = known₂ c.before.before
 
-abbrev known₄ : tie.Else4 → tie.After-shared-slice-known
+abbrev known₄ : tie.Else-packet-ne1 → tie.After-shared_slice_known-1
 known₄ c = known₃ c.before.before
 
-abbrev known₅ : tie.Else5 → tie.After-shared-slice-known
+abbrev known₅ : tie.Else-word_at-ne6790 → tie.After-shared_slice_known-1
 known₅ c = known₄ c.before.before
 
-past₁ : (c : tie.Else1) → Past 1 (checks (known₁ c))
+past₁ : (c : tie.Else-packet-ne71) → Past 1 (checks (known₁ c))
 unfolding packet_checks
-past₁ c = passed 3 _ (agrees sync_byte (sync_byte_lem (packet (known₁ c)) (bytes (known₁ c)) (known₁ c).before.requires) c.if1.false)
+past₁ c = passed 3 _ (agrees sync_byte (sync_byte_lem (packet (known₁ c)) (bytes (known₁ c)) (known₁ c).before.requires) c.if-packet-ne71.false)
 
-past₂ : (c : tie.Else2) → Past 2 (checks (known₂ c))
+past₂ : (c : tie.Else-word_at-pid) → Past 2 (checks (known₂ c))
 unfolding packet_checks
 past₂ c =
     let k = known₂ c in
     past₁ c.before.before
-    ∙ passed 4 _ (agrees k.before.args.pid (header-pid (packet k) (bytes k) k.before.pre ∙ ap (λ (n : ℕ). n % 8192) (sym c.before.word_at_lem.ensures)) c.if2.false)
+    ∙ passed 4 _ (agrees k.before.args.pid (header-pid (packet k) (bytes k) k.before.requires ∙ ap (λ (n : ℕ). n % 8192) (sym c.before.word_at.ensures)) c.if-word_at-pid.false)
 
-past₃ : (c : tie.Else4) → Past 3 (checks (known₄ c))
+past₃ : (c : tie.Else-packet-ne1) → Past 3 (checks (known₄ c))
 unfolding packet_checks
 past₃ c =
     let k = known₄ c in
     past₂ c.before.before.before.before
-    ∙ passed 5 _ (both_agree 0 1 (zeros (packet k) (bytes k) k.before.pre) c.before.before.if3.false (one (packet k) (bytes k) k.before.pre) c.if4.false)
+    ∙ passed 5 _ (both_agree 0 1 (zeros (packet k) (bytes k) k.before.requires) c.before.before.if-packet-ne0.false (one (packet k) (bytes k) k.before.requires) c.if-packet-ne1.false)
 
-past₄ : (c : tie.Else5) → Past 4 (checks (known₅ c))
+past₄ : (c : tie.Else-word_at-ne6790) → Past 4 (checks (known₅ c))
 unfolding packet_checks
 past₄ c =
     let k = known₅ c in
     past₃ c.before.before
-    ∙ passed 6 _ (agrees tsmf_sync (tsmf_sync_lem (packet k) (bytes k) k.before.pre ∙ ap (λ (n : ℕ). n % 8192) (sym c.before.word-at2.ensures)) c.if5.false)
+    ∙ passed 6 _ (agrees tsmf_sync (tsmf_sync_lem (packet k) (bytes k) k.before.requires ∙ ap (λ (n : ℕ). n % 8192) (sym c.before.word_at-2.ensures)) c.if-word_at-ne6790.false)
 
-shared_slice_read_if1 : tie.Need-shared-slice-read-if1
+shared_slice_read_if1 : tie.Need-bounds-packet-0
 shared_slice_read_if1 c = omega arith
 
 bare_requires : tie.Need-bare-requires
 bare_requires c κs = omega arith
 
-returns : tie.Need-returns
+returns : tie.Need-returns-then-packet-ne71
 unfolding packet_checks
 returns c =
     let k = c.before.before.before in
     refused_bare 3 (packet k) c.bare.ensures (omega arith)
-    (sym (answers 3 _ (differs sync_byte (sync_byte_lem (packet k) (bytes k) k.before.requires) c.before.if1.true)))
+    (sym (answers 3 _ (differs sync_byte (sync_byte_lem (packet k) (bytes k) k.before.requires) c.before.if-packet-ne71.true)))
 
-word_at_requires : tie.Need-word-at-requires
+word_at_requires : tie.Need-word_at-requires
 word_at_requires c κs = omega arith
 
-bare_requires_2 : tie.Need-bare-requires-2
+bare_requires_2 : tie.Need-bare-requires-then-word_at-pid
 bare_requires_2 c κs = omega arith
 
-returns_2 : tie.Need-returns-2
+returns_2 : tie.Need-returns-then-word_at-pid
 unfolding packet_checks
 returns_2 c =
     let k = known₁ c.before.before.before in
-    refused_bare 4 (packet k) c.bare2.ensures (omega arith)
+    refused_bare 4 (packet k) c.bare-then-word_at-pid.ensures (omega arith)
     (sym
     (past₁ c.before.before.before
-    ∙ answers 4 _ (differs k.before.args.pid (header-pid (packet k) (bytes k) k.before.pre ∙ ap (λ (n : ℕ). n % 8192) (sym c.before.before.word_at_lem.ensures)) c.before.if2.true)))
+    ∙ answers 4 _ (differs k.before.args.pid (header-pid (packet k) (bytes k) k.before.requires ∙ ap (λ (n : ℕ). n % 8192) (sym c.before.before.word_at.ensures)) c.before.if-word_at-pid.true)))
 
-shared_slice_read_if3 : tie.Need-shared-slice-read-if3
+shared_slice_read_if3 : tie.Need-bounds-packet-1
 shared_slice_read_if3 c = omega arith
 
-bare_requires_3 : tie.Need-bare-requires-3
+bare_requires_3 : tie.Need-bare-requires-then-packet-ne0
 bare_requires_3 c κs = omega arith
 
-returns_3 : tie.Need-returns-3
+returns_3 : tie.Need-returns-then-packet-ne0
 unfolding packet_checks
 returns_3 c =
     let k = known₂ c.before.before.before in
-    refused_bare 5 (packet k) c.bare3.ensures (omega arith)
-    (sym (past₂ c.before.before.before ∙ answers 5 _ (first_differs 0 _ (zeros (packet k) (bytes k) k.before.pre) c.before.if3.true)))
+    refused_bare 5 (packet k) c.bare-then-packet-ne0.ensures (omega arith)
+    (sym (past₂ c.before.before.before ∙ answers 5 _ (first_differs 0 _ (zeros (packet k) (bytes k) k.before.requires) c.before.if-packet-ne0.true)))
 
-shared_slice_read_if4 : tie.Need-shared-slice-read-if4
+shared_slice_read_if4 : tie.Need-bounds-packet-3
 shared_slice_read_if4 c = omega arith
 
-bare_requires_4 : tie.Need-bare-requires-4
+bare_requires_4 : tie.Need-bare-requires-then-packet-ne1
 bare_requires_4 c κs = omega arith
 
-returns_4 : tie.Need-returns-4
+returns_4 : tie.Need-returns-then-packet-ne1
 unfolding packet_checks
 returns_4 c =
     let k = known₃ c.before.before.before in
-    refused_bare 5 (packet k) c.bare4.ensures (omega arith)
-    (sym (past₂ c.before.before.before.before.before ∙ answers 5 _ (second_differs 1 (eqb (start_value (packet k) Field.zeros) 0) (one (packet k) (bytes k) k.before.pre) c.before.if4.true)))
+    refused_bare 5 (packet k) c.bare-then-packet-ne1.ensures (omega arith)
+    (sym (past₂ c.before.before.before.before.before ∙ answers 5 _ (second_differs 1 (eqb (start_value (packet k) Field.zeros) 0) (one (packet k) (bytes k) k.before.requires) c.before.if-packet-ne1.true)))
 
-word_at_requires_2 : tie.Need-word-at-requires-2
+word_at_requires_2 : tie.Need-word_at-requires-2
 word_at_requires_2 c κs = omega arith
 
-bare_requires_5 : tie.Need-bare-requires-5
+bare_requires_5 : tie.Need-bare-requires-then-word_at-ne6790
 bare_requires_5 c κs = omega arith
 
-returns_5 : tie.Need-returns-5
+returns_5 : tie.Need-returns-then-word_at-ne6790
 unfolding packet_checks
 returns_5 c =
     let k = known₄ c.before.before.before in
-    refused_bare 6 (packet k) c.bare5.ensures (omega arith)
-    (sym (past₃ c.before.before.before ∙ answers 6 _ (differs tsmf_sync (tsmf_sync_lem (packet k) (bytes k) k.before.pre ∙ ap (λ (n : ℕ). n % 8192) (sym c.before.before.word-at2.ensures)) c.before.if5.true)))
+    refused_bare 6 (packet k) c.bare-then-word_at-ne6790.ensures (omega arith)
+    (sym (past₃ c.before.before.before ∙ answers 6 _ (differs tsmf_sync (tsmf_sync_lem (packet k) (bytes k) k.before.requires ∙ ap (λ (n : ℕ). n % 8192) (sym c.before.before.word_at-2.ensures)) c.before.if-word_at-ne6790.true)))
 
-remainder_of_requires : tie.Need-remainder-of-requires
+remainder_of_requires : tie.Need-remainder_of-remainder-requires
 remainder_of_requires c κs = omega arith
 
-returns_6 : tie.Need-returns-6
+returns_6 : tie.Need-returns-then-remainder-ne0
 unfolding packet_checks refusal_by
 returns_6 c =
     let k = known₅ c.before.before in
-    let shown = c.before.remainder_of.ensures in
+    let shown = c.before.remainder_of-remainder.ensures in
     (λ i. record { number = 7; remainder = shown i })
-    ∙ ap (λ (n : ℕ). refusal_by n (packet k)) (sym (past₄ c.before.before ∙ answers 7 _ (differs 0 (sym shown) c.if6.true)))
+    ∙ ap (λ (n : ℕ). refusal_by n (packet k)) (sym (past₄ c.before.before ∙ answers 7 _ (differs 0 (sym shown) c.if-remainder-ne0.true)))
 
-bare_requires_6 : tie.Need-bare-requires-6
+bare_requires_6 : tie.Need-bare-requires-2
 bare_requires_6 c κs = omega arith
 
-returns_7 : tie.Need-returns-7
+returns_7 : tie.Need-returns
 unfolding packet_checks first_of
 returns_7 c =
     let after = c.before.before in
-    refused_bare 0 (packet (known₅ after.before)) c.bare6.ensures (omega arith)
-    (sym (past₄ after.before ∙ passed 7 [] (agrees 0 (sym after.remainder_of.ensures) c.before.if6.false)))
+    refused_bare 0 (packet (known₅ after.before)) c.bare-2.ensures (omega arith)
+    (sym (past₄ after.before ∙ passed 7 [] (agrees 0 (sym after.remainder_of-remainder.ensures) c.before.if-remainder-ne0.false)))
 
 pub packet_refusal_spec : {M : Type 1} → statement M
 packet_refusal_spec =

@@ -19,14 +19,14 @@ use Rattle.header_layout.proofs.Reserved.{reserved_are}
 use Rattle.header_check.proofs.reserved.refusal.Statement.{statement}
 use Rattle.header_check.proofs.reserved.refusal.Tie as tie
 
-abbrev packet : tie.After-shared-slice-known → List ℕ
+abbrev packet : tie.After-shared_slice_known-1 → List ℕ
 packet c = c.before.args.packet.now
 
-abbrev checks : tie.After-shared-slice-known → List Check
+abbrev checks : tie.After-shared_slice_known-1 → List Check
 checks c = reserved_checks c.before.args.kind (packet c)
 
 -- the same as the code asks them
-abbrev asked : tie.After-shared-slice-known → List Check
+abbrev asked : tie.After-shared_slice_known-1 → List Check
 asked c =
     let z = size_of c.before.args.kind in
     (20, not (eqb (get_or (packet c) 4 0 / 32) 7))
@@ -35,89 +35,89 @@ asked c =
     ∷ drop 3 (checks c)
 
 -- from the place after each check that did not hold to the start
-abbrev known₁ : tie.Else1 → tie.After-shared-slice-known
+abbrev known₁ : tie.Else-packet-ne7 → tie.After-shared_slice_known-1
 known₁ c = c.before.before
 
-abbrev known₂ : tie.Else2 → tie.After-shared-slice-known
+abbrev known₂ : tie.Else-packet-at-ne1 → tie.After-shared_slice_known-1
 known₂ c = known₁ c.before.before.before.before
 
-abbrev known₃ : tie.Else3 → tie.After-shared-slice-known
+abbrev known₃ : tie.Else-packet-at-ne1-2 → tie.After-shared_slice_known-1
 known₃ c = known₂ c.before.before.before
 
 -- the answer is that of the checks behind the first k
-abbrev Behind : ℕ → tie.After-shared-slice-known → Type 0
+abbrev Behind : ℕ → tie.After-shared_slice_known-1 → Type 0
 Behind k c = first_of (checks c) ≡ first_of (drop k (asked c))
 
-behind_none : (c : tie.After-shared-slice-known) → Behind 0 c
-behind_none c = ap first_of (reserved_are (packet c) (fit_of 8 (packet c) (λ i. (c.shared-slice-known.given i).fits)) c.before.requires c.before.args.kind)
+behind_none : (c : tie.After-shared_slice_known-1) → Behind 0 c
+behind_none c = ap first_of (reserved_are (packet c) (fit_of 8 (packet c) (λ i. (c.shared_slice_known-1.given i).fits)) c.before.requires c.before.args.kind)
 
-behind-one : (c : tie.Else1) → Behind 1 (known₁ c)
-behind-one c = behind_none (known₁ c) ∙ passed 20 _ (agrees 7 refl c.if1.false)
+behind-one : (c : tie.Else-packet-ne7) → Behind 1 (known₁ c)
+behind-one c = behind_none (known₁ c) ∙ passed 20 _ (agrees 7 refl c.if-packet-ne7.false)
 
 -- the places are those of the packet's kind
-identifiers-at : (c : tie.After-places-of) → c.places_of.result.identifiers ≡ identifiers_start (size_of (known₁ c.before).before.args.kind)
+identifiers-at : (c : tie.After-places_of-at) → c.places_of-at.result.identifiers ≡ identifiers_start (size_of (known₁ c.before).before.args.kind)
 unfolding places_of
-identifiers-at c = ap (λ (t : Places). t.identifiers) c.places_of.ensures.0
+identifiers-at c = ap (λ (t : Places). t.identifiers) c.places_of-at.ensures.0
 
-numbers_at_lem : (c : tie.After-places-of) → c.places_of.result.numbers ≡ numbers_start (size_of (known₁ c.before).before.args.kind)
+numbers_at_lem : (c : tie.After-places_of-at) → c.places_of-at.result.numbers ≡ numbers_start (size_of (known₁ c.before).before.args.kind)
 unfolding places_of
-numbers_at_lem c = ap (λ (t : Places). t.numbers) c.places_of.ensures.0
+numbers_at_lem c = ap (λ (t : Places). t.numbers) c.places_of-at.ensures.0
 
 -- so the bits behind the availability and before the emergency bit are those that the code reads
-stream_bit : (c : tie.After-places-of)
-    → let k = known₁ c.before in get_or (packet k) (identifiers_start (size_of k.before.args.kind) - 1) 0 % 2 ≡ get_or (packet k) (c.places_of.result.identifiers - 1) 0 % 2
+stream_bit : (c : tie.After-places_of-at)
+    → let k = known₁ c.before in get_or (packet k) (identifiers_start (size_of k.before.args.kind) - 1) 0 % 2 ≡ get_or (packet k) (c.places_of-at.result.identifiers - 1) 0 % 2
 stream_bit c = ap (λ (n : ℕ). get_or (packet (known₁ c.before)) (n - 1) 0 % 2) (sym (identifiers-at c))
 
-control-bit : (c : tie.After-places-of)
-    → let k = known₁ c.before in get_or (packet k) (numbers_start (size_of k.before.args.kind) - 1) 0 / 2 % 2 ≡ get_or (packet k) (c.places_of.result.numbers - 1) 0 / 2 % 2
+control-bit : (c : tie.After-places_of-at)
+    → let k = known₁ c.before in get_or (packet k) (numbers_start (size_of k.before.args.kind) - 1) 0 / 2 % 2 ≡ get_or (packet k) (c.places_of-at.result.numbers - 1) 0 / 2 % 2
 control-bit c = ap (λ (n : ℕ). get_or (packet (known₁ c.before)) (n - 1) 0 / 2 % 2) (sym (numbers_at_lem c))
 
-behind_two : (c : tie.Else2) → Behind 2 (known₂ c)
+behind_two : (c : tie.Else-packet-at-ne1) → Behind 2 (known₂ c)
 behind_two c =
     let at = c.before.before.before in
-    behind-one at.before ∙ passed 20 _ (agrees 1 (stream_bit at) c.if2.false)
+    behind-one at.before ∙ passed 20 _ (agrees 1 (stream_bit at) c.if-packet-at-ne1.false)
 
-behind_three : (c : tie.Else3) → Behind 3 (known₃ c)
+behind_three : (c : tie.Else-packet-at-ne1-2) → Behind 3 (known₃ c)
 behind_three c =
     let two = c.before.before.before in
-    behind_two two ∙ passed 20 _ (agrees 1 (control-bit two.before.before.before) c.if3.false)
+    behind_two two ∙ passed 20 _ (agrees 1 (control-bit two.before.before.before) c.if-packet-at-ne1-2.false)
 
-shared_slice_read_if1 : tie.Need-shared-slice-read-if1
+shared_slice_read_if1 : tie.Need-bounds-packet-4
 shared_slice_read_if1 c = search rules
 
-returns : tie.Need-returns
-returns c = sym (behind_none c.before.before ∙ answers 20 _ (differs 7 refl c.if1.true))
+returns : tie.Need-returns-then-packet-ne7
+returns c = sym (behind_none c.before.before ∙ answers 20 _ (differs 7 refl c.if-packet-ne7.true))
 
-places_of_requires : tie.Need-places-of-requires
+places_of_requires : tie.Need-places_of-at-requires
 places_of_requires c κs = search rules
 
-sub_if2 : tie.Need-overflow-sub-if2
+sub_if2 : tie.Need-overflow_sub-at
 sub_if2 c = search rules
 
-shared_slice_read_if2 : tie.Need-shared-slice-read-if2
+shared_slice_read_if2 : tie.Need-bounds-packet-at
 shared_slice_read_if2 c = search rules
 
-returns_2 : tie.Need-returns-2
+returns_2 : tie.Need-returns-then-packet-at-ne1
 returns_2 c =
     let at = c.before.before.before in
-    sym (behind-one at.before ∙ answers 20 _ (differs 1 (stream_bit at) c.if2.true))
+    sym (behind-one at.before ∙ answers 20 _ (differs 1 (stream_bit at) c.if-packet-at-ne1.true))
 
-sub_if3 : tie.Need-overflow-sub-if3
+sub_if3 : tie.Need-overflow_sub-at-2
 sub_if3 c = search rules
 
-shared_slice_read_if3 : tie.Need-shared-slice-read-if3
+shared_slice_read_if3 : tie.Need-bounds-packet-at-2
 shared_slice_read_if3 c = search rules
 
-returns_3 : tie.Need-returns-3
+returns_3 : tie.Need-returns-then-packet-at-ne1-2
 returns_3 c =
     let two = c.before.before.before in
-    sym (behind_two two ∙ answers 20 _ (differs 1 (control-bit two.before.before.before) c.if3.true))
+    sym (behind_two two ∙ answers 20 _ (differs 1 (control-bit two.before.before.before) c.if-packet-at-ne1-2.true))
 
-bytes_refusal_requires : tie.Need-bytes-refusal-requires
+bytes_refusal_requires : tie.Need-bytes_refusal-requires
 bytes_refusal_requires c κs = search rules
 
-returns_4 : tie.Need-returns-4
-returns_4 c = c.bytes-refusal.ensures ∙ sym (behind_three c.before)
+returns_4 : tie.Need-returns
+returns_4 c = c.bytes_refusal.ensures ∙ sym (behind_three c.before)
 
 pub refusal_spec : {M : Type 1} → statement M
 refusal_spec =

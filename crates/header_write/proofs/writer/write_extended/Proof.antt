@@ -17,58 +17,58 @@ use borrow.Author.Rules.{rules}
 use Rattle.header_write.proofs.writer.write_extended.Statement.{statement}
 use Rattle.header_write.proofs.writer.write_extended.Tie as tie
 
-sub_copy : tie.Need-overflow-sub-copy
+sub_copy : tie.Need-slice_bounds-copy-count
 sub_copy c = search rules
 
-part_copy_start : tie.Need-slice-bounds-copy-start
+part_copy_start : tie.Need-slice_bounds-copy-start
 part_copy_start c = search rules
 
-part_copy_end : tie.Need-slice-bounds-copy-end
+part_copy_end : tie.Need-slice_bounds-copy-end
 part_copy_end c = search rules
 
-sub_copy_2 : tie.Need-overflow-sub-copy-2
+sub_copy_2 : tie.Need-slice_bounds-copy-count-2
 sub_copy_2 c = search rules
 
-part_copy_start_2 : tie.Need-slice-bounds-copy-start-2
+part_copy_start_2 : tie.Need-slice_bounds-copy-start-2
 part_copy_start_2 c = search rules
 
-part_copy_end_2 : tie.Need-slice-bounds-copy-end-2
+part_copy_end_2 : tie.Need-slice_bounds-copy-end-2
 part_copy_end_2 c = search rules
 
 copy_requires : tie.Need-copy-requires
 copy_requires c κs = search rules
 
-add_write_bonding : tie.Need-overflow-add-write-bonding
+add_write_bonding : tie.Need-overflow_add-write_bonding
 add_write_bonding c = search rules
 
-sub_write_bonding : tie.Need-overflow-sub-write-bonding
+sub_write_bonding : tie.Need-slice_bounds-write_bonding-count
 sub_write_bonding c = search rules
 
-part_write_bonding_start : tie.Need-slice-bounds-write-bonding-start
+part_write_bonding_start : tie.Need-slice_bounds-write_bonding-start
 part_write_bonding_start c = search rules
 
-part_write_bonding_end : tie.Need-slice-bounds-write-bonding-end
+part_write_bonding_end : tie.Need-slice_bounds-write_bonding-end
 part_write_bonding_end c = search rules
 
-write_bonding_requires : tie.Need-write-bonding-requires
+write_bonding_requires : tie.Need-write_bonding-requires
 write_bonding_requires c κs = search rules
 
-add_fill : tie.Need-overflow-add-fill
+add_fill : tie.Need-overflow_add-fill
 add_fill c = search rules
 
-sub_fill : tie.Need-overflow-sub-fill
+sub_fill : tie.Need-slice_bounds-fill-count
 sub_fill c = search rules
 
-part_fill_start : tie.Need-slice-bounds-fill-start
+part_fill_start : tie.Need-slice_bounds-fill-start
 part_fill_start c = search rules
 
-part_fill_end : tie.Need-slice-bounds-fill-end
+part_fill_end : tie.Need-slice_bounds-fill-end
 part_fill_end c = search rules
 
 fill_requires : tie.Need-fill-requires
 fill_requires c κs = search rules
 
-same_length : tie.Need-same-length
+same_length : tie.Need-shape_of-part
 same_length c = search rules
 
 returns : tie.Need-returns
@@ -82,7 +82,7 @@ returns c z pid =
     let auxiliaries = length_part auxiliary_at auxiliary_bytes b (omega (arith, start.requires)) in
     extended_parts z pid (setting_in b) part _ _ _ start.requires.0 auxiliaries
     (copied.copy.ensures ∙ copied_all (take 28 part) (setting_in b).auxiliary (length-take-le 28 part (omega (arith, start.requires)) ∙ sym auxiliaries))
-    (bonded.write-bonding.ensures ∙ ap bonding_bytes (setting_in_lem b start.requires.1))
+    (bonded.write_bonding.ensures ∙ ap bonding_bytes (setting_in_lem b start.requires.1))
     filled.fill.ensures
     ∙ ap (λ (s : Setting). line_bits z pid s (private_table Kind.Extended)) (sym (setting_in_lem b start.requires.1))
 

@@ -13,41 +13,41 @@ use Rattle.header_layout.proofs.Start.{fifteen_bytes, fifteen_bits}
 use Rattle.header_write.proofs.writer.write_fifteen.Statement.{statement}
 use Rattle.header_write.proofs.writer.write_fifteen.Tie as tie
 
-shared_slice_read_word : tie.Need-shared-slice-read-word
+shared_slice_read_word : tie.Need-bounds-setting-4
 shared_slice_read_word c = search rules
 
-shared_slice_read_word_2 : tie.Need-shared-slice-read-word-2
+shared_slice_read_word_2 : tie.Need-bounds-setting-5
 shared_slice_read_word_2 c = search rules
 
-word_requires : tie.Need-word-requires
+word_requires : tie.Need-word-availability-requires
 word_requires c κs = search rules
 
-cast_part : tie.Need-overflow-cast-part
+cast_part : tie.Need-overflow_cast-part
 cast_part c = search rules
 
-slice_write_part : tie.Need-slice-write-part
+slice_write_part : tie.Need-bounds-part-0
 slice_write_part c = search rules
 
-mul_part : tie.Need-overflow-mul-part
+mul_part : tie.Need-overflow_mul-part
 mul_part c = search rules
 
-add_part : tie.Need-overflow-add-part
+add_part : tie.Need-overflow_add-part
 add_part c = search rules
 
-cast_part_2 : tie.Need-overflow-cast-part-2
+cast_part_2 : tie.Need-overflow_cast-part-2
 cast_part_2 c = search rules
 
-slice_write_part_2 : tie.Need-slice-write-part-2
+slice_write_part_2 : tie.Need-bounds-part-1
 slice_write_part_2 c = search rules
 
-same_length : tie.Need-same-length
+same_length : tie.Need-shape_of-part
 same_length c = search rules
 
 returns : tie.Need-returns
 returns c z pid n =
     let start = c.before.before.before.before.before in
     let b = start.args.setting.now in
-    ap (run 8) (rw c.word.ensures (stored (fifteen_bytes (setting_in b)) start.args.part.now start.requires.0)) ∙ fifteen_bits z pid (setting_in b) n
+    ap (run 8) (rw c.word-availability.ensures (stored (fifteen_bytes (setting_in b)) start.args.part.now start.requires.0)) ∙ fifteen_bits z pid (setting_in b) n
     ∙ ap (λ (s : Setting). line_bits z pid s (stream_table z)) (sym (setting_in_lem b start.requires.1))
 
 pub write_fifteen_spec : {M : Type 1} → statement M

@@ -44,101 +44,101 @@ privates n into b few l whole {own} h =
     ∙ sym (resized-take n (part private_at private_bytes b) (omega (arith, all)) ∙ take-take n private_bytes _ few)
     ∙ ap (λ (s : Setting). resized n s.private_data) (sym (setting_in_lem b whole))
 
-enum_told : tie.Need-enum-told
+enum_told : tie.Need-enum_told-1
 enum_told c = search rules
 
-sub_copy : tie.Need-overflow-sub-copy
+sub_copy : tie.Need-slice_bounds-copy-count
 sub_copy c = search rules
 
-part_copy_start : tie.Need-slice-bounds-copy-start
+part_copy_start : tie.Need-slice_bounds-copy-start
 part_copy_start c = search rules
 
-part_copy_end : tie.Need-slice-bounds-copy-end
+part_copy_end : tie.Need-slice_bounds-copy-end
 unfolding size_of
-part_copy_end c = omega (arith, bytes c.before.before.before.before c.enum_told.given.1)
+part_copy_end c = omega (arith, bytes c.before.before.before c.in-Plain.is)
 
-add_copy : tie.Need-overflow-add-copy
+add_copy : tie.Need-overflow_add-copy
 add_copy c = search rules
 
-sub_copy_2 : tie.Need-overflow-sub-copy-2
+sub_copy_2 : tie.Need-slice_bounds-copy-count-in-Plain
 sub_copy_2 c = search rules
 
-part_copy_start_2 : tie.Need-slice-bounds-copy-start-2
+part_copy_start_2 : tie.Need-slice_bounds-copy-start-in-Plain
 part_copy_start_2 c = search rules
 
-part_copy_end_2 : tie.Need-slice-bounds-copy-end-2
+part_copy_end_2 : tie.Need-slice_bounds-copy-end-in-Plain
 part_copy_end_2 c = search rules
 
 copy_requires : tie.Need-copy-requires
 copy_requires c κs = search rules
 
-enum_told_2 : tie.Need-enum-told-2
+enum_told_2 : tie.Need-enum_told-in-Short
 enum_told_2 c = search rules
 
-sub_copy_3 : tie.Need-overflow-sub-copy-3
+sub_copy_3 : tie.Need-slice_bounds-copy-count-in-Short
 sub_copy_3 c = search rules
 
-part_copy_start_3 : tie.Need-slice-bounds-copy-start-3
+part_copy_start_3 : tie.Need-slice_bounds-copy-start-in-Short
 part_copy_start_3 c = search rules
 
-part_copy_end_3 : tie.Need-slice-bounds-copy-end-3
+part_copy_end_3 : tie.Need-slice_bounds-copy-end-in-Short
 unfolding size_of
-part_copy_end_3 c = omega (arith, bytes c.before.before.before.before c.enum-told2.given.1)
+part_copy_end_3 c = omega (arith, bytes c.before.before.before c.in-Short.is)
 
-sub_copy_4 : tie.Need-overflow-sub-copy-4
+sub_copy_4 : tie.Need-slice_bounds-copy-count-in-Short-2
 sub_copy_4 c = search rules
 
-part_copy_start_4 : tie.Need-slice-bounds-copy-start-4
+part_copy_start_4 : tie.Need-slice_bounds-copy-start-in-Short-2
 part_copy_start_4 c = search rules
 
-part_copy_end_4 : tie.Need-slice-bounds-copy-end-4
+part_copy_end_4 : tie.Need-slice_bounds-copy-end-in-Short-2
 part_copy_end_4 c = search rules
 
-copy_requires_2 : tie.Need-copy-requires-2
+copy_requires_2 : tie.Need-copy-requires-in-Short
 copy_requires_2 c κs = search rules
 
-enum_told_3 : tie.Need-enum-told-3
+enum_told_3 : tie.Need-enum_told-in-Extended
 enum_told_3 c = search rules
 
-write_extended_requires : tie.Need-write-extended-requires
+write_extended_requires : tie.Need-write_extended-requires
 unfolding size_of
 write_extended_requires c κs =
-    let s = c.before.before.before.before.before in
-    (bytes s c.before.enum-told3.given.1, s.requires.1)
+    let s = c.before.before.before.before in
+    (bytes s c.before.in-Extended.is, s.requires.1)
 
-same_length : tie.Need-same-length
+same_length : tie.Need-shape_of-part-in-Plain
 same_length c = search rules
 
-returns : tie.Need-returns
+returns : tie.Need-returns-in-Plain
 unfolding line_bits pack private_table held size_of
 returns c pid =
     let call = c.before.before in
     let told = call.before.before.before in
-    let s = told.before.before.before.before in
-    let kind = told.enum_told.given.1 in
+    let s = told.before.before.before in
+    let kind = told.in-Plain.is in
     ap (run 8) (privates 85 s.args.part.now s.args.setting.now (omega arith) (bytes s kind) s.requires.1 call.copy.ensures)
     ∙ sym (append-nil _) ∙ line s kind pid
 
-same_length_2 : tie.Need-same-length-2
+same_length_2 : tie.Need-shape_of-part-in-Short
 same_length_2 c = search rules
 
-returns_2 : tie.Need-returns-2
+returns_2 : tie.Need-returns-in-Short
 unfolding line_bits pack private_table held size_of
 returns_2 c pid =
     let call = c.before.before in
     let told = call.before.before.before in
-    let s = told.before.before.before.before in
-    let kind = told.enum-told2.given.1 in
-    ap (run 8) (privates 131 s.args.part.now s.args.setting.now (omega arith) (bytes s kind) s.requires.1 call.copy2.ensures)
+    let s = told.before.before.before in
+    let kind = told.in-Short.is in
+    ap (run 8) (privates 131 s.args.part.now s.args.setting.now (omega arith) (bytes s kind) s.requires.1 call.copy-in-Short.ensures)
     ∙ sym (append-nil _) ∙ line s kind pid
 
-same_length_3 : tie.Need-same-length-3
+same_length_3 : tie.Need-shape_of-part-in-Extended
 same_length_3 c = search rules
 
-returns_3 : tie.Need-returns-3
+returns_3 : tie.Need-returns-in-Extended
 returns_3 c pid =
     let told = c.before.before.before.before in
-    c.before.before.write-extended.ensures (size_of Kind.Extended) pid ∙ line told.before.before.before.before told.enum-told3.given.1 pid
+    c.before.before.write_extended.ensures (size_of Kind.Extended) pid ∙ line told.before.before.before told.in-Extended.is pid
 
 pub write_private_spec : {M : Type 1} → statement M
 write_private_spec =

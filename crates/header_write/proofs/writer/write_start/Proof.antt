@@ -13,61 +13,61 @@ use Rattle.header_layout.proofs.Start.{start_bytes, start_bits}
 use Rattle.header_write.proofs.writer.write_start.Statement.{statement}
 use Rattle.header_write.proofs.writer.write_start.Tie as tie
 
-slice_write_part : tie.Need-slice-write-part
+slice_write_part : tie.Need-bounds-part-0
 slice_write_part c = search rules
 
-cast_part : tie.Need-overflow-cast-part
+cast_part : tie.Need-overflow_cast-part
 cast_part c = search rules
 
-slice_write_part_2 : tie.Need-slice-write-part-2
+slice_write_part_2 : tie.Need-bounds-part-1
 slice_write_part_2 c = search rules
 
-cast_part_2 : tie.Need-overflow-cast-part-2
+cast_part_2 : tie.Need-overflow_cast-part-2
 cast_part_2 c = search rules
 
-slice_write_part_3 : tie.Need-slice-write-part-3
+slice_write_part_3 : tie.Need-bounds-part-2
 slice_write_part_3 c = search rules
 
-shared_slice_read_part : tie.Need-shared-slice-read-part
+shared_slice_read_part : tie.Need-bounds-setting-0
 shared_slice_read_part c = search rules
 
-add_part : tie.Need-overflow-add-part
+add_part : tie.Need-overflow_add-part
 add_part c = search rules
 
-slice_write_part_4 : tie.Need-slice-write-part-4
+slice_write_part_4 : tie.Need-bounds-part-3
 slice_write_part_4 c = search rules
 
-slice_write_part_5 : tie.Need-slice-write-part-5
+slice_write_part_5 : tie.Need-bounds-part-4
 slice_write_part_5 c = simp length-set (omega arith)
 
-slice_write_part_6 : tie.Need-slice-write-part-6
+slice_write_part_6 : tie.Need-bounds-part-5
 slice_write_part_6 c = simp length-set (omega arith)
 
-shared_slice_read_part_2 : tie.Need-shared-slice-read-part-2
+shared_slice_read_part_2 : tie.Need-bounds-setting-1
 shared_slice_read_part_2 c = search rules
 
-mul_part : tie.Need-overflow-mul-part
+mul_part : tie.Need-overflow_mul-part
 mul_part c = search rules
 
-shared_slice_read_part_3 : tie.Need-shared-slice-read-part-3
+shared_slice_read_part_3 : tie.Need-bounds-setting-2
 shared_slice_read_part_3 c = search rules
 
-mul_part_2 : tie.Need-overflow-mul-part-2
+mul_part_2 : tie.Need-overflow_mul-part-2
 mul_part_2 c = search rules
 
-add_part_2 : tie.Need-overflow-add-part-2
+add_part_2 : tie.Need-overflow_add-part-2
 add_part_2 c = search rules
 
-shared_slice_read_part_4 : tie.Need-shared-slice-read-part-4
+shared_slice_read_part_4 : tie.Need-bounds-setting-3
 shared_slice_read_part_4 c = search rules
 
-add_part_3 : tie.Need-overflow-add-part-3
+add_part_3 : tie.Need-overflow_add-part-3
 add_part_3 c = search rules
 
-slice_write_part_7 : tie.Need-slice-write-part-7
+slice_write_part_7 : tie.Need-bounds-part-6
 slice_write_part_7 c = simp length-set (omega arith)
 
-same_length : tie.Need-same-length
+same_length : tie.Need-shape_of-part
 same_length c = simp length-set (omega arith)
 
 returns : tie.Need-returns

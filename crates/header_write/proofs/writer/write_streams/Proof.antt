@@ -10,65 +10,65 @@ use Rattle.header_layout.specs.Header.{line_bits}
 use Rattle.header_write.proofs.writer.write_streams.Statement.{statement}
 use Rattle.header_write.proofs.writer.write_streams.Tie as tie
 
-enum_told : tie.Need-enum-told
+enum_told : tie.Need-enum_told-1
 enum_told c = search rules
 
-write_fifteen_requires : tie.Need-write-fifteen-requires
+write_fifteen_requires : tie.Need-write_fifteen-requires
 unfolding size_of
 write_fifteen_requires c κs =
-    let start = c.before.before.before.before.before in
-    (start.requires.0 ∙ rw c.before.enum_told.given.1 refl, start.requires.1)
+    let start = c.before.before.before.before in
+    (start.requires.0 ∙ rw c.before.in-Plain.is refl, start.requires.1)
 
-enum_told_2 : tie.Need-enum-told-2
+enum_told_2 : tie.Need-enum_told-in-Extended
 enum_told_2 c = search rules
 
-write_fifteen_requires_2 : tie.Need-write-fifteen-requires-2
+write_fifteen_requires_2 : tie.Need-write_fifteen-requires-in-Extended
 unfolding size_of
 write_fifteen_requires_2 c κs =
-    let start = c.before.before.before.before.before in
-    (start.requires.0 ∙ rw c.before.enum-told2.given.1 refl, start.requires.1)
+    let start = c.before.before.before.before in
+    (start.requires.0 ∙ rw c.before.in-Extended.is refl, start.requires.1)
 
-enum_told_3 : tie.Need-enum-told-3
+enum_told_3 : tie.Need-enum_told-in-Short
 enum_told_3 c = search rules
 
-write_seven_requires : tie.Need-write-seven-requires
+write_seven_requires : tie.Need-write_seven-requires
 unfolding size_of
 write_seven_requires c κs =
-    let start = c.before.before.before.before.before in
-    (start.requires.0 ∙ rw c.before.enum-told3.given.1 refl, start.requires.1)
+    let start = c.before.before.before.before in
+    (start.requires.0 ∙ rw c.before.in-Short.is refl, start.requires.1)
 
-same_length : tie.Need-same-length
+same_length : tie.Need-shape_of-part-in-Plain
 same_length c = search rules
 
-returns : tie.Need-returns
+returns : tie.Need-returns-in-Plain
 unfolding size_of
 returns c pid =
     let told = c.before.before.before.before in
-    let start = told.before.before.before.before in
-    c.before.before.write-fifteen.ensures (size_of Kind.Plain) pid refl
-    ∙ sym (ap (λ (k : Kind). line_bits (size_of k) pid (setting_of start.args.setting.now) (stream_table (size_of k))) told.enum_told.given.1)
+    let start = told.before.before.before in
+    c.before.before.write_fifteen.ensures (size_of Kind.Plain) pid refl
+    ∙ sym (ap (λ (k : Kind). line_bits (size_of k) pid (setting_of start.args.setting.now) (stream_table (size_of k))) told.in-Plain.is)
 
-same_length_2 : tie.Need-same-length-2
+same_length_2 : tie.Need-shape_of-part-in-Extended
 same_length_2 c = search rules
 
-returns_2 : tie.Need-returns-2
+returns_2 : tie.Need-returns-in-Extended
 unfolding size_of
 returns_2 c pid =
     let told = c.before.before.before.before in
-    let start = told.before.before.before.before in
-    c.before.before.write-fifteen2.ensures (size_of Kind.Extended) pid refl
-    ∙ sym (ap (λ (k : Kind). line_bits (size_of k) pid (setting_of start.args.setting.now) (stream_table (size_of k))) told.enum-told2.given.1)
+    let start = told.before.before.before in
+    c.before.before.write_fifteen-in-Extended.ensures (size_of Kind.Extended) pid refl
+    ∙ sym (ap (λ (k : Kind). line_bits (size_of k) pid (setting_of start.args.setting.now) (stream_table (size_of k))) told.in-Extended.is)
 
-same_length_3 : tie.Need-same-length-3
+same_length_3 : tie.Need-shape_of-part-in-Short
 same_length_3 c = search rules
 
-returns_3 : tie.Need-returns-3
+returns_3 : tie.Need-returns-in-Short
 unfolding size_of
 returns_3 c pid =
     let told = c.before.before.before.before in
-    let start = told.before.before.before.before in
-    c.before.before.write-seven.ensures (size_of Kind.Short) pid refl
-    ∙ sym (ap (λ (k : Kind). line_bits (size_of k) pid (setting_of start.args.setting.now) (stream_table (size_of k))) told.enum-told3.given.1)
+    let start = told.before.before.before in
+    c.before.before.write_seven.ensures (size_of Kind.Short) pid refl
+    ∙ sym (ap (λ (k : Kind). line_bits (size_of k) pid (setting_of start.args.setting.now) (stream_table (size_of k))) told.in-Short.is)
 
 pub write_streams_spec : {M : Type 1} → statement M
 write_streams_spec =

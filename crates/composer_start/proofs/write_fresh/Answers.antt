@@ -1,0 +1,35 @@
+-- `write_fresh` meets its contract: five bytes over zeros. Assumes nothing.
+use Prim.Native.Nat.{ℕ}
+use mathlib.Core.Path.{◌≡◌, refl, ap, ◌∙◌}
+use borrow.Author.Rules.{rules}
+use lib.Dec.{lit<}
+use lib.ListN.{replicate}
+use Rattle.setting_bytes.specs.Kinds.{kind_of}
+use Rattle.setting_bytes.specs.Words.{word_bytes}
+use Rattle.composer.specs.States.{composer_length}
+use Rattle.setting_bytes.proofs.KindsBack.{kind_same}
+use Rattle.composer.proofs.Same.{fresh-bytes}
+use Rattle.composer_start.proofs.write_fresh.Goals as goal
+use Rattle.composer_start.proofs.write_fresh.Goals.{After-slice_known-2-1}
+
+-- the zeros that the state is filled with
+zeros : (c : After-slice_known-2-1) → c.fill.new.dst ≡ replicate composer_length 0
+zeros c =
+    c.fill.ensures ∙ ap (λ (n : ℕ). replicate n 0) c.requires.0
+
+pub bounds-state-1 : goal.bounds-state-1
+bounds-state-1 c = rw (zeros (goal.at.bounds-state-1 c).After-slice_known-2-1) (lit< tt)
+
+pub bounds-state-2 : goal.bounds-state-2
+bounds-state-2 c = rw (zeros (goal.at.bounds-state-2 c).After-slice_known-2-1) (lit< tt)
+
+pub bounds-state-3 : goal.bounds-state-3
+bounds-state-3 c = rw (zeros (goal.at.bounds-state-3 c).After-slice_known-2-1) (lit< tt)
+
+pub bounds-state-4 : goal.bounds-state-4
+bounds-state-4 c = rw (zeros (goal.at.bounds-state-4 c).After-slice_known-2-1) (lit< tt)
+
+pub returns : goal.returns
+unfolding word_bytes
+returns c =
+    rw (fresh-bytes (kind_of c.args.kind) c.args.pid, kind_same c.args.kind c.requires.1, zeros (goal.at.returns c).After-slice_known-2-1) refl

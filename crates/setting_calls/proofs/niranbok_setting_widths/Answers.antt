@@ -1,0 +1,15 @@
+-- `niranbok_setting_widths` meets its contract. Assumes nothing.
+use Rattle.setting.specs.Rules.{width_checks}
+use Rattle.setting_calls.specs.Calls.{widths_refused}
+use Rattle.setting_calls.proofs.Checked.{call_refused_lem, then_checked}
+use borrow.Author.Rules.{rules}
+use Rattle.setting_calls.proofs.niranbok_setting_widths.Goals as goal
+
+pub returns-then-call-ne0 : goal.returns-then-call-ne0
+unfolding widths_refused
+returns-then-call-ne0 c = call_refused_lem width_checks _ _ _ c.call_refusal-call.ensures c.if-call-ne0.true
+
+pub returns : goal.returns
+unfolding widths_refused
+returns c =
+    then_checked width_checks _ _ _ c.call_refusal-call.ensures _ _ c.if-call-ne0.false c.kind_of.ensures c.width_refusal.ensures
