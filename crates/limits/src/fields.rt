@@ -9,7 +9,7 @@ const BYTE: u64 = 0xFF;
 const WORD: u64 = 0xFFFF;
 
 // What a kind of header allows, and the refusal of any other value (0: none is refused).
-#[derive(Drop)]
+#[derive(Clone, Copy)]
 struct Range {
     first: u64,
     last: u64,
