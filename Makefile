@@ -7,9 +7,9 @@
 SHELL = /bin/bash
 .SHELLFLAGS = -o pipefail -c
 
-# The crates with functions for C (`#[no_mangle]`).
-BOARD = counters setting crc packet setting_calls header_calls header_calls_write composer_start composer_begin composer_put composer_close \
-	receiver_start receiver_receive receiver_hand_out bond_calls
+# Where the archive goes, and the folder in which rt leaves each program.
+ARCHIVE = target/board
+PROGRAM = crates/$(1)/out/$(1)
 
 # The archive and the programs are for x86-64. On another processor an emulator runs them, and Debian's cross compilers make what is
 # linked with the archive.
@@ -17,14 +17,14 @@ ifeq ($(shell uname -m),x86_64)
 CROSS_CC = gcc
 CROSS_CARGO = cargo
 BENCH = compare/target/release/bench
-NATIVE = target/board
+NATIVE = $(ARCHIVE)
 else
 EMULATOR = qemu-x86_64
 CROSS_CC = x86_64-linux-gnu-gcc
 CROSS_CARGO = RUSTC=/usr/bin/rustc CARGO_BUILD_TARGET=x86_64-unknown-linux-gnu CARGO_TARGET_X86_64_UNKNOWN_LINUX_GNU_LINKER=$(CROSS_CC) \
 	CARGO_TARGET_X86_64_UNKNOWN_LINUX_GNU_RUNNER=$(EMULATOR) cargo
 BENCH = compare/target/x86_64-unknown-linux-gnu/release/bench
-NATIVE = target/native/board
+NATIVE = target/native
 export NIRANBOK_EMULATOR = $(EMULATOR)
 # A processor without AVX and fast strings: copies take the emulator a third less time by what it then does.
 export QEMU_CPU ?= Nehalem
@@ -42,7 +42,7 @@ else
 	@:
 endif
 
-# One program with four names, in target/tools.
+# One program with four names, in target/tools: copies, since rt refuses links in the checkout.
 tools: setup
 	@scripts/prove.sh tools
 	@$(MAKE) --no-print-directory names
@@ -51,10 +51,10 @@ tools: setup
 names: setup
 	@mkdir -p target/tools
 ifdef EMULATOR
-	@for name in mux demux bond unbond; do printf '#!/bin/sh\nexec $(EMULATOR) -0 %s %s "$$@"\n' $$name $(CURDIR)/target/bin/tools \
-	>target/tools/$$name; chmod +x target/tools/$$name; done
+	@for name in mux demux bond unbond; do rm -f target/tools/$$name; printf '#!/bin/sh\nexec $(EMULATOR) -0 %s %s "$$@"\n' $$name \
+	$(CURDIR)/$(call PROGRAM,tools) >target/tools/$$name; chmod +x target/tools/$$name; done
 else
-	@for name in mux demux bond unbond; do ln -sf ../bin/tools target/tools/$$name; done
+	@for name in mux demux bond unbond; do cp --remove-destination $(call PROGRAM,tools) target/tools/$$name; done
 endif
 	@echo 'target/tools has mux, demux, bond and unbond'
 
@@ -75,16 +75,16 @@ real: setup
 
 # The lister as the scope document calls it: its example, without arguments.
 lister-test: setup
-	scripts/example.sh $(EMULATOR) target/bin/lister
+	scripts/example.sh $(EMULATOR) $(call PROGRAM,lister)
 
 run: setup
 	@scripts/prove.sh lister
-	$(EMULATOR) target/bin/lister < samples/recording.ts
+	$(EMULATOR) $(call PROGRAM,lister) < samples/recording.ts
 
-# The proofs, the wrong programs and the programs (`rt ci`, from nothing), and all the tests. Where all is well the last line printed is
-# rt's; else it names what failed, and make's own line comes behind it.
+# The proofs, the wrong programs and the programs (`rt ci`), and all the tests. Where all is well the last line printed is rt's; else it
+# names what failed, and make's own line comes behind it.
 test:
-	@scripts/gate.sh $(BOARD)
+	@scripts/gate.sh
 
 # The map of the crates, docs/MAP.md, from crates.txt and the crates' head comments; and the page held to what would be written.
 map:
@@ -97,36 +97,28 @@ map-test:
 
 # The board interface as one archive, target/board/libniranbok.a, for include/niranbok.h.
 board:
-	@scripts/prove.sh $(BOARD)
+	@scripts/prove.sh niranbok
 	@$(MAKE) --no-print-directory archive
 
-# The same where its crates are proved, so many of them at once, in a folder of its own. rt makes a library of each crate, whose object
-# exports the functions of that crate alone and keeps the code of those below it to itself; so no function is there twice, and
-# exports.sh holds the archive to that.
-AT_ONCE ?= 2
-ARCHIVE ?= target/board
+# The archive alone. The gate says since when rt has proved what there is.
 archive:
-	@rm -rf $(ARCHIVE)
-	@mkdir -p $(ARCHIVE)
-	@printf '%s\n' $(BOARD) | xargs -P $(AT_ONCE) -n 1 scripts/staticlib.sh $(ARCHIVE)
-	@ar rcs $(ARCHIVE)/libniranbok.a $(ARCHIVE)/roots/*/*.o
-	@scripts/exports.sh $(ARCHIVE)/libniranbok.a
+	@scripts/archive.sh $(if $(SINCE),--since $(SINCE)) $(ARCHIVE)
 
 # The examples in C, and both implementations over the same inputs, with the archive that is there.
 archive-test: setup
 	for name in board bonding; do \
-	$(CROSS_CC) -std=c99 -Wall -Wextra -Werror -Iinclude examples/$$name.c target/board/libniranbok.a -o target/board/$$name && \
-	$(EMULATOR) target/board/$$name || exit 1; done
+	$(CROSS_CC) -std=c99 -Wall -Wextra -Werror -Iinclude examples/$$name.c $(ARCHIVE)/libniranbok.a -o $(ARCHIVE)/$$name && \
+	$(EMULATOR) $(ARCHIVE)/$$name || exit 1; done
 	cd compare && $(CROSS_CARGO) test --quiet -p board --tests
 
 # The header's constants held to the program that is there; and what that prints held to the archive's calls, value by value.
 limits-test: setup
-	scripts/limits.sh $(EMULATOR) target/bin/limits
-	$(EMULATOR) target/bin/limits | (cd compare && $(CROSS_CARGO) run --quiet -p limits -- ../include/niranbok.h)
+	scripts/limits.sh $(EMULATOR) $(call PROGRAM,limits)
+	$(EMULATOR) $(call PROGRAM,limits) | (cd compare && $(CROSS_CARGO) run --quiet -p limits -- ../include/niranbok.h)
 
 # How much stack each call takes, on the archive that is there, held to the limits in stack/limits; and the same with the archive made first.
 stack-test: setup
-	scripts/stack.sh target/board/libniranbok.a $(CROSS_CC) env $(CROSS_CARGO)
+	scripts/stack.sh $(ARCHIVE)/libniranbok.a $(CROSS_CC) env $(CROSS_CARGO)
 
 stack: board
 	@$(MAKE) --no-print-directory stack-test
@@ -136,13 +128,12 @@ board-test: setup board
 	@scripts/prove.sh limits
 	@$(MAKE) --no-print-directory archive-test limits-test stack-test
 
-# An archive to measure and to watch: the product's, or, since a time under the emulator says nothing, the same proved modules compiled for
+# An archive to measure and to watch: the product's, or, since a time under the emulator says nothing, the same crate proved and compiled for
 # this machine's own processor.
 native:
 ifdef EMULATOR
-	@scripts/prove.sh $(BOARD)
-	scripts/native.sh
-	@RATTLE_HOME=$(CURDIR)/target/native $(MAKE) --no-print-directory ARCHIVE=$(NATIVE) archive
+	@scripts/prove.sh niranbok
+	@scripts/archive.sh $(NATIVE) --target $(shell uname -m)-unknown-linux-gnu
 else
 	@$(MAKE) --no-print-directory board
 endif
@@ -156,8 +147,8 @@ endif
 	cd compare && NIRANBOK_LIB=$(CURDIR)/$(NATIVE) cargo run --quiet --release -p board --bin bench
 ifndef EMULATOR
 	@scripts/prove.sh tools lister
-	scripts/lister.sh target/bin/lister
-	scripts/tools.sh target/bin/tools
+	scripts/lister.sh $(call PROGRAM,lister)
+	scripts/tools.sh $(call PROGRAM,tools)
 endif
 
 # The benchmark's rows in counted instructions, under the emulator, on x86-64 too.

@@ -41,7 +41,9 @@ def read_crates():
         for line in lines:
             line = line.split("#")[0].strip()
             if line:
-                name, _, below = line.partition(":")
+                words, _, below = line.partition(":")
+                # Behind the name may stand what kind of crate it is, as `staticlib`.
+                name = words.split()[0]
                 crates.append(name)
                 rests[name] = below.split()
         if crates and not comment:

@@ -1,9 +1,9 @@
 #!/bin/bash
-# Proves crates and all that they rest on, and says so crate by crate. rt prints some twenty lines for each; of a crate that is proved one
-# is enough, and of one that is not, what rt says of it. Ends with rt's own status.
-#   scripts/prove.sh CRATE...    without a crate: all of crates.txt
+# Proves crates and all that they rest on, and says so crate by crate; a program is built too, as crates/NAME/out/NAME. rt prints some
+# twenty lines for each crate; of one that is proved one is enough, and of one that is not, what rt says of it.
+#   scripts/prove.sh CRATE...
 set -uo pipefail
-shopt -s lastpipe # what `follow` counts is said behind it
+shopt -s lastpipe # what `follow` notes is said behind it
 cd "$(dirname "$0")/.." || exit
 
 # The crates to prove. The kit's own libraries have no line in crates.txt, so they do not count.
@@ -15,59 +15,54 @@ reached=$(awk -v wanted="$*" '
         for (i = 1; i <= n; i++) reach(on[i])
     }
     { sub(/#.*/, "") }
-    split($0, part, ":") == 2 { gsub(/[ \t]/, "", part[1]); rests[part[1]] = part[2] }
+    split($0, part, ":") == 2 { split(part[1], word, " "); rests[word[1]] = part[2] }
     END {
         n = split(wanted, name, " ")
-        if (n == 0) for (any in rests) reach(any)
-        for (i = 1; i <= n; i++) reach(name[i])
+        for (i = 1; i <= n; i++) {
+            if (!(name[i] in rests)) { print "FAILED: crates.txt has no crate " name[i] >"/dev/stderr"; exit 1 }
+            reach(name[i])
+        }
     }' crates.txt) || exit
 declare -A left=()
 for crate in $reached; do left[$crate]=1; done
 total=${#left[@]}
+echo "$total crates to prove: $* and what $([ $# -eq 1 ] && echo it rests || echo they rest) on"
 
-case $# in
-0) echo "$total crates to prove" ;;
-1) echo "$total crates to prove: $1 and what it rests on" ;;
-*) echo "$total crates to prove: $* and what they rest on" ;;
-esac
-
-unchanged=0 failed='' held=()
+crate='' ran='' held=()
 
 # What rt said since the last crate, but for the lines that say that all is well.
 show_held() {
-    [ "${#held[@]}" -eq 0 ] || printf '%s\n' "${held[@]}" | grep -v -E '^((fn|struct|enum) .*: proved$|library |logic )'
+    [ "${#held[@]}" -eq 0 ] || printf '%s\n' "${held[@]}" |
+        grep -v -E '^(checked |((fn|struct|enum) .*: proved$)|(library|logic|statements|crate|axioms|linked) |only=)'
     held=()
 }
 
-# rt prints all that it has to say of a crate when it is done with it, and the crate's own line last.
+# The last line of a crate says whether it is proved, and one before it which crate it is.
 take() { # LINE
-    local said=${1#rt: }
     case $1 in
-    'rt: '*' proved ('*)
+    'crate '*': modules loaded='*)
+        crate=${1#crate }
+        crate=${crate%%:*}
+        ;;
+    'logic=proved '*)
         held=()
-        unset "left[${said%% *}]"
-        case $said in *'(unchanged '*) unchanged=$((unchanged + 1)) ;; esac
-        echo "[$((total - ${#left[@]})) of $total] $said"
+        unset "left[$crate]"
+        echo "[$((total - ${#left[@]})) of $total] $crate proved"
         ;;
-    'rt: '*' NOT PROVED'*)
-        show_held
-        unset "left[${said%% *}]"
-        echo "[$((total - ${#left[@]})) of $total] $said"
-        ;;
-    'rt: ok, '*) ;; # the last line here says it
-    'rt: FAILED:'*) failed=${1#rt: FAILED:} ;;
+    'rt: running '*) ran=1 ;;
+    'rt: chose '* | 'rt: '*': begins with what a check kept in '* | 'rt: nothing has changed since the last proved build'*) ;;
     'rt: '*)
         show_held
-        echo "$said"
+        echo "$1"
         ;;
-    *) held+=("$1") ;;
+    # What a program says is nothing of its proof.
+    *) [ -n "$ran" ] || held+=("$1") ;;
     esac
 }
 
 still_to_do() {
     case ${#left[@]} in
-    0) echo 'running the programs' ;;
-    1 | 2 | 3) echo "left: ${!left[*]}" ;;
+    0 | 1 | 2 | 3) echo "left: ${!left[*]}" ;;
     *) echo "left: ${#left[@]} crates" ;;
     esac
 }
@@ -92,13 +87,22 @@ follow() {
     show_held
 }
 
-rt check "$@" 2>&1 | follow
-status=${PIPESTATUS[0]}
+# rt builds a program where it runs it. The run has nothing to read, and is not what is asked for here: so how it ends does not count.
+failed=''
+for name; do
+    if [ -e "crates/$name/src/main.rt" ]; then
+        ran=''
+        (cd "crates/$name" && rt run 2>&1 >/dev/null </dev/null) | follow
+        [ -n "$ran" ] || failed="$failed $name"
+    else
+        (cd "crates/$name" && rt check 2>&1) | follow
+        [ "${PIPESTATUS[0]}" -eq 0 ] || failed="$failed $name"
+    fi
+done
 took="$((SECONDS / 60)) min $((SECONDS % 60)) s"
-if [ "$status" -eq 0 ]; then
-    [ "$unchanged" -eq 0 ] || took="$took, $unchanged of them unchanged"
-    echo "$total crates proved in $took"
-else
-    echo "FAILED:${failed:- rt check} ($took)"
+if [ -n "$failed" ]; then
+    echo "FAILED:$failed ($took)"
+    exit 1
 fi
-exit "$status"
+# What is proved already rt does not tell of.
+echo "$total crates proved in $took$([ "${#left[@]}" -eq 0 ] || echo ", ${#left[@]} of them unchanged")"

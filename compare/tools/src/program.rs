@@ -124,7 +124,7 @@ pub fn start(program: &Path, name: &OsStr) -> Command {
 /// The program that is all four tools.
 pub fn program() -> PathBuf {
     let named = env::var_os("NIRANBOK_TOOLS").map(PathBuf::from);
-    let named = named.unwrap_or_else(|| "../../target/bin/tools".into());
+    let named = named.unwrap_or_else(|| "../../crates/tools/out/tools".into());
     let program = Path::new(env!("CARGO_MANIFEST_DIR")).join(named);
     let shown = program.display();
     assert!(

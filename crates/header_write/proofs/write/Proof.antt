@@ -47,8 +47,8 @@ all c = write_refusal c.args.kind c.args.pid (said c) (length c.args.buffer.now)
 abbrev widths : tie.Start → List Check
 widths c = width_checks c.args.kind (said c)
 
-abbrev rules : tie.Start → List Check
-rules c = rule_checks c.args.kind (said c)
+abbrev its_rules : tie.Start → List Check
+its_rules c = rule_checks c.args.kind (said c)
 
 -- a refusal of the setting's own
 refused : (c : tie.Else-setting-ne-SETTING_BYTES) {n : ℕ} → all (start₁ c) ≡ n → (n ≡ 0 → ⊥)
@@ -60,7 +60,7 @@ refused c e h =
 allowed : (c : tie.Else-not-pid_allowed) → pid_allowed (start₃ c).args.pid ≡ true
 allowed c = sym c.before.pid_allowed.ensures ∙ not-false _ c.if-not-pid_allowed.false-raw
 
-past₃ : (c : tie.Else-not-pid_allowed) → all (start₃ c) ≡ first_of (widths (start₃ c) ++ rules (start₃ c))
+past₃ : (c : tie.Else-not-pid_allowed) → all (start₃ c) ≡ first_of (widths (start₃ c) ++ its_rules (start₃ c))
 unfolding write_refusal
 past₃ c = right_call (start₃ c).args.pid _ _ c.before.before.if-buffer-ne-HEADER_LENGTH.false (allowed c)
 
@@ -69,26 +69,22 @@ no_width c =
     width_none (start₄ c).args.kind (said (start₄ c))
     (sym (c.before.width_refusal-width.ensures ∙ at_length _ _ _ c.before.before.before.before.before.if-setting-ne-SETTING_BYTES.false) ∙ c.if-width-ne0.false)
 
-past₄ : (c : tie.Else-width-ne0) → all (start₄ c) ≡ first_of (rules (start₄ c))
-past₄ c = past₃ c.before.before ∙ onward (rules (start₄ c)) (no_width c)
+past₄ : (c : tie.Else-width-ne0) → all (start₄ c) ≡ first_of (its_rules (start₄ c))
+past₄ c = past₃ c.before.before ∙ onward (its_rules (start₄ c)) (no_width c)
 
-rule_is : (c : tie.After-rule_refusal-rule) → c.rule_refusal-rule.result ≡ first_of (rules (start₄ c.before))
+rule_is : (c : tie.After-rule_refusal-rule) → c.rule_refusal-rule.result ≡ first_of (its_rules (start₄ c.before))
 rule_is c = c.rule_refusal-rule.ensures ∙ at_length _ _ _ c.before.before.before.before.before.before.if-setting-ne-SETTING_BYTES.false
 
 returns : tie.Need-returns-then-setting-ne-SETTING_BYTES
 returns c =
-    let b = c.before.before.before.args.setting.now in record {
-      value = sym (off_length _ _ _ c.if-setting-ne-SETTING_BYTES.true);
-      buffer_after = rw (ne_eqb (length b) setting_length c.if-setting-ne-SETTING_BYTES.true) refl;
-    }
+    let b = c.before.before.before.args.setting.now in
+    (sym (off_length _ _ _ c.if-setting-ne-SETTING_BYTES.true), rw (ne_eqb (length b) setting_length c.if-setting-ne-SETTING_BYTES.true) refl)
 
 returns_2 : tie.Need-returns-then-buffer-ne-HEADER_LENGTH
 unfolding write_refusal
 returns_2 c =
-    let start = start₁ c.before in let all = refused c.before (wrong_length start.args.pid _ (widths start ++ rules start) c.if-buffer-ne-HEADER_LENGTH.true) (omega arith) in record {
-      value = all.0;
-      buffer_after = all.1;
-    }
+    let start = start₁ c.before in
+    refused c.before (wrong_length start.args.pid _ (widths start ++ its_rules start) c.if-buffer-ne-HEADER_LENGTH.true) (omega arith)
 
 pid_allowed_requires : tie.Need-pid_allowed-requires
 pid_allowed_requires c κs = search rules
@@ -96,11 +92,9 @@ pid_allowed_requires c κs = search rules
 returns_3 : tie.Need-returns-then-not-pid_allowed
 unfolding write_refusal
 returns_3 c =
-    let start = start₂ c.before.before in let all = refused c.before.before.before
-    (wrong_pid start.args.pid _ (widths start ++ rules start) c.before.before.if-buffer-ne-HEADER_LENGTH.false (sym c.before.pid_allowed.ensures ∙ not-true _ c.if-not-pid_allowed.true-raw)) (omega arith) in record {
-      value = all.0;
-      buffer_after = all.1;
-    }
+    let start = start₂ c.before.before in
+    refused c.before.before.before
+    (wrong_pid start.args.pid _ (widths start ++ its_rules start) c.before.before.if-buffer-ne-HEADER_LENGTH.false (sym c.before.pid_allowed.ensures ∙ not-true _ c.if-not-pid_allowed.true-raw)) (omega arith)
 
 width_refusal_requires : tie.Need-width_refusal-width-requires
 width_refusal_requires c κs = search rules
@@ -108,19 +102,14 @@ width_refusal_requires c κs = search rules
 returns_4 : tie.Need-returns-then-width-ne0
 returns_4 c =
     let start = start₃ c.before.before in
-    let n = c.before.width_refusal-width.ensures ∙ at_length _ _ _ c.before.before.before.before.before.if-setting-ne-SETTING_BYTES.false in let all = refused c.before.before.before.before.before (past₃ c.before.before ∙ at_once (widths start) (rules start) (λ z. c.if-width-ne0.true (n ∙ z)) ∙ sym n) c.if-width-ne0.true in record {
-      value = all.0;
-      buffer_after = all.1;
-    }
+    let n = c.before.width_refusal-width.ensures ∙ at_length _ _ _ c.before.before.before.before.before.if-setting-ne-SETTING_BYTES.false in
+    refused c.before.before.before.before.before (past₃ c.before.before ∙ at_once (widths start) (its_rules start) (λ z. c.if-width-ne0.true (n ∙ z)) ∙ sym n) c.if-width-ne0.true
 
 rule_refusal_requires : tie.Need-rule_refusal-rule-requires
 rule_refusal_requires c κs = search rules
 
 returns_5 : tie.Need-returns-then-rule-ne0
-returns_5 c =let all = refused c.before.before.before.before.before.before.before (past₄ c.before.before ∙ sym (rule_is c.before)) c.if-rule-ne0.true in record {
-      value = all.0;
-      buffer_after = all.1;
-    }
+returns_5 c = refused c.before.before.before.before.before.before.before (past₄ c.before.before ∙ sym (rule_is c.before)) c.if-rule-ne0.true
 
 write_header_requires : tie.Need-write_header-requires
 write_header_requires c κs = search rules
@@ -136,11 +125,11 @@ returns_6 c =
     let whole = rule.before.before.before.before.before.before.before.if-setting-ne-SETTING_BYTES.false in
     let long = rule.before.before.before.before.before.before.if-buffer-ne-HEADER_LENGTH.false in
     let e = past₄ rule.before.before ∙ sym (rule_is rule.before) ∙ rule.if-rule-ne0.false in
-    let buffer = start.args.buffer.now in record {
-      value = sym (at_length _ _ _ whole ∙ e);
-      buffer_after = (rw (eq-eqb (length buffer) header_length long, eq-eqb _ _ whole) at write.write_header.ensures)
-          ∙ rw (eq-eqb _ _ whole) (made start.args.kind start.args.pid (said start) buffer e);
-    }
+    let buffer = start.args.buffer.now in (
+      sym (at_length _ _ _ whole ∙ e),
+      (rw (eq-eqb (length buffer) header_length long, eq-eqb _ _ whole) at write.write_header.ensures)
+          ∙ rw (eq-eqb _ _ whole) (made start.args.kind start.args.pid (said start) buffer e),
+    )
 
 pub write_spec : {M : Type 1} → statement M
 write_spec =

@@ -18,62 +18,62 @@ no : {A : Type 0} → false ≡ true → A
 no e = absurd (false≢true e)
 
 -- the PID is the one that the state says
-pid-said : (c : tie.After-word) → c.word.result ≡ (receiver_of c.before.before.before.before.before.before.before.before.args.state.now).pid
+pid-said : (c : tie.After-word-pid) → c.word-pid.result ≡ (receiver_of c.before.before.before.before.before.before.before.before.args.state.now).pid
 unfolding receiver_of
-pid-said c = c.word.ensures
+pid-said c = c.word-pid.ensures
 
-returns : tie.Need-returns
+returns : tie.Need-returns-then-packet-ne-PACKET_BYTES
 returns c = no
 
-returns_2 : tie.Need-returns-2
+returns_2 : tie.Need-returns-then-state-ne-RECEIVER_BYTES
 returns_2 c = no
 
-returns_3 : tie.Need-returns-3
+returns_3 : tie.Need-returns-then-store-ne-STORE_BYTES
 returns_3 c = no
 
-shared_slice_read_word : tie.Need-shared-slice-read-word
+shared_slice_read_word : tie.Need-bounds-state-0
 shared_slice_read_word c = search rules
 
-shared_slice_read_word_2 : tie.Need-shared-slice-read-word-2
+shared_slice_read_word_2 : tie.Need-bounds-state-1
 shared_slice_read_word_2 c = search rules
 
-word_requires : tie.Need-word-requires
+word_requires : tie.Need-word-pid-requires
 word_requires c κs = search rules
 
-pid_allowed_requires : tie.Need-pid-allowed-requires
+pid_allowed_requires : tie.Need-pid_allowed-requires
 pid_allowed_requires c κs = search rules
 
-returns_4 : tie.Need-returns-4
+returns_4 : tie.Need-returns-then-not-pid_allowed
 returns_4 c = no
 
-shared_slice_read_if5 : tie.Need-shared-slice-read-if5
+shared_slice_read_if5 : tie.Need-bounds-state-2
 shared_slice_read_if5 c = search rules
 
-returns_5 : tie.Need-returns-5
+returns_5 : tie.Need-returns-then-state-ge-LAST_KIND
 returns_5 c = no
 
-shared_slice_read_if6 : tie.Need-shared-slice-read-if6
+shared_slice_read_if6 : tie.Need-bounds-state-3
 shared_slice_read_if6 c = search rules
 
-returns_6 : tie.Need-returns-6
+returns_6 : tie.Need-returns-then-state-ne1
 returns_6 c = no
 
-shared_slice_read_if7 : tie.Need-shared-slice-read-if7
+shared_slice_read_if7 : tie.Need-bounds-state-4
 shared_slice_read_if7 c = search rules
 
-returns_7 : tie.Need-returns-7
+returns_7 : tie.Need-returns-then-state-ge-COUNTERS
 returns_7 c = no
 
-shared_slice_read_if8 : tie.Need-shared-slice-read-if8
+shared_slice_read_if8 : tie.Need-bounds-state-5
 shared_slice_read_if8 c = search rules
 
-returns_8 : tie.Need-returns-8
+returns_8 : tie.Need-returns-then-state-ge-LAST
 returns_8 c = no
 
-place_refusal_requires : tie.Need-place-refusal-requires
+place_refusal_requires : tie.Need-place_refusal-requires
 place_refusal_requires c κs = search rules
 
-returns_9 : tie.Need-returns-9
+returns_9 : tie.Need-returns
 returns_9 c e =
     let has_room = c.before in
     let has-counter = has_room.before.before in
@@ -88,17 +88,17 @@ returns_9 c e =
     let s = whole_packet.before.before.before in
     let b = s.args.state.now in
     let p = s.args.packet.now in
-    let l = whole-state.if2.false in
-    let k = is-long.if5.false in
+    let l = whole-state.if-state-ne-RECEIVER_BYTES.false in
+    let k = is-long.if-state-ge-LAST_KIND.false in
     let pid = pid-said word in
     record {
       whole = l;
       granted =
-          usual_granted b l (omega (arith, k)) is_open.if6.false (sym (ap pid_allowed pid) ∙ sym asked.pid-allowed.ensures ∙ not-false _ is-allowed.if4.false)
-          (omega (arith, has-counter.if7.false)) (omega (arith, has_room.if8.false)) whole_packet.if1.false whole_store.if3.false;
-      fits = may_stand _ p (ap (λ (n : ℕ). place_refusal n p) (sym pid) ∙ sym c.place-refusal.ensures ∙ eqb-true _ 0 e);
-      opened = is_open.if6.false;
-      room = rw (all_slots b l (omega (arith, k))) (omega (arith, has_room.if8.false));
+          usual_granted b l (omega (arith, k)) is_open.if-state-ne1.false (sym (ap pid_allowed pid) ∙ sym asked.pid_allowed.ensures ∙ not-false _ is-allowed.if-not-pid_allowed.false-raw)
+          (omega (arith, has-counter.if-state-ge-COUNTERS.false)) (omega (arith, has_room.if-state-ge-LAST.false)) whole_packet.if-packet-ne-PACKET_BYTES.false whole_store.if-store-ne-STORE_BYTES.false;
+      fits = may_stand _ p (ap (λ (n : ℕ). place_refusal n p) (sym pid) ∙ sym c.place_refusal.ensures ∙ eqb-true _ 0 e);
+      opened = is_open.if-state-ne1.false;
+      room = rw (all_slots b l (omega (arith, k))) (omega (arith, has_room.if-state-ge-LAST.false));
     }
 
 pub is_usual_spec : {M : Type 1} → statement M

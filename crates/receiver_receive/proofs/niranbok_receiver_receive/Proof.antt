@@ -1,5 +1,6 @@
 -- `niranbok_receiver_receive` meets its contract: the usual packet, or refused, or a packet that may stand in a slot, or one that may not. Assumes
 -- nothing.
+use borrow.Author.Rules.{rules as std_rules}
 use Prim.Native.Nat.{ℕ}
 use mathlib.Core.Path.{◌≡◌, sym, ap, subst, ◌∙◌}
 use native.Mathlib.Omega.{arith}
@@ -18,142 +19,117 @@ use Rattle.receiver_receive.proofs.Taking.{stored_on}
 use Rattle.receiver_receive.proofs.niranbok_receiver_receive.Statement.{statement}
 use Rattle.receiver_receive.proofs.niranbok_receiver_receive.Tie as tie
 
--- from the place that knows the state's bytes to the function's start
-abbrev begun : tie.After-are-bytes → tie.Start
-begun c = c.before.before.before.before.before
-
 -- ---- the usual packet
 
-abbrev looked : tie.Then1 → tie.After-are-bytes
-looked c = c.before.before.before
+usual : (c : tie.Then-is_usual) → Usual c.args.state.now c.args.packet.now (length c.args.store.now)
+usual c = c.is_usual.ensures c.if-is_usual.true
 
-usual : (c : tie.Then1) → Usual (begun (looked c)).args.state.now (begun (looked c)).args.packet.now (length (begun (looked c)).args.store.now)
-usual c = c.before.is-usual.ensures c.if1.true
-
-are_bytes_requires : tie.Need-are-bytes-requires
+are_bytes_requires : tie.Need-are_bytes-requires
 are_bytes_requires c κs = search rules
 
-is_usual_requires : tie.Need-is-usual-requires
+is_usual_requires : tie.Need-is_usual-requires
 is_usual_requires c κs = search rules
 
-store_next_requires : tie.Need-store-next-requires
+store_next_requires : tie.Need-store_next-requires
 store_next_requires c κs =
     let u = usual c.before.before in
-    let w = receiver_of (begun (looked c.before.before)).args.state.now in (
+    let w = receiver_of c.args.state.now in (
       (u.whole, omega (arith, u.room, (sized w.kind).slots)),
       (whole_packet w _ _ u.granted, omega (arith, u.room, whole_store w _ _ u.granted)),
     )
 
-same_length : tie.Need-same-length
-same_length c = search rules
-
-same_length_2 : tie.Need-same-length-2
-same_length_2 c = search rules
-
-returns : tie.Need-returns
+returns : tie.Need-returns-then-is_usual
 returns c =
-    let call = c.before.before.before.before in
-    let taken = call.before.before.before in
-    let look = looked taken in
-    let a = (begun look).args in
-    let u = usual taken in
-    let all = stored_on a.state.now a.packet.now a.store.now u.whole look.are-bytes.ensures u.fits u.granted (λ z. omega (arith, u.opened, z)) u.room in
-    receives a.state.now a.packet.now a.store.now u.whole u.granted (sym all.0) (call.store-next.ensures.0 ∙ all.1.0) (call.store-next.ensures.1 ∙ all.1.1)
+    let a = c.args in
+    let u = usual c.before.before.before.before.before.before.before in
+    let all = stored_on a.state.now a.packet.now a.store.now u.whole c.are_bytes.ensures u.fits u.granted (λ z. omega (arith, u.opened, z)) u.room in
+    receives a.state.now a.packet.now a.store.now u.whole u.granted (sym all.0) (c.store_next.ensures.0 ∙ all.1.0) (c.store_next.ensures.1 ∙ all.1.1)
 
 -- ---- any other
 
-abbrev looked-at : tie.After-receive-refusal → tie.After-are-bytes
-looked-at c = c.before.before.before.before.before
-
-module _ (c : tie.Else2) where
-  abbrev s : tie.Start
-  s = begun (looked-at c.before)
-
+module _ (c : tie.Else-refusal-ne0) where
   -- what is lent has its lengths, and nothing is refused
-  granted : (length s.args.state.now ≡ receiver_length) × (receive_refusal (receiver_of s.args.state.now) (length s.args.packet.now) (length s.args.store.now) ≡ 0)
-  granted = lent_accepted s.args.state.now _ c.before.receive_refusal_lem.ensures c.if2.false
+  granted : (length c.args.state.now ≡ receiver_length) × (receive_refusal (receiver_of c.args.state.now) (length c.args.packet.now) (length c.args.store.now) ≡ 0)
+  granted = lent_accepted c.args.state.now _ c.receive_refusal-refusal.ensures c.if-refusal-ne0.false
 
 -- the PID is the one that the state says
-asked : (c : tie.After-place-refusal) → c.place-refusal.result ≡ place_refusal (receiver_of (s c.before.before.before.before).args.state.now).pid (s c.before.before.before.before).args.packet.now
+asked : (c : tie.After-place_refusal) → c.place_refusal.result ≡ place_refusal (receiver_of c.args.state.now).pid c.args.packet.now
 unfolding receiver_of
-asked c = c.place-refusal.ensures ∙ ap (λ (n : ℕ). place_refusal n (s c.before.before.before.before).args.packet.now) c.before.word.ensures
+asked c = c.place_refusal.ensures ∙ ap (λ (n : ℕ). place_refusal n c.args.packet.now) c.word.ensures
 
-receive_refusal_requires : tie.Need-receive-refusal-requires
+receive_refusal_requires : tie.Need-receive_refusal-refusal-requires
 receive_refusal_requires c κs = search rules
 
-same_length_3 : tie.Need-same-length-3
-same_length_3 c = search rules
-
-returns_2 : tie.Need-returns-2
+returns_2 : tie.Need-returns-then-refusal-ne0
 returns_2 c =
-    let a = (begun (looked-at c.before)).args in
-    receive_refused_lem a.state.now a.packet.now a.store.now c.before.receive_refusal_lem.ensures c.if2.true
+    let a = c.args in
+    receive_refused_lem a.state.now a.packet.now a.store.now c.receive_refusal-refusal.ensures c.if-refusal-ne0.true
 
-slice_read_word : tie.Need-slice-read-word
+slice_read_word : tie.Need-bounds-state-0
 slice_read_word c = omega (arith, (granted c.before).0)
 
-slice_read_word_2 : tie.Need-slice-read-word-2
+slice_read_word_2 : tie.Need-bounds-state-1
 slice_read_word_2 c = omega (arith, (granted c.before.before).0)
 
 word_requires : tie.Need-word-requires
 word_requires c κs = search rules
 
-place_refusal_requires : tie.Need-place-refusal-requires
+place_refusal_requires : tie.Need-place_refusal-requires
 place_refusal_requires c κs = search rules
 
-take_packet_requires : tie.Need-take-packet-requires
+take_packet_requires : tie.Need-take_packet-requires
 take_packet_requires c κs =
-    let fit = c.before.before in
-    let k = fit.before.before.before.before.before in
-    let g = granted k in
-    ((g.0, (looked-at k.before).are-bytes.ensures), (may_stand _ _ (sym (asked fit.before) ∙ fit.if3.true), g.1))
+    let g = granted c.before.before.before.before.before.before.before in
+    ((g.0, c.are_bytes.ensures), (may_stand _ _ (sym (asked c.before.before.before) ∙ c.if-place_refusal-eq0.true), g.1))
 
-same_length_4 : tie.Need-same-length-4
-same_length_4 c = search rules
-
-same_length_5 : tie.Need-same-length-5
-same_length_5 c = search rules
-
-returns_3 : tie.Need-returns-3
+returns_3 : tie.Need-returns-then-place_refusal-eq0
 returns_3 c =
-    let call = c.before.before.before.before in
-    let k = call.before.before.before.before.before.before.before.before in
-    let a = (s k).args in
-    let g = granted k in
-    receives a.state.now a.packet.now a.store.now g.0 g.1 (sym call.take-packet.ensures.0) call.take-packet.ensures.1.0 call.take-packet.ensures.1.1
+    let a = c.args in
+    let g = granted c.before.before.before.before.before.before.before.before.before.before.before.before in
+    receives a.state.now a.packet.now a.store.now g.0 g.1 (sym c.take_packet.ensures.0) c.take_packet.ensures.1.0 c.take_packet.ensures.1.1
 
-take_header_requires : tie.Need-take-header-requires
+take_header_requires : tie.Need-take_header-told-requires
 take_header_requires c κs =
-    let unfits = c.before in
-    let k = unfits.before.before.before.before.before in
-    let g = granted k in
-    let w = receiver_of (s k).args.state.now in
-    let p = (s k).args.packet.now in (
-      (g.0, (looked-at k.before).are-bytes.ensures),
+    let g = granted c.before.before.before.before.before.before in
+    let w = receiver_of c.args.state.now in
+    let p = c.args.packet.now in (
+      (g.0, c.are_bytes.ensures),
       (
-        may_not_stand w.pid p (whole_packet w _ _ g.1) (λ e. unfits.if3.false (asked unfits.before ∙ e)),
+        may_not_stand w.pid p (whole_packet w _ _ g.1) (λ e. c.if-place_refusal-eq0.false (asked c.before.before ∙ e)),
         subst (λ (n : ℕ). receive_refusal w (length p) n ≡ 0) (whole_store w _ _ g.1) g.1,
       ),
     )
 
-same_length_6 : tie.Need-same-length-6
-same_length_6 c = search rules
-
-returns_4 : tie.Need-returns-4
+returns_4 : tie.Need-returns
 returns_4 c =
-    let call = c.before.before in
-    let unfits = call.before.before in
-    let k = unfits.before.before.before.before.before in
-    let a = (s k).args in
-    let g = granted k in
+    let a = c.args in
+    let g = granted c.before.before.before.before.before.before.before.before.before in
     let w = receiver_of a.state.now in
     let p = a.packet.now in
     let whole = sym (whole_store w _ _ g.1) in
-    let unfit-one = may_not_stand w.pid p (whole_packet w _ _ g.1) (λ e. unfits.if3.false (asked unfits.before ∙ e)) in
+    let unfit-one = may_not_stand w.pid p (whole_packet w _ _ g.1) (λ e. c.if-place_refusal-eq0.false (asked c.before.before.before.before.before ∙ e)) in
     receives a.state.now p a.store.now g.0 g.1
-    (call.take-header.ensures.0 ∙ ap (λ (n : ℕ). told (receive_of w p n).event) whole)
-    (call.take-header.ensures.1 ∙ ap (λ (n : ℕ). receiver_bytes (receive_of w p n).state) whole)
+    (c.take_header-told.ensures.0 ∙ ap (λ (n : ℕ). told (receive_of w p n).event) whole)
+    (c.take_header-told.ensures.1 ∙ ap (λ (n : ℕ). receiver_bytes (receive_of w p n).state) whole)
     (unfit_store w p a.store.now g.1 unfit-one)
+
+shape_of-state-then-is_usual : tie.Need-shape_of-state-then-is_usual
+shape_of-state-then-is_usual c = search std_rules
+
+shape_of-store-then-is_usual : tie.Need-shape_of-store-then-is_usual
+shape_of-store-then-is_usual c = search std_rules
+
+shape_of-state-then-refusal-ne0 : tie.Need-shape_of-state-then-refusal-ne0
+shape_of-state-then-refusal-ne0 c = search std_rules
+
+shape_of-state-then-place_refusal-eq0 : tie.Need-shape_of-state-then-place_refusal-eq0
+shape_of-state-then-place_refusal-eq0 c = search std_rules
+
+shape_of-store-then-place_refusal-eq0 : tie.Need-shape_of-store-then-place_refusal-eq0
+shape_of-store-then-place_refusal-eq0 c = search std_rules
+
+shape_of-state : tie.Need-shape_of-state
+shape_of-state c = search std_rules
 
 pub niranbok_receiver_receive_spec : {M : Type 1} → statement M
 niranbok_receiver_receive_spec =
@@ -162,20 +138,20 @@ niranbok_receiver_receive_spec =
     are_bytes_requires
     is_usual_requires
     store_next_requires
-    same_length
-    same_length_2
+    shape_of-state-then-is_usual
+    shape_of-store-then-is_usual
     returns
     receive_refusal_requires
-    same_length_3
+    shape_of-state-then-refusal-ne0
     returns_2
     slice_read_word
     slice_read_word_2
     word_requires
     place_refusal_requires
     take_packet_requires
-    same_length_4
-    same_length_5
+    shape_of-state-then-place_refusal-eq0
+    shape_of-store-then-place_refusal-eq0
     returns_3
     take_header_requires
-    same_length_6
+    shape_of-state
     returns_4)

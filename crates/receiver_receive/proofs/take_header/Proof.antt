@@ -1,4 +1,5 @@
 -- `take_header` meets its contract: the packet is broken, or a header. Assumes nothing.
+use borrow.Author.Rules.{rules as std_rules}
 use Prim.Native.Nat.{ℕ, ◌+◌}
 use mathlib.Core.Path.{◌≡◌, refl, sym, ap, ap₂, ◌∙◌}
 use mathlib.Core.List.{List, ◌++◌}
@@ -26,144 +27,116 @@ use Rattle.receiver_receive.proofs.Taking.{keeps, renews, renewed, renewed_lengt
 use Rattle.receiver_receive.proofs.take_header.Statement.{statement}
 use Rattle.receiver_receive.proofs.take_header.Tie as tie
 
--- from the header's check back to the function's start
-abbrev staged : tie.After-check → tie.After-stage-in
-staged c = c.before
-
-abbrev kinded : tie.After-check → tie.After-kind-of
-kinded c = (staged c).before.before
-
-abbrev worded : tie.After-check → tie.After-word
-worded c = (kinded c).before.before
-
-abbrev start : tie.After-check → tie.Start
-start c = (worded c).before.before.before.before.before
-
-module _ (c : tie.After-check) where
+module _ (c : tie.After-check-said) where
   abbrev b : List ℕ
-  b = (start c).args.state.now
+  b = c.args.state.now
 
   -- PID, kind and stage are those that the bytes say
-  said-pid : (worded c).word.result ≡ (receiver_of b).pid
+  said-pid : c.word-pid.result ≡ (receiver_of b).pid
   unfolding receiver_of
-  said-pid = (worded c).word.ensures
+  said-pid = c.word-pid.ensures
 
-  said-kind : (kinded c).kind-of.result ≡ (receiver_of b).kind
+  said-kind : c.kind_of-kind.result ≡ (receiver_of b).kind
   unfolding receiver_of
-  said-kind = (kinded c).kind-of.ensures
+  said-kind = c.kind_of-kind.ensures
 
-  said-stage : (staged c).stage-in.result ≡ (receiver_of b).stage
+  said-stage : c.stage_in-stage.result ≡ (receiver_of b).stage
   unfolding receiver_of
-  said-stage = (staged c).stage-in.ensures ∙ rw (eq-eqb _ _ (start c).requires.0.0) refl
+  said-stage = c.stage_in-stage.ensures ∙ rw (eq-eqb _ _ c.requires.0.0) refl
 
-  checked : c.check.result ≡ checked_of (receiver_of b).kind (receiver_of b).pid (start c).args.packet.now
-  checked = c.check.ensures ∙ ap₂ (λ (k : Kind) (n : ℕ). checked_of k n (start c).args.packet.now) said-kind said-pid
+  checked : c.check-said.result ≡ checked_of (receiver_of b).kind (receiver_of b).pid c.args.packet.now
+  checked = c.check-said.ensures ∙ ap₂ (λ (k : Kind) (n : ℕ). checked_of k n c.args.packet.now) said-kind said-pid
 
-  said-refusal : c.check.result.refusal.number ≡ read_refusal (receiver_of b).kind (receiver_of b).pid (start c).args.packet.now
-  said-refusal = checked-refusal (receiver_of b).kind (receiver_of b).pid (start c).args.packet.now checked
+  said-refusal : c.check-said.result.refusal.number ≡ read_refusal (receiver_of b).kind (receiver_of b).pid c.args.packet.now
+  said-refusal = checked-refusal (receiver_of b).kind (receiver_of b).pid c.args.packet.now checked
 
-  said_remainder : c.check.result.refusal.remainder ≡ shown_remainder (receiver_of b).kind (receiver_of b).pid (start c).args.packet.now
-  said_remainder = checked_remainder (receiver_of b).kind (receiver_of b).pid (start c).args.packet.now checked
+  said_remainder : c.check-said.result.refusal.remainder ≡ shown_remainder (receiver_of b).kind (receiver_of b).pid c.args.packet.now
+  said_remainder = checked_remainder (receiver_of b).kind (receiver_of b).pid c.args.packet.now checked
 
-slice_read_word : tie.Need-slice-read-word
+slice_read_word : tie.Need-bounds-state-0
 slice_read_word c = search rules
 
-slice_read_word_2 : tie.Need-slice-read-word-2
+slice_read_word_2 : tie.Need-bounds-state-1
 slice_read_word_2 c = search rules
 
-word_requires : tie.Need-word-requires
+word_requires : tie.Need-word-pid-requires
 word_requires c κs = search rules
 
-slice_read_kind_of : tie.Need-slice-read-kind-of
+slice_read_kind_of : tie.Need-bounds-state-2
 slice_read_kind_of c = search rules
 
-kind_of_requires : tie.Need-kind-of-requires
+kind_of_requires : tie.Need-kind_of-kind-requires
 kind_of_requires c κs = search rules
 
-stage_in_requires : tie.Need-stage-in-requires
+stage_in_requires : tie.Need-stage_in-stage-requires
 stage_in_requires c κs = search rules
 
-check_requires : tie.Need-check-requires
+check_requires : tie.Need-check-said-requires
 check_requires c κs = search rules
 
-broken_row_requires : tie.Need-broken-row-requires
+broken_row_requires : tie.Need-broken_row-requires
 broken_row_requires c κs = search rules
 
-move_on_requires : tie.Need-move-on-requires
+move_on_requires : tie.Need-move_on-requires
 move_on_requires c κs = search rules
 
-same_length : tie.Need-same-length
-same_length c = search rules
-
-returns : tie.Need-returns
+returns : tie.Need-returns-then-refusal-ne0
 returns c =
-    let move = c.before.before in
-    let row = move.before in
-    let test = row.before.before in
-    let check = test.before.before.before in
-    let s = start check in
-    let a = s.args in
+    let a = c.args in
     let w = receiver_of a.state.now in
     let long_store = store_length (slots_of w.kind) in
-    let sort = broken_sort w.kind w.pid a.packet.now s.pre.1.0 (λ e. test.if1.true (said-refusal check ∙ e)) in
-    keeps a.state.now a.packet.now long_store s.pre.0.0 s.pre.0.1 s.pre.1.1 row.broken-row.result move.move-on.ensures.0
-    (broken_receipt w a.packet.now long_store s.pre.1.1 (shown_remainder w.kind w.pid a.packet.now) sort
-    (row.broken-row.ensures (slots_of w.kind) ∙ ap₂ (λ (t : Stage) (n : ℕ). row_of (slots_of w.kind) t (broken n) 0) (said-stage check) (said_remainder check)))
-    (move.move-on.ensures.1 ∙ over-stage a.state.now row.broken-row.result.stage)
+    let sort = broken_sort w.kind w.pid a.packet.now c.requires.1.0 (λ e. c.if-refusal-ne0.true (said-refusal c.before.before.before.before.before.before.before.before ∙ e)) in
+    keeps a.state.now a.packet.now long_store c.requires.0.0 c.requires.0.1 c.requires.1.1 c.broken_row.result c.move_on.ensures.0
+    (broken_receipt w a.packet.now long_store c.requires.1.1 (shown_remainder w.kind w.pid a.packet.now) sort
+    (c.broken_row.ensures (slots_of w.kind) ∙ ap₂ (λ (t : Stage) (n : ℕ). row_of (slots_of w.kind) t (broken n) 0) (said-stage c.before.before.before.before.before.before.before.before) (said_remainder c.before.before.before.before.before.before.before.before)))
+    (c.move_on.ensures.1 ∙ over-stage a.state.now c.broken_row.result.stage)
 
-size_of_requires : tie.Need-size-of-requires
+size_of_requires : tie.Need-size_of-size-requires
 size_of_requires c κs = search rules
 
-sub_renumber : tie.Need-overflow-sub-renumber
+sub_renumber : tie.Need-slice_bounds-renumber-count
 sub_renumber c = search rules
 
-part_renumber_start : tie.Need-slice-bounds-renumber-start
+part_renumber_start : tie.Need-slice_bounds-renumber-start
 part_renumber_start c = search rules
 
-part_renumber_end : tie.Need-slice-bounds-renumber-end
+part_renumber_end : tie.Need-slice_bounds-renumber-end
 part_renumber_end c = search rules
 
 renumber_requires : tie.Need-renumber-requires
 renumber_requires c κs =
-    let s = start c.before.before.before.before.before in
-    (length-take-le (packed_length + packed_length) (drop numbers_at s.args.state.now) (rw length-drop (omega (arith, s.pre.0.0))), whole_packet _ _ _ s.pre.1.1)
+    (length-take-le (packed_length + packed_length) (drop numbers_at c.args.state.now) (rw length-drop (omega (arith, c.requires.0.0))), whole_packet _ _ _ c.requires.1.1)
 
-header_row_requires : tie.Need-header-row-requires
+header_row_requires : tie.Need-header_row-requires
 header_row_requires c κs = search rules
 
-move_on_requires_2 : tie.Need-move-on-requires-2
+move_on_requires_2 : tie.Need-move_on-requires-2
 move_on_requires_2 c κs =
-    let renew = c.before.before.before.before in
-    let s = start renew.before.before.before.before.before.before in
-    renewed_length s.args.state.now _ (packed _) s.pre.0.0 (length-packed _) renew.renumber.ensures
+    renewed_length c.args.state.now _ (packed _) c.requires.0.0 (length-packed _) c.renumber.ensures
 
-same_length_2 : tie.Need-same-length-2
-same_length_2 c = search rules
-
-returns_2 : tie.Need-returns-2
+returns_2 : tie.Need-returns
 returns_2 c =
-    let move = c.before.before in
-    let row = move.before in
-    let renew = row.before.before.before.before in
-    let asked = renew.before.before in
-    let accepted = asked.before in
-    let check = accepted.before.before.before in
-    let s = start check in
-    let a = s.args in
+    let a = c.args in
     let w = receiver_of a.state.now in
     let p = a.packet.now in
     let long_store = store_length (slots_of w.kind) in
-    let slots = ap (λ (z : Size). z.slots) (asked.type_size.ensures ∙ ap size_of (said-kind check)) in
-    let accepts = sym (said-refusal check) ∙ accepted.if1.false in
+    let slots = ap (λ (z : Size). z.slots) (c.size_of-size.ensures ∙ ap size_of (said-kind c.before.before.before.before.before.before.before.before.before.before.before.before.before)) in
+    let accepts = sym (said-refusal c.before.before.before.before.before.before.before.before.before.before.before.before.before) ∙ c.if-refusal-ne0.false in
     let said = reading w.kind p in
     let lent = take (packed_length + packed_length) (drop numbers_at a.state.now) in
-    let own = renew.renumber.ensures ∙ ap (λ (k : Kind). packed (reading k p).relative_ts_number ++ take packed_length lent) (said-kind check) in
-    renews a.state.now p long_store s.pre.0.0 s.pre.0.1 s.pre.1.1 row.header_row.result move.move-on2.ensures.0 said
-    (good_receipt w p long_store s.pre.1.1 (good_sort w.kind w.pid p accepts) said refl
-    (row.header_row.ensures ∙ ap (λ (n : ℕ). row_of n (staged check).stage-in.result good check.check.result.continuity_counter) slots
-    ∙ ap₂ (λ (t : Stage) (n : ℕ). row_of (slots_of w.kind) t good n) (said-stage check) (checked_counter w.kind w.pid p (checked check) accepts)))
+    let own = c.renumber.ensures ∙ ap (λ (k : Kind). packed (reading k p).relative_ts_number ++ take packed_length lent) (said-kind c.before.before.before.before.before.before.before.before.before.before.before.before.before) in
+    renews a.state.now p long_store c.requires.0.0 c.requires.0.1 c.requires.1.1 c.header_row.result c.move_on-2.ensures.0 said
+    (good_receipt w p long_store c.requires.1.1 (good_sort w.kind w.pid p accepts) said refl
+    (c.header_row.ensures ∙ ap (λ (n : ℕ). row_of n c.stage_in-stage.result good c.check-said.result.continuity_counter) slots
+    ∙ ap₂ (λ (t : Stage) (n : ℕ). row_of (slots_of w.kind) t good n) (said-stage c.before.before.before.before.before.before.before.before.before.before.before.before.before) (checked_counter w.kind w.pid p (checked c.before.before.before.before.before.before.before.before.before.before.before.before.before) accepts)))
     refl
-    (move.move-on2.ensures.1 ∙ renewed a.state.now _ (packed said.relative_ts_number) row.header_row.result.stage s.pre.0.0 own)
+    (c.move_on-2.ensures.1 ∙ renewed a.state.now _ (packed said.relative_ts_number) c.header_row.result.stage c.requires.0.0 own)
+
+shape_of-state-then-refusal-ne0 : tie.Need-shape_of-state-then-refusal-ne0
+shape_of-state-then-refusal-ne0 c = search std_rules
+
+shape_of-state : tie.Need-shape_of-state
+shape_of-state c = search std_rules
 
 pub take_header_spec : {M : Type 1} → statement M
 take_header_spec =
@@ -178,7 +151,7 @@ take_header_spec =
     check_requires
     broken_row_requires
     move_on_requires
-    same_length
+    shape_of-state-then-refusal-ne0
     returns
     size_of_requires
     sub_renumber
@@ -187,5 +160,5 @@ take_header_spec =
     renumber_requires
     header_row_requires
     move_on_requires_2
-    same_length_2
+    shape_of-state
     returns_2)

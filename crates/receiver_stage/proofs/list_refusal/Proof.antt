@@ -20,44 +20,44 @@ Left s k = first_of (number_checks (size_of Kind.Short) (unpacked s.args.list.no
 all : (s : tie.Start) → Left s 0
 all s = all_asked s.args.list.now s.requires
 
-past : (c : tie.Else1) → Left c.before.before.before.before 1
-past c = all c.before.before.before.before ∙ passed _ _ (sym c.before.some-half-at-least.ensures ∙ c.if1.false)
+past : (c : tie.Else-some_half_at_least) → Left c.before.before.before.before 1
+past c = all c.before.before.before.before ∙ passed _ _ (sym c.before.some_half_at_least.ensures ∙ c.if-some_half_at_least.false)
 
-sub_some_half_at_least : tie.Need-overflow-sub-some-half-at-least
+sub_some_half_at_least : tie.Need-slice_bounds-some_half_at_least-count
 sub_some_half_at_least c = search rules
 
-part_some_half_at_least_start : tie.Need-slice-bounds-some-half-at-least-start
+part_some_half_at_least_start : tie.Need-slice_bounds-some_half_at_least-start
 part_some_half_at_least_start c = search rules
 
-part_some_half_at_least_end : tie.Need-slice-bounds-some-half-at-least-end
+part_some_half_at_least_end : tie.Need-slice_bounds-some_half_at_least-end
 part_some_half_at_least_end c = search rules
 
-add_some_half_at_least : tie.Need-overflow-add-some-half-at-least
+add_some_half_at_least : tie.Need-overflow_add-some_half_at_least
 add_some_half_at_least c = search rules
 
-some_half_at_least_requires : tie.Need-some-half-at-least-requires
+some_half_at_least_requires : tie.Need-some_half_at_least-requires
 some_half_at_least_requires c κs = search rules
 
-returns : tie.Need-returns
-returns c = sym (all c.before.before.before.before ∙ answers _ _ (sym c.before.some-half-at-least.ensures ∙ c.if1.true))
+returns : tie.Need-returns-then-some_half_at_least
+returns c = sym (all c.before.before.before.before ∙ answers _ _ (sym c.before.some_half_at_least.ensures ∙ c.if-some_half_at_least.true))
 
-sub_some_half_at_least_2 : tie.Need-overflow-sub-some-half-at-least-2
+sub_some_half_at_least_2 : tie.Need-slice_bounds-some_half_at_least-count-2
 sub_some_half_at_least_2 c = search rules
 
-part_some_half_at_least_start_2 : tie.Need-slice-bounds-some-half-at-least-start-2
+part_some_half_at_least_start_2 : tie.Need-slice_bounds-some_half_at_least-start-2
 part_some_half_at_least_start_2 c = search rules
 
-part_some_half_at_least_end_2 : tie.Need-slice-bounds-some-half-at-least-end-2
+part_some_half_at_least_end_2 : tie.Need-slice_bounds-some_half_at_least-end-2
 part_some_half_at_least_end_2 c = search rules
 
-some_half_at_least_requires_2 : tie.Need-some-half-at-least-requires-2
+some_half_at_least_requires_2 : tie.Need-some_half_at_least-requires-2
 some_half_at_least_requires_2 c κs = search rules
 
-returns_2 : tie.Need-returns-2
-returns_2 c = sym (past c.before.before.before ∙ answers _ _ (sym c.before.some-half-at-least2.ensures ∙ c.if2.true))
+returns_2 : tie.Need-returns-then-some_half_at_least-2
+returns_2 c = sym (past c.before.before.before ∙ answers _ _ (sym c.before.some_half_at_least-2.ensures ∙ c.if-some_half_at_least-2.true))
 
-returns_3 : tie.Need-returns-3
-returns_3 c = sym (past c.before.before.before ∙ passed _ _ (sym c.before.some-half-at-least2.ensures ∙ c.if2.false) ∙ first_none none)
+returns_3 : tie.Need-returns
+returns_3 c = sym (past c.before.before.before ∙ passed _ _ (sym c.before.some_half_at_least-2.ensures ∙ c.if-some_half_at_least-2.false) ∙ first_none none)
 
 pub list_refusal_spec : {M : Type 1} → statement M
 list_refusal_spec =

@@ -31,45 +31,45 @@ asked numbers r i inside =
     let index : first_slot + i - 1 ≡ i = omega arith in
     passing-at (has_number numbers r) first_slot last_slot i inside ∙ rw (ne_eqb (first_slot + i) 0 no_header, index)
 
-abbrev invariant_loop : tie.invariant_loop
+abbrev invariant_loop : tie.invariant-loop-i
 invariant_loop numbers r marks₀ i₀ marks i = (i ≤ last_slot) × (length marks ≡ last_slot) × Marking (made numbers r.0) marks i
 
-abbrev decreases_loop : tie.decreases_loop
+abbrev decreases_loop : tie.decreases-loop-i
 decreases_loop numbers r marks₀ i₀ marks i = last_slot - i
 
-loop_holds : tie.Need-loop-init invariant_loop decreases_loop
+loop_holds : tie.Need-loop-i-init invariant_loop decreases_loop
 loop_holds c = (omega arith, omega arith, marking_none _)
 
-shared_slice_read_marks : tie.Need-shared-slice-read-marks invariant_loop decreases_loop
+shared_slice_read_marks : tie.Need-bounds-numbers-i invariant_loop decreases_loop
 shared_slice_read_marks c = search rules
 
-array_write_marks : tie.Need-array-write-marks invariant_loop decreases_loop
+array_write_marks : tie.Need-bounds-marks-i invariant_loop decreases_loop
 array_write_marks c = search rules
 
-add_i : tie.Need-overflow-add-i invariant_loop decreases_loop
+add_i : tie.Need-overflow_add-i invariant_loop decreases_loop
 add_i c = search rules
 
-loop_less : tie.Need-loop-smaller invariant_loop decreases_loop
+loop_less : tie.Need-loop-i-smaller invariant_loop decreases_loop
 loop_less c = search rules
 
-loop_again : tie.Need-loop-preserved invariant_loop decreases_loop
+loop_again : tie.Need-loop-i-preserved invariant_loop decreases_loop
 loop_again c =
     let t = c.before.before.before.before in
     let a = t.before.before.args in
-    let inside : t.loop.i < last_slot = omega arith in (
+    let inside : t.loop-i.i < last_slot = omega arith in (
       omega arith,
-      simp length-set t.loop.invariant.1,
-      marking_more (made a.numbers.now a.r.0) (made-long a.numbers.now a.r.0) t.loop.invariant.2 inside (asked a.numbers.now a.r.0 t.loop.i inside),
+      simp length-set t.loop-i.invariant.1,
+      marking_more (made a.numbers.now a.r.0) (made-long a.numbers.now a.r.0) t.loop-i.invariant.2 inside (asked a.numbers.now a.r.0 t.loop-i.i inside),
     )
 
-slots_as_bits_requires : tie.Need-slots-as-bits-requires invariant_loop decreases_loop
+slots_as_bits_requires : tie.Need-slots_as_bits-requires invariant_loop decreases_loop
 slots_as_bits_requires c κs = search rules
 
 returns : tie.Need-returns invariant_loop decreases_loop
 returns c =
     let t = c.before.before.before in
     let a = t.before.before.args in
-    c.slots-as-bits.ensures ∙ ap slots_as_bits (marking_all (made a.numbers.now a.r.0) (made-long a.numbers.now a.r.0) t.loop.invariant.2 (omega arith))
+    c.slots_as_bits.ensures ∙ ap slots_as_bits (marking_all (made a.numbers.now a.r.0) (made-long a.numbers.now a.r.0) t.loop-i.invariant.2 (omega arith))
 
 pub marks_of_spec : {M : Type 1} → statement M
 marks_of_spec =

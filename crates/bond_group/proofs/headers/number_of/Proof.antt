@@ -35,89 +35,89 @@ module _ (b : Bond) (s : Setting) (k : ℕ) where
       let named : names b s (k + 1) ≡ x && (y && z) = rw (back, ts, os, streams, e, f, g) (and_comm z (x && y) ∙ and_assoc x y z) in
       up ∙ ap (λ (t : Bool). cond t (k + 1) (number_up_to b s k)) named
 
-abbrev invariant_loop : tie.invariant_loop
+abbrev invariant_loop : tie.invariant-loop-k
 invariant_loop ts os availability b number₀ k₀ number k =
     (k ≤ last_stream)
     × ((s : Setting) → s.availability ≡ availability → s.ts_id ≡ ids_apart 4 last_stream ts → s.original_network_id ≡ ids_apart 4 last_stream os → number ≡ number_up_to b s k)
     × (number ≤ last_stream)
 
-abbrev decreases_loop : tie.decreases_loop
+abbrev decreases_loop : tie.decreases-loop-k
 decreases_loop ts os availability b number₀ k₀ number k = last_stream - k
 
-loop_holds : tie.Need-loop-init invariant_loop decreases_loop
+loop_holds : tie.Need-loop-k-init invariant_loop decreases_loop
 unfolding number_up_to
 loop_holds c = (omega arith, λ s e f g. refl, omega arith)
 
-cast_at : tie.Need-overflow-cast-at invariant_loop decreases_loop
+cast_at : tie.Need-overflow_cast-at invariant_loop decreases_loop
 cast_at c = omega arith
 
-mul_at : tie.Need-overflow-mul-at invariant_loop decreases_loop
+mul_at : tie.Need-overflow_mul-at invariant_loop decreases_loop
 mul_at c = omega arith
 
-shared_slice_read_word : tie.Need-shared-slice-read-word invariant_loop decreases_loop
+shared_slice_read_word : tie.Need-bounds-ts-at invariant_loop decreases_loop
 shared_slice_read_word c = omega arith
 
-add_word : tie.Need-overflow-add-word invariant_loop decreases_loop
+add_word : tie.Need-overflow_add-at invariant_loop decreases_loop
 add_word c = omega arith
 
-shared_slice_read_word_2 : tie.Need-shared-slice-read-word-2 invariant_loop decreases_loop
+shared_slice_read_word_2 : tie.Need-bounds-ts-at-in-loop-k invariant_loop decreases_loop
 shared_slice_read_word_2 c = omega arith
 
-word_requires : tie.Need-word-requires invariant_loop decreases_loop
+word_requires : tie.Need-word-ts_id-requires invariant_loop decreases_loop
 word_requires c κs = search rules
 
-shared_slice_read_word_3 : tie.Need-shared-slice-read-word-3 invariant_loop decreases_loop
+shared_slice_read_word_3 : tie.Need-bounds-os-at invariant_loop decreases_loop
 shared_slice_read_word_3 c = omega arith
 
-add_word_2 : tie.Need-overflow-add-word-2 invariant_loop decreases_loop
+add_word_2 : tie.Need-overflow_add-at-in-loop-k invariant_loop decreases_loop
 add_word_2 c = omega arith
 
-shared_slice_read_word_4 : tie.Need-shared-slice-read-word-4 invariant_loop decreases_loop
+shared_slice_read_word_4 : tie.Need-bounds-os-at-in-loop-k invariant_loop decreases_loop
 shared_slice_read_word_4 c = omega arith
 
-word_requires_2 : tie.Need-word-requires-2 invariant_loop decreases_loop
+word_requires_2 : tie.Need-word-network_id-requires invariant_loop decreases_loop
 word_requires_2 c κs = search rules
 
-cast_r : tie.Need-overflow-cast-r invariant_loop decreases_loop
+cast_r : tie.Need-overflow_cast-r invariant_loop decreases_loop
 cast_r c = omega arith
 
-add_r : tie.Need-overflow-add-r invariant_loop decreases_loop
+add_r : tie.Need-overflow_add-r invariant_loop decreases_loop
 add_r c = omega arith
 
-is_available_requires : tie.Need-is-available-requires invariant_loop decreases_loop
+is_available_requires : tie.Need-is_available-requires invariant_loop decreases_loop
 is_available_requires c κs = search rules
 
-add_k : tie.Need-overflow-add-k invariant_loop decreases_loop
+add_k : tie.Need-overflow_add-k invariant_loop decreases_loop
 add_k c = omega arith
 
-loop_less : tie.Need-loop-smaller invariant_loop decreases_loop
+loop_less : tie.Need-loop-k-smaller invariant_loop decreases_loop
 loop_less c = omega arith
 
-loop_again : tie.Need-loop-preserved invariant_loop decreases_loop
+loop_again : tie.Need-loop-k-preserved invariant_loop decreases_loop
 loop_again c =
     let loop = c.before.before.before.before.before.before.before.before.before in
     let start = loop.before.before.before in
     let a = start.args in
-    let k = loop.loop.k in
-    let held = loop.loop.invariant.1 in
-    let ts : c.before.before.before.before.before.word.result ≡ get_or (ids_apart 4 last_stream a.ts.now) k 0 = c.before.before.before.before.before.word.ensures ∙ sym (apart_at 4 last_stream k a.ts.now (omega arith)) in
-    let os : c.before.before.word2.result ≡ get_or (ids_apart 4 last_stream a.os.now) k 0 = c.before.before.word2.ensures ∙ sym (apart_at 4 last_stream k a.os.now (omega arith)) in (
+    let k = loop.loop-k.k in
+    let held = loop.loop-k.invariant.1 in
+    let ts : c.before.before.before.before.before.word-ts_id.result ≡ get_or (ids_apart 4 last_stream a.ts.now) k 0 = c.before.before.before.before.before.word-ts_id.ensures ∙ sym (apart_at 4 last_stream k a.ts.now (omega arith)) in
+    let os : c.before.before.word-network_id.result ≡ get_or (ids_apart 4 last_stream a.os.now) k 0 = c.before.before.word-network_id.ensures ∙ sym (apart_at 4 last_stream k a.os.now (omega arith)) in (
       omega arith,
       λ s e f g.
           ⊎_elim (λ w. w.5 ∙ sym (turn a.b s k e f g (eq-eqb _ _ (sym ts ∙ w.0.taken)) (eq-eqb _ _ (sym os ∙ w.2.taken)) (sym w.3.ensures ∙ w.4.taken)))
           (⊎_elim (λ w. w.5 ∙ held s e f g ∙ sym (turn a.b s k e f g (eq-eqb _ _ (sym ts ∙ w.0.taken)) (eq-eqb _ _ (sym os ∙ w.2.taken)) (sym w.3.ensures ∙ w.4.left)))
           (⊎_elim (λ w. w.3 ∙ held s e f g ∙ sym (turn a.b s k e f g (eq-eqb _ _ (sym ts ∙ w.0.taken)) (ne_eqb (get_or (ids_apart 4 last_stream a.os.now) k 0) a.b.original_network_id (λ z. w.2.left (os ∙ z))) refl))
           (λ w. w.1 ∙ held s e f g ∙ sym (turn a.b s k e f g (ne_eqb (get_or (ids_apart 4 last_stream a.ts.now) k 0) a.b.ts_id (λ z. w.0.left (ts ∙ z))) refl refl))))
-          c.if1.branch,
-      ⊎_elim (λ w. omega (arith, w.5)) (⊎_elim (λ w. omega (arith, w.5)) (⊎_elim (λ w. omega (arith, w.3)) (λ w. omega (arith, w.1)))) c.if1.branch,
+          c.if-ts_id-b.branch,
+      ⊎_elim (λ w. omega (arith, w.5)) (⊎_elim (λ w. omega (arith, w.5)) (⊎_elim (λ w. omega (arith, w.3)) (λ w. omega (arith, w.1)))) c.if-ts_id-b.branch,
     )
 
 returns : tie.Need-returns invariant_loop decreases_loop
 unfolding number_of
 returns c =
     let k = c.before in
-    let all : k.loop.k ≡ last_stream = omega arith in
-    (λ s e f g. k.loop.invariant.1 s e f g ∙ ap (number_up_to k.before.before.before.args.b s) all, k.loop.invariant.2)
+    let all : k.loop-k.k ≡ last_stream = omega arith in
+    (λ s e f g. k.loop-k.invariant.1 s e f g ∙ ap (number_up_to k.before.before.before.args.b s) all, k.loop-k.invariant.2)
 
 pub number_of_spec : {M : Type 1} → statement M
 number_of_spec =

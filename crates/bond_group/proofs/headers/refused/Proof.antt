@@ -8,10 +8,10 @@ use Rattle.bond_group.proofs.headers.refused.Tie as tie
 clear_requires : tie.Need-clear-requires
 clear_requires c κs = search rules
 
-same_length : tie.Need-same-length
+same_length : tie.Need-shape_of-frames
 same_length c = search rules
 
-same_length_2 : tie.Need-same-length-2
+same_length_2 : tie.Need-shape_of-slots
 same_length_2 c = search rules
 
 returns : tie.Need-returns
@@ -19,4 +19,10 @@ unfolding nothing_seen
 returns c = let cleared = c.before.before.before.before.clear.ensures in (refl, (cleared.0, cleared.1))
 
 pub refused_spec : {M : Type 1} → statement M
-refused_spec = tie.close (tie.spec clear_requires same_length same_length_2 returns)
+refused_spec =
+    tie.close
+    (tie.spec
+    clear_requires
+    same_length
+    same_length_2
+    returns)

@@ -15,101 +15,101 @@ use Rattle.bond_group.proofs.headers.standing_refusal.Statement.{statement}
 use Rattle.bond_group.proofs.headers.standing_refusal.Tie as tie
 
 -- from the place after a check that did not hold to the function's start
-abbrev start₂ : tie.Else2 → tie.Start
+abbrev start₂ : tie.Else-h-next_carrier → tie.Start
 start₂ c = c.before.before.before.before.before
 
-abbrev start₃ : tie.Else3 → tie.Start
+abbrev start₃ : tie.Else-h-group_id → tie.Start
 start₃ c = start₂ c.before.before
 
-abbrev start₄ : tie.Else4 → tie.Start
+abbrev start₄ : tie.Else-h-carriers → tie.Start
 start₄ c = start₃ c.before.before
 
-abbrev start₅ : tie.Joined5 → tie.Start
+abbrev start₅ : tie.Joined-not-is_last → tie.Start
 start₅ c = start₄ c.before.before
 
 -- the first k checks do not hold
 abbrev Passed : tie.Start → ℕ → Type 0
-Passed c k = Past k (standing_checks c.args.carriers c.args.group_id_lem c.args.behind c.args.h)
+Passed c k = Past k (standing_checks c.args.carriers c.args.group_id c.args.behind c.args.h)
 
-past_1 : (c : tie.Else1) → Passed c.before.before 1
+past_1 : (c : tie.Else-is_end) → Passed c.before.before 1
 unfolding standing_checks
-past_1 c = passed 14 _ (sym c.before.is-end.ensures ∙ c.if1.false)
+past_1 c = passed 14 _ (sym c.before.is_end.ensures ∙ c.if-is_end.false)
 
-past_2 : (c : tie.Else2) → Passed (start₂ c) 2
+past_2 : (c : tie.Else-h-next_carrier) → Passed (start₂ c) 2
 unfolding standing_checks
 past_2 c =
     let carrier = c.before.before in
-    past_1 carrier.before ∙ passed 14 _ (ap not (eq-eqb _ _ (c.if2.false ∙ carrier.next-carrier.ensures)))
+    past_1 carrier.before ∙ passed 14 _ (ap not (eq-eqb _ _ (c.if-h-next_carrier.false ∙ carrier.next_carrier.ensures)))
 
-past_3 : (c : tie.Else3) → Passed (start₃ c) 3
+past_3 : (c : tie.Else-h-group_id) → Passed (start₃ c) 3
 unfolding standing_checks
-past_3 c = past_2 c.before.before ∙ passed 14 _ (ap not (eq-eqb _ _ c.if3.false))
+past_3 c = past_2 c.before.before ∙ passed 14 _ (ap not (eq-eqb _ _ c.if-h-group_id.false))
 
-past_4 : (c : tie.Else4) → Passed (start₄ c) 4
+past_4 : (c : tie.Else-h-carriers) → Passed (start₄ c) 4
 unfolding standing_checks
-past_4 c = past_3 c.before.before ∙ passed 14 _ (ap not (eq-eqb _ _ c.if4.false))
+past_4 c = past_3 c.before.before ∙ passed 14 _ (ap not (eq-eqb _ _ c.if-h-carriers.false))
 
-past_5 : (c : tie.Joined5) → Passed (start₅ c) 5
+past_5 : (c : tie.Joined-not-is_last) → Passed (start₅ c) 5
 unfolding standing_checks
 past_5 c =
     let last = c.before.is_last.ensures in
     let s = start₅ c in
     let same : not (is_last s.args.behind) && not (eqb s.args.h.number_of_frames s.args.behind.number_of_frames) ≡ false =
-    ⊎_elim (λ w. simp (sym last ∙ not-true _ w.0.taken, eq-eqb _ _ w.3.left)) (λ w. simp (sym last ∙ not-false _ w.left)) c.if5.branch in
+    ⊎_elim (λ w. simp (sym last ∙ not-true _ w.0.taken, eq-eqb _ _ w.3.left)) (λ w. simp (sym last ∙ not-false _ w.left)) c.if-not-is_last.branch in
     past_4 c.before.before ∙ passed 14 _ same
 
-is_end_requires : tie.Need-is-end-requires
+is_end_requires : tie.Need-is_end-requires
 is_end_requires c κs = search rules
 
-returns : tie.Need-returns
+returns : tie.Need-returns-then-is_end
 unfolding standing_checks
-returns c = sym (answers 14 _ (sym c.before.is-end.ensures ∙ c.if1.true))
+returns c = sym (answers 14 _ (sym c.before.is_end.ensures ∙ c.if-is_end.true))
 
-next_carrier_requires : tie.Need-next-carrier-requires
+next_carrier_requires : tie.Need-next_carrier-requires
 next_carrier_requires c κs = search rules
 
-returns_2 : tie.Need-returns-2
+returns_2 : tie.Need-returns-then-h-next_carrier
 unfolding standing_checks
 returns_2 c =
     let carrier = c.before.before in
-    sym (past_1 carrier.before ∙ answers 14 _ (ap not (ne_eqb _ _ (λ e. c.if2.true (e ∙ sym carrier.next-carrier.ensures)))))
+    sym (past_1 carrier.before ∙ answers 14 _ (ap not (ne_eqb _ _ (λ e. c.if-h-next_carrier.true (e ∙ sym carrier.next_carrier.ensures)))))
 
-returns_3 : tie.Need-returns-3
+returns_3 : tie.Need-returns-then-h-group_id
 unfolding standing_checks
-returns_3 c = sym (past_2 c.before.before ∙ answers 14 _ (ap not (ne_eqb _ _ c.if3.true)))
+returns_3 c = sym (past_2 c.before.before ∙ answers 14 _ (ap not (ne_eqb _ _ c.if-h-group_id.true)))
 
-returns_4 : tie.Need-returns-4
+returns_4 : tie.Need-returns-then-h-carriers
 unfolding standing_checks
-returns_4 c = sym (past_3 c.before.before ∙ answers 14 _ (ap not (ne_eqb _ _ c.if4.true)))
+returns_4 c = sym (past_3 c.before.before ∙ answers 14 _ (ap not (ne_eqb _ _ c.if-h-carriers.true)))
 
-is_last_requires : tie.Need-is-last-requires
+is_last_requires : tie.Need-is_last-requires
 is_last_requires c κs = search rules
 
-returns_5 : tie.Need-returns-5
+returns_5 : tie.Need-returns-then-h-behind
 unfolding standing_checks
 returns_5 c =
     let then = c.before.before.before in
-    let last = sym then.before.is_last.ensures ∙ not-true _ then.if5.true in
-    sym (past_4 then.before.before ∙ answers 14 _ (simp (last, ne_eqb _ _ c.if6.true)))
+    let last = sym then.before.is_last.ensures ∙ not-true _ then.if-not-is_last.true-raw in
+    sym (past_4 then.before.before ∙ answers 14 _ (simp (last, ne_eqb _ _ c.if-h-behind.true)))
 
-next_position_requires : tie.Need-next-position-requires
+next_position_requires : tie.Need-next_position-next-requires
 next_position_requires c κs = search rules
 
 -- the position asked for, as a number
-asked : (c : tie.After-next-position) → c.next-position.result.0 ≡ next_position (start₅ c.before.before).args.behind
-asked c = ap (λ (p : FramePosition). p.0) c.next-position.ensures
+asked : (c : tie.After-next_position-next) → c.next_position-next.result.0 ≡ next_position (start₅ c.before.before).args.behind
+asked c = ap (λ (p : FramePosition). p.0) c.next_position-next.ensures
 
-returns_6 : tie.Need-returns-6
+returns_6 : tie.Need-returns-then-position-next
 unfolding standing_checks
 returns_6 c =
     let next = c.before.before.before in
-    sym (past_5 next.before.before ∙ answers 14 _ (ap not (ne_eqb _ _ (λ e. c.if7.true (e ∙ sym (asked next))))))
+    sym (past_5 next.before.before ∙ answers 14 _ (ap not (ne_eqb _ _ (λ e. c.if-position-next.true (e ∙ sym (asked next))))))
 
-returns_7 : tie.Need-returns-7
+returns_7 : tie.Need-returns
 unfolding standing_checks first_of
 returns_7 c =
     let next = c.before.before.before in
-    sym (past_5 next.before.before ∙ passed 14 [] (ap not (eq-eqb _ _ (c.if7.false ∙ asked next))))
+    sym (past_5 next.before.before ∙ passed 14 [] (ap not (eq-eqb _ _ (c.if-position-next.false ∙ asked next))))
 
 pub standing_refusal_spec : {M : Type 1} → statement M
 standing_refusal_spec =

@@ -25,27 +25,27 @@ use Rattle.composer_put.proofs.checks.frame_refusal.Statement.{statement}
 use Rattle.composer_put.proofs.checks.frame_refusal.Tie as tie
 
 -- from the place where the kind was told to the function's start
-abbrev kind-start : tie.After-kind-of → tie.Start
+abbrev kind-start : tie.After-kind_of-kind → tie.Start
 kind-start c = c.before.before.before.before
 
 -- and from the place after a check that did not hold
-abbrev start₁ : tie.Else1 → tie.Start
+abbrev start₁ : tie.Else-lent-frame_bytes → tie.Start
 start₁ c = kind-start c.before.before
 
-abbrev start₂ : tie.Else2 → tie.Start
+abbrev start₂ : tie.Else-stream-ne0 → tie.Start
 start₂ c = start₁ c.before
 
-abbrev start₃ : tie.Else3 → tie.Start
+abbrev start₃ : tie.Else-refused-ne0 → tie.Start
 start₃ c = start₂ c.before.before
 
 -- from the place where the number was answered
-abbrev number-start : tie.After-known-told → tie.Start
-number-start c = start₃ c.before.before.before.before
+abbrev number-start : tie.In-Is → tie.Start
+number-start c = start₃ c.before.before.before
 
-abbrev answered : tie.Else4 → tie.After-known-told
+abbrev answered : tie.Else-size-number → tie.In-Is
 answered c = c.before.before.before.before
 
-abbrev start₄ : tie.Else4 → tie.Start
+abbrev start₄ : tie.Else-size-number → tie.Start
 start₄ c = number-start (answered c)
 
 -- the refusal of the whole, and its parts behind the lengths
@@ -73,106 +73,100 @@ in_parts cs ds none = either (ℕ_discrete (first_of cs) 0)
     either (no h) = rw (ne_eqb _ 0 h) (at_once cs ds h)
 
 -- how long the frame is, and how many streams there are
-frame_told : (c : tie.After-frame-bytes) → c.frame-bytes.result ≡ frame_length (slots_of (composer_of (kind-start c.before).args.state.now).kind)
-frame_told c = frame_there _ c.before.kind-of.ensures c.frame-bytes.ensures
+frame_told : (c : tie.After-frame_bytes) → c.frame_bytes.result ≡ frame_length (slots_of (composer_of (kind-start c.before).args.state.now).kind)
+frame_told c = frame_there _ c.before.kind_of-kind.ensures c.frame_bytes.ensures
 
-kind-told : (c : tie.Else3) → c.before.before.before.before.before.kind-of.result ≡ (composer_of (start₃ c).args.state.now).kind
-kind-told c = c.before.before.before.before.before.kind-of.ensures ∙ sym (kind_there (start₃ c).args.state.now)
+kind-told : (c : tie.Else-refused-ne0) → c.before.before.before.before.before.kind_of-kind.result ≡ (composer_of (start₃ c).args.state.now).kind
+kind-told c = c.before.before.before.before.before.kind_of-kind.ensures ∙ sym (kind_there (start₃ c).args.state.now)
 
-streams-told : (c : tie.After-size-of) → c.type_size.result.streams ≡ streams_of (composer_of (number-start c.before).args.state.now).kind
-streams-told c = ap (λ (z : Size). z.streams) c.type_size.ensures ∙ ap streams_of (kind-told c.before.before.before.before.before)
+streams-told : (c : tie.After-size_of-size) → c.size_of-size.result.streams ≡ streams_of (composer_of (number-start c.before).args.state.now).kind
+streams-told c = ap (λ (z : Size). z.streams) c.size_of-size.ensures ∙ ap streams_of (kind-told c.before.before.before.before)
 
 -- what is asked of the state's bytes
-state_told : (c : tie.After-state-refusal) → c.state-refusal.result ≡ first_of (states (start₂ c.before))
+state_told : (c : tie.After-state_refusal-refused) → c.state_refusal-refused.result ≡ first_of (states (start₂ c.before))
 state_told c =
-    c.state-refusal.ensures ∙ at_length _ _ _ (start₂ c.before).requires
+    c.state_refusal-refused.ensures ∙ at_length _ _ _ (start₂ c.before).requires
 
-open_told : (c : tie.After-open-refusal) → c.open-refusal.result ≡ first_of (opens (start₄ c.before))
+open_told : (c : tie.After-open_refusal) → c.open_refusal.result ≡ first_of (opens (start₄ c.before))
 open_told c =
-    c.open-refusal.ensures ∙ at_length _ _ _ (start₄ c.before).requires
+    c.open_refusal.ensures ∙ at_length _ _ _ (start₄ c.before).requires
 
 -- the number that was answered: it lies inside, and is the one that was given
-number-told : (c : tie.After-known-told)
-    → (within first_stream last_stream (number-start c).args.r.0 ≡ true) × (c.before.number.given.0.0.0 ≡ (number-start c).args.r.0)
+number-told : (c : tie.In-Is)
+    → (within first_stream last_stream (number-start c).args.r.0 ≡ true) × (c.before.in-Is.number.0 ≡ (number-start c).args.r.0)
 number-told c =
-    relative_inside first_stream last_stream (number-start c).args.r.0 (sym c.before.number.given.1 ∙ c.before.before.before.new.ensures)
+    relative_inside first_stream last_stream (number-start c).args.r.0 (sym c.before.in-Is.is ∙ c.before.before.new.ensures)
 
-past₂ : (c : tie.Else2) → all (start₂ c) ≡ first_of (states (start₂ c) ++ numbers (start₂ c))
+past₂ : (c : tie.Else-stream-ne0) → all (start₂ c) ≡ first_of (states (start₂ c) ++ numbers (start₂ c))
 unfolding put_refusal
-past₂ c = passed _ _ (ap not (eq-eqb _ _ (c.before.if1.false ∙ frame_told c.before.before))) ∙ passed _ _ (ap not (eq-eqb _ _ c.if2.false))
+past₂ c = passed _ _ (ap not (eq-eqb _ _ (c.before.if-lent-frame_bytes.false ∙ frame_told c.before.before))) ∙ passed _ _ (ap not (eq-eqb _ _ c.if-stream-ne0.false))
 
-past₃ : (c : tie.Else3) → all (start₃ c) ≡ first_of (numbers (start₃ c))
+past₃ : (c : tie.Else-refused-ne0) → all (start₃ c) ≡ first_of (numbers (start₃ c))
 past₃ c =
     past₂ c.before.before
-    ∙ onward (numbers (start₃ c)) (state_none (composer_of (start₃ c).args.state.now) (sym (state_told c.before) ∙ c.if3.false))
+    ∙ onward (numbers (start₃ c)) (state_none (composer_of (start₃ c).args.state.now) (sym (state_told c.before) ∙ c.if-refused-ne0.false))
 
-past₄ : (c : tie.Else4) → all (start₄ c) ≡ first_of (opens (start₄ c) ++ streams (start₄ c))
+past₄ : (c : tie.Else-size-number) → all (start₄ c) ≡ first_of (opens (start₄ c) ++ streams (start₄ c))
 past₄ c =
     let told = answered c in
     let n = number-told told in
     let low : (start₄ c).args.r.0 ≤ streams_of (composer_of (start₄ c).args.state.now).kind =
-    omega (arith, n.1, streams-told c.before.before.before, c.if4.false) in
-    past₃ told.before.before.before.before ∙ passed _ _ (ap not (between first_stream _ _ (at_least first_stream last_stream _ n.0) low))
+    omega (arith, n.1, streams-told c.before.before.before, c.if-size-number.false) in
+    past₃ told.before.before.before ∙ passed _ _ (ap not (between first_stream _ _ (at_least first_stream last_stream _ n.0) low))
 
-shared_slice_read_kind_of : tie.Need-shared-slice-read-kind-of
+shared_slice_read_kind_of : tie.Need-bounds-state-2
 shared_slice_read_kind_of c = search rules
 
-kind_of_requires : tie.Need-kind-of-requires
+kind_of_requires : tie.Need-kind_of-kind-requires
 kind_of_requires c κs = search rules
 
-frame_bytes_requires : tie.Need-frame-bytes-requires
+frame_bytes_requires : tie.Need-frame_bytes-requires
 frame_bytes_requires c κs = search rules
 
-returns : tie.Need-returns
+returns : tie.Need-returns-then-lent-frame_bytes
 unfolding put_refusal
-returns c = answers _ _ (ap not (ne_eqb _ _ (λ e. c.if1.true (e ∙ sym (frame_told c.before)))))
+returns c = answers _ _ (ap not (ne_eqb _ _ (λ e. c.if-lent-frame_bytes.true (e ∙ sym (frame_told c.before)))))
 
-returns_2 : tie.Need-returns-2
+returns_2 : tie.Need-returns-then-stream-ne0
 unfolding put_refusal
 returns_2 c =
-    passed _ _ (ap not (eq-eqb _ _ (c.before.if1.false ∙ frame_told c.before.before))) ∙ answers _ _ (ap not (ne_eqb _ _ c.if2.true))
+    passed _ _ (ap not (eq-eqb _ _ (c.before.if-lent-frame_bytes.false ∙ frame_told c.before.before))) ∙ answers _ _ (ap not (ne_eqb _ _ c.if-stream-ne0.true))
 
-state_refusal_requires : tie.Need-state-refusal-requires
+state_refusal_requires : tie.Need-state_refusal-refused-requires
 state_refusal_requires c κs = search rules
 
-returns_3 : tie.Need-returns-3
+returns_3 : tie.Need-returns-then-refused-ne0
 returns_3 c =
     let start = start₂ c.before.before in
     let n = state_told c.before in
-    rw (ne_eqb _ 0 c.if3.true) (past₂ c.before.before ∙ at_once (states start) (numbers start) (λ z. c.if3.true (n ∙ z)) ∙ sym n)
+    rw (ne_eqb _ 0 c.if-refused-ne0.true) (past₂ c.before.before ∙ at_once (states start) (numbers start) (λ z. c.if-refused-ne0.true (n ∙ z)) ∙ sym n)
 
 new_requires : tie.Need-new-requires
 new_requires c κs = search rules
 
-enum_known_number : tie.Need-enum-known-number
-enum_known_number c = search rules
-
-enum_told : tie.Need-enum-told
-enum_told c = search rules
-
-returns_4 : tie.Need-returns-4
+returns_4 : tie.Need-returns-in_default
 returns_4 c =
-    let told = c.before.before in
+    let told = c.before in
     let a = (start₃ told.before).args in
     let kind = (composer_of a.state.now).kind in
-    let out = relative_outside first_stream last_stream a.r.0 (sym c.enum_told.given.1 ∙ told.new.ensures) in
+    let out = relative_outside first_stream last_stream a.r.0 (sym c.in_default.is ∙ told.new.ensures) in
     past₃ told.before ∙ answers _ _ (ap not (outside first_stream last_stream (streams_of kind) a.r.0 (sized kind).streams out.0))
 
-size_of_requires : tie.Need-size-of-requires
+size_of_requires : tie.Need-size_of-size-requires
 size_of_requires c κs = search rules
 
-returns_5 : tie.Need-returns-5
+returns_5 : tie.Need-returns-then-size-number
 returns_5 c =
     let told = c.before.before.before.before in
     let n = number-told told in
     let high : streams_of (composer_of (number-start told).args.state.now).kind < (number-start told).args.r.0 =
-    omega (arith, n.1, streams-told c.before.before.before, c.if4.true) in
-    past₃ told.before.before.before.before ∙ answers _ _ (ap not (past first_stream _ _ (at_least first_stream last_stream _ n.0) high))
+    omega (arith, n.1, streams-told c.before.before.before, c.if-size-number.true) in
+    past₃ told.before.before.before ∙ answers _ _ (ap not (past first_stream _ _ (at_least first_stream last_stream _ n.0) high))
 
-open_refusal_requires : tie.Need-open-refusal-requires
+open_refusal_requires : tie.Need-open_refusal-requires
 open_refusal_requires c κs = search rules
 
-returns_6 : tie.Need-returns-6
+returns_6 : tie.Need-returns
 returns_6 c =
     let start = start₄ c.before in
     rw (open_told c) (past₄ c.before ∙ in_parts (opens start) (streams start) (open_none (composer_of start.args.state.now)))
@@ -189,8 +183,6 @@ frame_refusal_spec =
     state_refusal_requires
     returns_3
     new_requires
-    enum_known_number
-    enum_told
     returns_4
     size_of_requires
     returns_5

@@ -21,10 +21,10 @@ use Rattle.composer_put.proofs.slots.empty_slots.Tie as tie
 abbrev empty : ℕ → List ℕ → List ℕ → List Bool
 empty r plan filled = empty_for r plan (marks_of filled)
 
-abbrev invariant_loop : tie.invariant_loop
+abbrev invariant_loop : tie.invariant-loop-i
 invariant_loop plan filled r marks₀ i₀ marks i = (i ≤ last_slot) × (length marks ≡ last_slot) × Marking (empty r.0 plan filled) marks i
 
-abbrev decreases_loop : tie.decreases_loop
+abbrev decreases_loop : tie.decreases-loop-i
 decreases_loop plan filled r marks₀ i₀ marks i = last_slot - i
 
 module _ (c : tie.Start invariant_loop decreases_loop) where
@@ -44,39 +44,39 @@ module _ (c : tie.Start invariant_loop decreases_loop) where
       empty-at a.r.0 a.plan.now (marks_of a.filled.now) i (omega (arith, c.requires.0)) (omega (arith, marks-long))
       ∙ ap (λ (m : Bool). eqb (get_or a.plan.now i 0) a.r.0 && not m) (mark_at a.filled.now i)
 
-loop_holds : tie.Need-loop-init invariant_loop decreases_loop
+loop_holds : tie.Need-loop-i-init invariant_loop decreases_loop
 loop_holds c = (omega arith, omega arith, marking_none _)
 
-shared_slice_read_marks : tie.Need-shared-slice-read-marks invariant_loop decreases_loop
+shared_slice_read_marks : tie.Need-bounds-plan-i invariant_loop decreases_loop
 shared_slice_read_marks c = search rules
 
-shared_slice_read_marks_2 : tie.Need-shared-slice-read-marks-2 invariant_loop decreases_loop
+shared_slice_read_marks_2 : tie.Need-bounds-filled-i invariant_loop decreases_loop
 shared_slice_read_marks_2 c = search rules
 
-array_write_marks : tie.Need-array-write-marks invariant_loop decreases_loop
+array_write_marks : tie.Need-bounds-marks-i invariant_loop decreases_loop
 array_write_marks c = search rules
 
-add_i : tie.Need-overflow-add-i invariant_loop decreases_loop
+add_i : tie.Need-overflow_add-i invariant_loop decreases_loop
 add_i c = search rules
 
-loop_less : tie.Need-loop-smaller invariant_loop decreases_loop
+loop_less : tie.Need-loop-i-smaller invariant_loop decreases_loop
 loop_less c = search rules
 
-loop_again : tie.Need-loop-preserved invariant_loop decreases_loop
+loop_again : tie.Need-loop-i-preserved invariant_loop decreases_loop
 loop_again c =
     let t = c.before.before.before.before in
     let start = t.before.before.before in
-    let inside : t.loop.i < last_slot = omega arith in
-    (omega arith, simp length-set t.loop.invariant.1, marking_more (made start) (made-long start) t.loop.invariant.2 inside (asked start t.loop.i inside))
+    let inside : t.loop-i.i < last_slot = omega arith in
+    (omega arith, simp length-set t.loop-i.invariant.1, marking_more (made start) (made-long start) t.loop-i.invariant.2 inside (asked start t.loop-i.i inside))
 
-slots_as_bits_requires : tie.Need-slots-as-bits-requires invariant_loop decreases_loop
+slots_as_bits_requires : tie.Need-slots_as_bits-requires invariant_loop decreases_loop
 slots_as_bits_requires c κs = search rules
 
 returns : tie.Need-returns invariant_loop decreases_loop
 returns c =
     let t = c.before.before.before in
     let start = t.before.before.before in
-    c.slots-as-bits.ensures ∙ ap slots_as_bits (marking_all (made start) (made-long start) t.loop.invariant.2 (omega arith))
+    c.slots_as_bits.ensures ∙ ap slots_as_bits (marking_all (made start) (made-long start) t.loop-i.invariant.2 (omega arith))
 
 pub empty_slots_spec : {M : Type 1} → statement M
 empty_slots_spec =

@@ -29,45 +29,45 @@ use Rattle.header_read.proofs.reader.read_announced.Statement.{statement}
 use Rattle.header_read.proofs.reader.read_announced.Tie as tie
 
 -- the places after each part, from the later to the earlier
-abbrev placed : tie.After-read-ids → tie.After-places-of
+abbrev placed : tie.After-read_ids → tie.After-places_of-at
 placed c = c.before.before.before.before
 
-abbrev begun : tie.After-places-of → tie.Start
+abbrev begun : tie.After-places_of-at → tie.Start
 begun c = c.before.before.before.before.before
 
-abbrev identified : tie.After-read-ids2 → tie.After-read-ids
+abbrev identified : tie.After-read_ids-2 → tie.After-read_ids
 identified c = c.before.before.before.before.before
 
-abbrev named : tie.After-read-statuses → tie.After-read-ids2
+abbrev named : tie.After-read_statuses → tie.After-read_ids-2
 named c = c.before.before.before.before.before
 
 -- what is known of the size and the places
-abbrev streams : tie.After-places-of → ℕ
-streams c = c.before.before.type_size.result.streams
+abbrev streams : tie.After-places_of-at → ℕ
+streams c = c.before.before.size_of-size.result.streams
 
-abbrev size : tie.After-places-of → Size
+abbrev size : tie.After-places_of-at → Size
 size c = size_of (begun c).args.kind
 
-streams_is : (c : tie.After-places-of) → streams c ≡ (size c).streams
-streams_is c = ap (λ (z : Size). z.streams) c.before.before.type_size.ensures
+streams_is : (c : tie.After-places_of-at) → streams c ≡ (size c).streams
+streams_is c = ap (λ (z : Size). z.streams) c.before.before.size_of-size.ensures
 
-identifiers_is : (c : tie.After-places-of) → c.places_of.result.identifiers ≡ identifiers_start (size c)
+identifiers_is : (c : tie.After-places_of-at) → c.places_of-at.result.identifiers ≡ identifiers_start (size c)
 unfolding places_of
-identifiers_is c = ap (λ (r : Places). r.identifiers) c.places_of.ensures.0
+identifiers_is c = ap (λ (r : Places). r.identifiers) c.places_of-at.ensures.0
 
-control_is : (c : tie.After-places-of) → c.places_of.result.control ≡ control_start (size c)
+control_is : (c : tie.After-places_of-at) → c.places_of-at.result.control ≡ control_start (size c)
 unfolding places_of
-control_is c = ap (λ (r : Places). r.control) c.places_of.ensures.0
+control_is c = ap (λ (r : Places). r.control) c.places_of-at.ensures.0
 
-numbers_is : (c : tie.After-places-of) → c.places_of.result.numbers ≡ numbers_start (size c)
+numbers_is : (c : tie.After-places_of-at) → c.places_of-at.result.numbers ≡ numbers_start (size c)
 unfolding places_of
-numbers_is c = ap (λ (r : Places). r.numbers) c.places_of.ensures.0
+numbers_is c = ap (λ (r : Places). r.numbers) c.places_of-at.ensures.0
 
-facts : (c : tie.After-places-of) →
+facts : (c : tie.After-places_of-at) →
     (streams c ≤ last_stream) × ((streams c + 1) / 8 * 8 ≡ streams c + 1)
-    × (c.places_of.result.control ≡ c.places_of.result.identifiers + 4 * streams c)
-    × (c.places_of.result.numbers ≡ c.places_of.result.control + (streams c + 1) / 4)
-    × (c.places_of.result.numbers ≤ 184) × (length (begun c).args.packet.now ≡ header_length)
+    × (c.places_of-at.result.control ≡ c.places_of-at.result.identifiers + 4 * streams c)
+    × (c.places_of-at.result.numbers ≡ c.places_of-at.result.control + (streams c + 1) / 4)
+    × (c.places_of-at.result.numbers ≤ 184) × (length (begun c).args.packet.now ≡ header_length)
 facts c =
     let n = streams_is c in
     let i = identifiers_is c in
@@ -87,23 +87,23 @@ after₀ c =
 whole₀ : (c : tie.Start) → length (after₀ c) ≡ announced_length
 whole₀ c = simp length-set c.requires.0.0
 
-abbrev after₁ : tie.After-read-ids → List ℕ
-after₁ c = put ts_id_at (2 * last_stream) (after₀ (begun (placed c))) c.read-ids.new.0
+abbrev after₁ : tie.After-read_ids → List ℕ
+after₁ c = put ts_id_at (2 * last_stream) (after₀ (begun (placed c))) c.read_ids.new.part
 
-whole₁ : (c : tie.After-read-ids) → length (after₁ c) ≡ announced_length
-whole₁ c = same_len_mid ts_id_at (2 * last_stream) (after₀ (begun (placed c))) c.read-ids.new.0 c.read-ids.auto.0 ∙ whole₀ (begun (placed c))
+whole₁ : (c : tie.After-read_ids) → length (after₁ c) ≡ announced_length
+whole₁ c = same_len_mid ts_id_at (2 * last_stream) (after₀ (begun (placed c))) c.read_ids.new.part c.read_ids.auto.part ∙ whole₀ (begun (placed c))
 
-abbrev after₂ : tie.After-read-ids2 → List ℕ
-after₂ c = put network_id_at (2 * last_stream) (after₁ (identified c)) c.read-ids2.new.0
+abbrev after₂ : tie.After-read_ids-2 → List ℕ
+after₂ c = put network_id_at (2 * last_stream) (after₁ (identified c)) c.read_ids-2.new.part
 
-whole₂ : (c : tie.After-read-ids2) → length (after₂ c) ≡ announced_length
-whole₂ c = same_len_mid network_id_at (2 * last_stream) (after₁ (identified c)) c.read-ids2.new.0 c.read-ids2.auto.0 ∙ whole₁ (identified c)
+whole₂ : (c : tie.After-read_ids-2) → length (after₂ c) ≡ announced_length
+whole₂ c = same_len_mid network_id_at (2 * last_stream) (after₁ (identified c)) c.read_ids-2.new.part c.read_ids-2.auto.part ∙ whole₁ (identified c)
 
-abbrev after₃ : tie.After-read-statuses → List ℕ
-after₃ c = put statuses_at last_stream (after₂ (named c)) c.read-statuses.new.0
+abbrev after₃ : tie.After-read_statuses → List ℕ
+after₃ c = put statuses_at last_stream (after₂ (named c)) c.read_statuses.new.part
 
-whole₃ : (c : tie.After-read-statuses) → length (after₃ c) ≡ announced_length
-whole₃ c = same_len_mid statuses_at last_stream (after₂ (named c)) c.read-statuses.new.0 c.read-statuses.auto.0 ∙ whole₂ (named c)
+whole₃ : (c : tie.After-read_statuses) → length (after₃ c) ≡ announced_length
+whole₃ c = same_len_mid statuses_at last_stream (after₂ (named c)) c.read_statuses.new.part c.read_statuses.auto.part ∙ whole₂ (named c)
 
 -- the control information has two bits for each stream
 statuses_fit : (s c n : ℕ) → (s + 1) / 8 * 8 ≡ s + 1 → n ≡ c + (s + 1) / 4 → s * 2 ≤ (n - c) * 8
@@ -113,129 +113,129 @@ statuses_fit s c n w e = omega arith
 span : (p : List ℕ) (i j : ℕ) → i ≤ j → j ≤ length p → length (take (j - i) (drop i p)) ≡ j - i
 span p i j h g = length_part p i (j - i) (omega arith)
 
-size_of_requires : tie.Need-size-of-requires
+size_of_requires : tie.Need-size_of-size-requires
 size_of_requires c κs = search rules
 
-cast_streams : tie.Need-overflow-cast-streams
+cast_streams : tie.Need-overflow_cast-streams
 cast_streams c = search rules
 
-places_of_requires : tie.Need-places-of-requires
+places_of_requires : tie.Need-places_of-at-requires
 places_of_requires c κs = search rules
 
-shared_slice_read_types : tie.Need-shared-slice-read-types
+shared_slice_read_types : tie.Need-bounds-packet-6
 shared_slice_read_types c = search rules
 
-slice_write_part : tie.Need-slice-write-part
+slice_write_part : tie.Need-bounds-part-0
 slice_write_part c = search rules
 
-slice_write_part_2 : tie.Need-slice-write-part-2
+slice_write_part_2 : tie.Need-bounds-part-1
 slice_write_part_2 c = search rules
 
-cast_part : tie.Need-overflow-cast-part
+cast_part : tie.Need-overflow_cast-part
 cast_part c = search rules
 
-slice_write_part_3 : tie.Need-slice-write-part-3
+slice_write_part_3 : tie.Need-bounds-part-2
 slice_write_part_3 c = search rules
 
-cast_part_2 : tie.Need-overflow-cast-part-2
+cast_part_2 : tie.Need-overflow_cast-part-2
 cast_part_2 c = search rules
 
-slice_write_part_4 : tie.Need-slice-write-part-4
+slice_write_part_4 : tie.Need-bounds-part-3
 slice_write_part_4 c = search rules
 
-sub_read_ids : tie.Need-overflow-sub-read-ids
+sub_read_ids : tie.Need-slice_bounds-read_ids-count
 sub_read_ids c = search rules
 
-part_read_ids_start : tie.Need-slice-bounds-read-ids-start
+part_read_ids_start : tie.Need-slice_bounds-read_ids-start
 part_read_ids_start c = search rules
 
-part_read_ids_end : tie.Need-slice-bounds-read-ids-end
+part_read_ids_end : tie.Need-slice_bounds-read_ids-end
 part_read_ids_end c = omega (arith, whole₀ (begun c.before))
 
-sub_read_ids_2 : tie.Need-overflow-sub-read-ids-2
+sub_read_ids_2 : tie.Need-slice_bounds-read_ids-count-2
 sub_read_ids_2 c = search rules
 
-part_read_ids_start_2 : tie.Need-slice-bounds-read-ids-start-2
+part_read_ids_start_2 : tie.Need-slice_bounds-read_ids-start-2
 part_read_ids_start_2 c = search rules
 
-part_read_ids_end_2 : tie.Need-slice-bounds-read-ids-end-2
+part_read_ids_end_2 : tie.Need-slice_bounds-read_ids-end-2
 part_read_ids_end_2 c = search rules
 
-read_ids_requires : tie.Need-read-ids-requires
+read_ids_requires : tie.Need-read_ids-requires
 read_ids_requires c κs =
     let at = c.before.before.before in
     let f = facts at in
-    let r = at.places_of.result in
+    let r = at.places_of-at.result in
     let p = (begun at).args.packet.now in
     (mid_len ts_id_at network_id_at (after₀ (begun at)) (omega (arith, whole₀ (begun at))), f.0, rw (span p r.identifiers r.control (omega arith) (omega arith)) (omega arith))
 
-sub_read_ids_3 : tie.Need-overflow-sub-read-ids-3
+sub_read_ids_3 : tie.Need-slice_bounds-read_ids-count-3
 sub_read_ids_3 c = search rules
 
-part_read_ids_start_3 : tie.Need-slice-bounds-read-ids-start-3
+part_read_ids_start_3 : tie.Need-slice_bounds-read_ids-start-3
 part_read_ids_start_3 c = search rules
 
-part_read_ids_end_3 : tie.Need-slice-bounds-read-ids-end-3
+part_read_ids_end_3 : tie.Need-slice_bounds-read_ids-end-3
 part_read_ids_end_3 c = omega (arith, whole₁ c.before.before)
 
-add_read_ids : tie.Need-overflow-add-read-ids
+add_read_ids : tie.Need-overflow_add-identifiers
 add_read_ids c = search rules
 
-sub_read_ids_4 : tie.Need-overflow-sub-read-ids-4
-sub_read_ids_4 c = let f = facts c.before.before.before.before.before.before.before in let b = c.before.before.before.before.before.before.before.places_of.ensures.1 in omega arith
+sub_read_ids_4 : tie.Need-slice_bounds-read_ids-count-4
+sub_read_ids_4 c = let f = facts c.before.before.before.before.before.before.before in let b = c.before.before.before.before.before.before.before.places_of-at.ensures.1 in omega arith
 
-part_read_ids_start_4 : tie.Need-slice-bounds-read-ids-start-4
+part_read_ids_start_4 : tie.Need-slice_bounds-read_ids-start-4
 part_read_ids_start_4 c = let f = facts c.before.before.before.before.before.before.before in omega arith
 
-part_read_ids_end_4 : tie.Need-slice-bounds-read-ids-end-4
+part_read_ids_end_4 : tie.Need-slice_bounds-read_ids-end-4
 part_read_ids_end_4 c = search rules
 
-read_ids_requires_2 : tie.Need-read-ids-requires-2
+read_ids_requires_2 : tie.Need-read_ids-requires-2
 read_ids_requires_2 c κs =
     let ids = c.before.before.before.before in
     let at = placed ids in
     let f = facts at in
-    let r = at.places_of.result in
+    let r = at.places_of-at.result in
     let p = (begun at).args.packet.now in
     (mid_len network_id_at statuses_at (after₁ ids) (omega (arith, whole₁ ids)), f.0, rw (span p (r.identifiers + 2) r.control (omega arith) (omega arith)) (omega arith))
 
-sub_read_statuses : tie.Need-overflow-sub-read-statuses
+sub_read_statuses : tie.Need-slice_bounds-read_statuses-count
 sub_read_statuses c = search rules
 
-part_read_statuses_start : tie.Need-slice-bounds-read-statuses-start
+part_read_statuses_start : tie.Need-slice_bounds-read_statuses-start
 part_read_statuses_start c = search rules
 
-part_read_statuses_end : tie.Need-slice-bounds-read-statuses-end
+part_read_statuses_end : tie.Need-slice_bounds-read_statuses-end
 part_read_statuses_end c = omega (arith, whole₂ c.before.before)
 
-sub_read_statuses_2 : tie.Need-overflow-sub-read-statuses-2
+sub_read_statuses_2 : tie.Need-slice_bounds-read_statuses-count-2
 sub_read_statuses_2 c = search rules
 
-part_read_statuses_start_2 : tie.Need-slice-bounds-read-statuses-start-2
+part_read_statuses_start_2 : tie.Need-slice_bounds-read_statuses-start-2
 part_read_statuses_start_2 c = search rules
 
-part_read_statuses_end_2 : tie.Need-slice-bounds-read-statuses-end-2
+part_read_statuses_end_2 : tie.Need-slice_bounds-read_statuses-end-2
 part_read_statuses_end_2 c = search rules
 
-read_statuses_requires : tie.Need-read-statuses-requires
+read_statuses_requires : tie.Need-read_statuses-requires
 read_statuses_requires c κs =
     let ids = c.before.before.before.before in
     let at = placed (identified ids) in
     let f = facts at in
-    let r = at.places_of.result in
+    let r = at.places_of-at.result in
     let p = (begun at).args.packet.now in
     (mid_len statuses_at emergency_at (after₂ ids) (omega (arith, whole₂ ids)), f.0, rw (span p r.control r.numbers (omega arith) (omega arith)) (statuses_fit (streams at) r.control r.numbers f.1 f.3))
 
-sub_part : tie.Need-overflow-sub-part
+sub_part : tie.Need-overflow_sub-part
 sub_part c = search rules
 
-shared_slice_read_part : tie.Need-shared-slice-read-part
+shared_slice_read_part : tie.Need-bounds-packet-numbers
 shared_slice_read_part c = let f = facts (placed (identified (named c.before.before.before))) in omega arith
 
-slice_write_part_5 : tie.Need-slice-write-part-5
+slice_write_part_5 : tie.Need-bounds-part-79
 slice_write_part_5 c = omega (arith, whole₃ c.before.before.before)
 
-same_length : tie.Need-same-length
+same_length : tie.Need-shape_of-part
 same_length c =
     let statuses = c.before.before.before in
     simp length-set (whole₃ statuses ∙ sym (begun (placed (identified (named statuses)))).requires.0.0)
@@ -249,15 +249,15 @@ returns c =
     let start = begun at in
     let kind = start.args.kind in
     let p = start.args.packet.now in
-    let fit = fit_of 8 p (λ i. (at.before.before.before.shared-slice-known.given i).fits) in
-    let whole = start.pre.0.1 in
-    announced-written kind p start.args.part.now ts.read-ids.last.0 networks.read-ids2.last.0 statuses.read-statuses.new.0 start.args.availability _
-    fit whole start.pre.0.0 start.pre.1
-    (ts.read-ids.ensures
+    let fit = fit_of 8 p (λ i. (at.before.before.before.shared_slice_known-1.given i).fits) in
+    let whole = start.requires.0.1 in
+    announced-written kind p start.args.part.now ts.read_ids.new.part networks.read_ids-2.new.part statuses.read_statuses.new.part start.args.availability _
+    fit whole start.requires.0.0 start.requires.1
+    (ts.read_ids.ensures
     ∙ (λ t. word_bytes (resized last_stream (ids_apart 4 (streams_is at t) (take (control_is at t - identifiers_is at t) (drop (identifiers_is at t) p))))) ∙ ap word_bytes (ts_read kind p fit whole))
-    (networks.read-ids2.ensures
+    (networks.read_ids-2.ensures
     ∙ (λ t. word_bytes (resized last_stream (ids_apart 4 (streams_is at t) (take (control_is at t - (identifiers_is at t + 2)) (drop (identifiers_is at t + 2) p))))) ∙ ap word_bytes (networks_read kind p fit whole))
-    (statuses.read-statuses.ensures
+    (statuses.read_statuses.ensures
     ∙ (λ t. resized last_stream (cut 2 (streams_is at t) (run 8 (take (numbers_is at t - control_is at t) (drop (control_is at t) p))))) ∙ statuses_read kind p fit whole)
     ((λ t. get_or p (numbers_is at t - 1) 0 % 2) ∙ emergency_is p fit whole kind)
 

@@ -55,23 +55,23 @@ streams_is c = ap (λ (z : Size). z.streams) c.before.before.size_of-size.ensure
 
 identifiers_is : (c : tie.After-places_of-at) → (at c).identifiers ≡ identifiers_start (size c)
 unfolding places_of
-identifiers_is c = ap (λ (r : Places). r.identifiers) c.places_of-at.ensures.value
+identifiers_is c = ap (λ (r : Places). r.identifiers) c.places_of-at.ensures.0
 
 control_is : (c : tie.After-places_of-at) → (at c).control ≡ control_start (size c)
 unfolding places_of
-control_is c = ap (λ (r : Places). r.control) c.places_of-at.ensures.value
+control_is c = ap (λ (r : Places). r.control) c.places_of-at.ensures.0
 
 numbers_is : (c : tie.After-places_of-at) → (at c).numbers ≡ numbers_start (size c)
 unfolding places_of
-numbers_is c = ap (λ (r : Places). r.numbers) c.places_of-at.ensures.value
+numbers_is c = ap (λ (r : Places). r.numbers) c.places_of-at.ensures.0
 
 private_is : (c : tie.After-places_of-at) → (at c).private ≡ private_start (size c)
 unfolding places_of
-private_is c = ap (λ (r : Places). r.private) c.places_of-at.ensures.value
+private_is c = ap (λ (r : Places). r.private) c.places_of-at.ensures.0
 
 -- the starts rise
 rising : (c : tie.After-places_of-at) → (streams_start ≤ (at c).identifiers) × ((at c).identifiers ≤ (at c).control) × ((at c).control ≤ (at c).numbers) × ((at c).numbers ≤ (at c).private) × ((at c).private ≤ 184)
-rising c = let e = c.places_of-at.ensures.identifiers_bound in (e.5, e.1, omega arith, e.3, e.4)
+rising c = let e = c.places_of-at.ensures.1 in (e.5, e.1, omega arith, e.3, e.4)
 
 -- each part is back with its length, and so is the whole
 abbrev after₁ : tie.After-write_start → List ℕ
@@ -202,10 +202,10 @@ write_identifiers_requires c κs =
     let j = control_is p in
     let n = streams_is p in
     let few = (sized (begun p).args.kind).streams in
-    let b = (begun p).args.setting.now in record {
-      part_len = (mid_len (at p).identifiers (at p).control (after₂ s) (omega (arith, whole₂ s)) ∙ omega arith, omega arith);
-      ts_len = (ids-long b (begun p).requires.1 (in_setting ts_id_at) (omega arith), ids-long b (begun p).requires.1 (in_setting network_id_at) (omega arith));
-    }
+    let b = (begun p).args.setting.now in (
+      (mid_len (at p).identifiers (at p).control (after₂ s) (omega (arith, whole₂ s)) ∙ omega arith, omega arith),
+      (ids-long b (begun p).requires.1 (in_setting ts_id_at) (omega arith), ids-long b (begun p).requires.1 (in_setting network_id_at) (omega arith)),
+    )
 
 sub_write_control : tie.Need-slice_bounds-write_control-count
 sub_write_control c = search rules

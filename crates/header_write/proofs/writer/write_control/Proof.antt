@@ -18,11 +18,11 @@ use Rattle.header_layout.proofs.Control.{control-next, control-last, control_bit
 use Rattle.header_write.proofs.writer.write_control.Statement.{statement}
 use Rattle.header_write.proofs.writer.write_control.Tie as tie
 
-abbrev invariant_loop : tie.invariant-loop-k-k
+abbrev invariant_loop : tie.invariant-loop-k
 invariant_loop part₀ setting r last k₀ now k =
     (k ≤ last) × (length now ≡ length part₀) × (run 8 (take k now) ≡ run 2 (take (4 * k) (part (in_setting statuses_at) last_stream setting)))
 
-abbrev decreases_loop : tie.decreases-loop-k-k
+abbrev decreases_loop : tie.decreases-loop-k
 decreases_loop part₀ setting r last k₀ now k = last - k
 
 -- there are fifteen statuses in a setting

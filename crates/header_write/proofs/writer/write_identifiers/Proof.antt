@@ -16,11 +16,11 @@ use Rattle.header_layout.proofs.Identifiers.{stream_written}
 use Rattle.header_write.proofs.writer.write_identifiers.Statement.{statement}
 use Rattle.header_write.proofs.writer.write_identifiers.Tie as tie
 
-abbrev invariant_loop : tie.invariant-loop-k-k
+abbrev invariant_loop : tie.invariant-loop-k
 invariant_loop part₀ ts os streams k₀ part k =
     (k ≤ streams) × (length part ≡ length part₀) × (run 8 (take (4 * k) part) ≡ run 16 (paired (take k (words_of ts)) (take k (words_of os))))
 
-abbrev decreases_loop : tie.decreases-loop-k-k
+abbrev decreases_loop : tie.decreases-loop-k
 decreases_loop part₀ ts os streams k₀ part k = streams - k
 
 loop_holds : tie.Need-loop-k-init invariant_loop decreases_loop

@@ -1,0 +1,13 @@
+-- `next_position` meets its contract, by whether the frame is the last of its super frame. Assumes nothing.
+use mathlib.Core.Path.{sym, ◌∙◌}
+use borrow.Author.Rules.{rules}
+use Rattle.bond_group.specs.Standing.{next_position}
+use Rattle.bond_group.proofs.headers.next_position.Goals as goal
+
+pub returns-then-is_last : goal.returns-then-is_last
+unfolding next_position
+returns-then-is_last c = simp (sym c.is_last.ensures ∙ c.if-is_last.true)
+
+pub returns : goal.returns
+unfolding next_position
+returns c = simp (sym c.is_last.ensures ∙ c.if-is_last.false)

@@ -1,0 +1,39 @@
+-- `read_auxiliary` meets its contract, by the kind. Assumes nothing.
+use Prim.Native.Nat.{ℕ}
+use mathlib.Core.Path.{◌≡◌, sym, ap, ◌∙◌}
+use native.Mathlib.Omega.{arith}
+use borrow.Author.Rules.{rules}
+use lib.ListN.{length, take, drop, replicate}
+use Rattle.bits.proofs.Laws.{fit_of}
+use Rattle.setting.specs.declared.Kind.{Kind}
+use Rattle.setting.specs.Setting.{auxiliary_bytes}
+use Rattle.setting.specs.Size.{size_of}
+use Rattle.header_layout.specs.Header.{reading}
+use Rattle.header_layout.proofs.Cut.{length_part}
+use Rattle.header_layout.proofs.Private.{copied_all}
+use Rattle.header_layout.proofs.Said.{auxiliaries_are}
+use Rattle.header_read.proofs.reader.read_auxiliary.Goals as goal
+
+pub returns-in-Plain : goal.returns-in-Plain
+returns-in-Plain c =
+    let p = c.args.packet.now in
+    let bytes = fit_of 8 p (λ i. (c.type_inv.packet i).fits) in
+    c.fill.ensures ∙ ap (λ (n : ℕ). replicate n 0) c.requires.0 ∙ auxiliaries_are p bytes c.requires.1 Kind.Plain
+    ∙ sym (ap (λ (k : Kind). (reading k p).auxiliary) c.in-Plain.is)
+
+pub returns-in-Short : goal.returns-in-Short
+returns-in-Short c =
+    let p = c.args.packet.now in
+    let bytes = fit_of 8 p (λ i. (c.type_inv.packet i).fits) in
+    c.fill-in-Short.ensures ∙ ap (λ (n : ℕ). replicate n 0) c.requires.0 ∙ auxiliaries_are p bytes c.requires.1 Kind.Short
+    ∙ sym (ap (λ (k : Kind). (reading k p).auxiliary) c.in-Short.is)
+
+pub returns-in-Extended : goal.returns-in-Extended
+unfolding size_of
+returns-in-Extended c =
+    let p = c.args.packet.now in
+    let bytes = fit_of 8 p (λ i. (c.type_inv.packet i).fits) in
+    let whole : length (take auxiliary_bytes (drop 99 p)) ≡ auxiliary_bytes = length_part p 99 auxiliary_bytes (omega (arith, c.requires)) in
+    c.copy.ensures ∙ copied_all c.args.part.now (take auxiliary_bytes (drop 99 p)) (c.requires.0 ∙ sym whole)
+    ∙ auxiliaries_are p bytes c.requires.1 Kind.Extended
+    ∙ sym (ap (λ (k : Kind). (reading k p).auxiliary) c.in-Extended.is)

@@ -1,0 +1,22 @@
+-- `marks` meets its contract. Assumes nothing.
+use Prim.Native.Nat.{◌*◌}
+use mathlib.Core.Path.{ap, ◌∙◌}
+use native.Mathlib.Omega.{arith}
+use borrow.Author.Rules.{rules}
+use lib.Bits.{bit_xor, and_le_r}
+use Rattle.receiver_hand_out.specs.Halves.{halves_of}
+use Rattle.receiver_hand_out.proofs.Joined.{rep, where_zero, marks_of_lem}
+use Rattle.receiver_hand_out.proofs.numbered.marks.Goals as goal
+
+pub overflow_add-y : goal.overflow_add-y
+overflow_add-y c =
+    let small = and_le_r (bit_xor c.args.word (c.wide.result * 1229782938247303441)) 8608480567731124087 in
+    omega arith
+
+pub returns : goal.returns
+unfolding rep
+returns c =
+    let a = c.args in
+    let byte = c.wide.ensures.0 in
+    ap (λ n. halves_of (where_zero (bit_xor a.word (n * rep 1 16)) (rep 7 16) (rep 8 16))) byte
+    ∙ marks_of_lem a.word a.r.0 (omega arith) (omega arith)
