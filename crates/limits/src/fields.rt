@@ -1,6 +1,6 @@
 // The fields that a caller can set, each with what plain, what extended and what short headers allow.
+use crate::STDOUT_FILENO;
 use counters::{FramePosition, RelativeNumber, Slot};
-use libc::STDOUT_FILENO;
 use setting::limits;
 
 // The largest number that a field of one byte holds, and of two.
@@ -9,7 +9,7 @@ const BYTE: u64 = 0xFF;
 const WORD: u64 = 0xFFFF;
 
 // What a kind of header allows, and the refusal of any other value (0: none is refused).
-#[derive(Drop)]
+#[derive(Clone, Copy)]
 struct Range {
     first: u64,
     last: u64,

@@ -1,6 +1,6 @@
 // Lengths in bytes, and where the fields of a setting stand in its bytes.
+use crate::STDOUT_FILENO;
 use counters::{SHORT_SLOTS, SLOTS, STREAMS};
-use libc::STDOUT_FILENO;
 use packet::PACKET_BYTES;
 use setting::{AUXILIARY_BYTES, Kind, PRIVATE_BYTES};
 

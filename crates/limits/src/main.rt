@@ -12,6 +12,9 @@ mod fields;
 mod layout;
 mod refusals;
 
+// Standard output.
+pub(crate) const STDOUT_FILENO: i32 = 1;
+
 fn main() {
     fields::print_header_fields();
     fields::print_stream_fields();

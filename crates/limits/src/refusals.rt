@@ -1,5 +1,5 @@
 // The refusals by number, in the table's order.
-use libc::STDOUT_FILENO;
+use crate::STDOUT_FILENO;
 
 fn print(number: u64, name: &[u8]) {
     io::write_all(STDOUT_FILENO, b"refusal\t");

@@ -6,7 +6,7 @@ ghost use Rattle.std.specs.Prelude.{◌+◌, ◌^◌, ◌≤◌, ◌<◌, ◌≡
 ghost use Rattle.io.specs.Counts.{IsPrefixLen};
 ghost use Rattle.listing.specs.Listing.{packets_in, room_for, listing, over_front};
 
-use libc::{STDIN_FILENO, STDOUT_FILENO};
+use host::Input;
 
 // The packets of a block, its bytes, and room for its lines. Input is read and output is written a block at a time.
 const BLOCK_PACKETS: usize = 174;
@@ -16,23 +16,25 @@ const BLOCK_BYTES: usize = packet::PACKET_BYTES * BLOCK_PACKETS;
 const TEXT_BYTES: usize = listing::LINE_BYTES * (BLOCK_PACKETS + 1);
 
 // Reads once. A read that fails is reported, and counts as no bytes.
-fn read_once(fd: i32, name: &[u8], place: &mut [u8]) -> usize
+fn read_once(input: &Input, name: &[u8], place: &mut [u8]) -> usize
     ensures { result ≤ length place.new }
 {
-    let got = libc::read(fd, place);
-    if got < 0 {
-        os::fail(name);
+    match host::read(input, place) {
+        Ok(got) => got,
+        Err(error) => {
+            host::fail(name, error);
+            0
+        }
     }
-    io::count(got, place)
 }
 
 // Reads until the block is full or a read brings nothing. A read that brings less than was asked for is not the end.
-fn read_block(fd: i32, name: &[u8], block: &mut [u8]) -> usize
+fn read_block(input: &Input, name: &[u8], block: &mut [u8]) -> usize
     ensures { IsPrefixLen result block.new }
 {
     let mut done = 0;
     while done < block.len() {
-        let more = read_once(fd, name, &mut block[done..]);
+        let more = read_once(input, name, &mut block[done..]);
         if more == 0 {
             return done;
         }
@@ -54,61 +56,56 @@ fn put_block(out: &mut [u8], block: &[u8], first: u64) -> usize
 }
 
 // Lists one block, whose first packet has this number. Answers whether more may follow.
-fn list_block(fd: i32, name: &[u8], first: u64) -> bool
+fn list_block(rt: HostRuntime, input: &Input, name: &[u8], first: u64) -> bool
     requires { first + 174 < 2 ^ 64 }
 {
     let mut block = [0u8; BLOCK_BYTES];
-    let got = read_block(fd, name, &mut block);
+    let got = read_block(input, name, &mut block);
     let mut out = [0u8; TEXT_BYTES];
     let end = put_block(&mut out, &block[..got], first);
-    if !io::write_all(STDOUT_FILENO, &out[..end]) {
-        os::fail(b"standard output");
+    if let Err(error) = host::print(rt, &out[..end]) {
+        host::fail(b"standard output", error);
         return false;
     }
     got == BLOCK_BYTES
 }
 
 // Lists the open file. A proved loop has to end: this one does, at the latest, when the numbers of packets run out.
-fn list_open(fd: i32, name: &[u8]) {
+fn list_open(rt: HostRuntime, input: &Input, name: &[u8]) {
     let step = BLOCK_PACKETS as u64;
     let mut number: u64 = 0;
-    while number <= u64::MAX - step && list_block(fd, name, number) {
+    while number <= u64::MAX - step && list_block(rt, input, name, number) {
         number += step;
     }
 }
 
-fn list_named(name: &[u8]) {
+fn list_named(rt: HostRuntime, name: &[u8]) {
     if name.len() == 1 && name[0] == b'-' {
-        list_open(STDIN_FILENO, name);
+        list_open(rt, &Input::Standard(rt.stdin()), name);
         return;
     }
-    let fd = os::open_read(name);
-    if fd < 0 {
-        os::fail(name);
-        return;
+    match host::open(rt, name) {
+        Ok(input) => list_open(rt, &input, name),
+        Err(error) => host::fail(name, error),
     }
-    list_open(fd, name);
-    libc::close(fd);
 }
 
-fn list_argument(i: usize) {
+fn list_argument(rt: HostRuntime, i: usize) {
     let mut name = io::buffer();
-    let length = os::arg(i, &mut name);
-    if os::errno() != 0 {
-        os::fail(b"name of a file");
-        return;
+    match host::argument(rt, i, &mut name) {
+        Ok(length) => list_named(rt, &name[..length]),
+        Err(error) => host::fail(b"name of a file", error),
     }
-    list_named(&name[..length]);
 }
 
-fn main() {
-    let count = os::arg_count();
+fn main(rt: HostRuntime) {
+    let count = host::argument_count(rt);
     if count < 2 {
-        list_open(STDIN_FILENO, b"-");
+        list_open(rt, &Input::Standard(rt.stdin()), b"-");
     }
     let mut i = 1;
     while i < count {
-        list_argument(i);
+        list_argument(rt, i);
         i += 1;
     }
 }

@@ -14,7 +14,7 @@ mod text;
 pub const LINE_BYTES: usize = 96;
 
 // The refusal's number and length 0, or refusal 0 and the length of the listing.
-#[derive(Drop)]
+#[derive(Clone, Copy)]
 pub struct Listed {
     pub refusal: u8,
     pub length: usize,

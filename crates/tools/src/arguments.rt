@@ -3,7 +3,7 @@ ghost use Rattle.std.specs.Prelude.{◌<◌, ◌≤◌};
 ghost use Rattle.io.specs.Counts.{IsPrefixLen};
 
 use crate::says;
-use libc::STDIN_FILENO;
+use host::Input;
 use setting::limits;
 
 pub(crate) fn same(a: &[u8], b: &[u8]) -> bool {
@@ -21,27 +21,30 @@ pub(crate) fn same(a: &[u8], b: &[u8]) -> bool {
 }
 
 // Reads argument i to the front of the buffer. Answers its length, or 0 if there is no such argument.
-pub(crate) fn word(i: usize, buffer: &mut [u8]) -> usize
+pub(crate) fn word(rt: HostRuntime, i: usize, buffer: &mut [u8]) -> usize
     ensures { IsPrefixLen result buffer.new }
 {
-    os::arg(i, buffer)
+    match host::argument(rt, i, buffer) {
+        Ok(n) => n,
+        Err(_) => 0,
+    }
 }
 
 // Whether argument i is the option that asks for short frames.
-pub(crate) fn is_short(i: usize) -> bool {
+pub(crate) fn is_short(rt: HostRuntime, i: usize) -> bool {
     let mut buffer = io::buffer();
-    let n = word(i, &mut buffer);
+    let n = word(rt, i, &mut buffer);
     same(&buffer[0..n], b"--short")
 }
 
 // A number, or none.
-#[derive(Drop)]
+#[derive(Clone, Copy)]
 pub(crate) enum Number {
     Is(u32),
     None,
 }
 
-#[derive(Drop)]
+#[derive(Clone, Copy)]
 enum Base {
     Ten,
     Sixteen,
@@ -143,17 +146,17 @@ pub(crate) fn within(text: &[u8], first: u32, last: u32) -> Number {
 }
 
 // Argument i as a number in this range.
-pub(crate) fn number_at(i: usize, first: u32, last: u32) -> Number {
+pub(crate) fn number_at(rt: HostRuntime, i: usize, first: u32, last: u32) -> Number {
     let mut buffer = io::buffer();
-    let n = word(i, &mut buffer);
+    let n = word(rt, i, &mut buffer);
     within(&buffer[0..n], first, last)
 }
 
 // Argument i as a header PID. If it is out of range, says so and answers 0, which is no header PID.
-pub(crate) fn pid(i: usize) -> u16 {
+pub(crate) fn pid(rt: HostRuntime, i: usize) -> u16 {
     let first = limits::FIRST_PID as u32;
     let last = limits::LAST_PID as u32;
-    let Number::Is(n) = number_at(i, first, last) else {
+    let Number::Is(n) = number_at(rt, i, first, last) else {
         says::range(b"PID", first, last, 2);
         return 0;
     };
@@ -161,8 +164,8 @@ pub(crate) fn pid(i: usize) -> u16 {
 }
 
 // Argument i as a number of 16 bits. If it is none, says so.
-pub(crate) fn identifier(i: usize, field: &[u8]) -> Number {
-    let Number::Is(n) = number_at(i, 0, 65535) else {
+pub(crate) fn identifier(rt: HostRuntime, i: usize, field: &[u8]) -> Number {
+    let Number::Is(n) = number_at(rt, i, 0, 65535) else {
         says::range(field, 0, 65535, 17);
         return Number::None;
     };
@@ -174,21 +177,23 @@ pub(crate) fn low(n: u32) -> u16 {
     (n % 65536) as u16
 }
 
-// Opens the named file to read; `-` is standard input. If it cannot be opened, says so and answers -1.
-fn open_named(name: &[u8]) -> i32 {
+// Opens the named file to read; `-` is standard input. If it cannot be opened, says so and answers none.
+fn open_named(rt: HostRuntime, name: &[u8]) -> Input {
     if same(name, b"-") {
-        return STDIN_FILENO;
+        return Input::Standard(rt.stdin());
     }
-    let fd = os::open_read(name);
-    if fd < 0 {
-        os::fail(name);
+    match host::open(rt, name) {
+        Ok(input) => input,
+        Err(error) => {
+            host::fail(name, error);
+            Input::None
+        }
     }
-    fd
 }
 
 // Opens the file that argument i names.
-pub(crate) fn open(i: usize) -> i32 {
+pub(crate) fn open(rt: HostRuntime, i: usize) -> Input {
     let mut name = io::buffer();
-    let n = word(i, &mut name);
-    open_named(&name[0..n])
+    let n = word(rt, i, &mut name);
+    open_named(rt, &name[0..n])
 }

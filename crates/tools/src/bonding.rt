@@ -9,6 +9,7 @@ use crate::headings::Bonded;
 use crate::{arguments, carriers, headings, input, nulls, says};
 use bond_group::Bond;
 use counters::Slot;
+use host::{Input, Output};
 use packet::PACKET_BYTES;
 use setting::limits;
 
@@ -30,8 +31,8 @@ fn out_of_range(c: usize, field: &[u8], first: u32, last: u32) {
 }
 
 // Argument i, a number of carrier c. If it is out of range, says so and answers 0.
-fn small_at(i: usize, c: usize, field: &[u8], first: u32, last: u32) -> u8 {
-    let Number::Is(n) = arguments::number_at(i, first, last) else {
+fn small_at(rt: HostRuntime, i: usize, c: usize, field: &[u8], first: u32, last: u32) -> u8 {
+    let Number::Is(n) = arguments::number_at(rt, i, first, last) else {
         out_of_range(c, field, first, last);
         return 0;
     };
@@ -39,7 +40,13 @@ fn small_at(i: usize, c: usize, field: &[u8], first: u32, last: u32) -> u8 {
 }
 
 // Reads how many frames and slots each carrier has. Answers whether all are in range.
-fn read_carriers(frames: &mut [u8], slots: &mut [u8], first: usize, n: usize) -> bool
+fn read_carriers(
+    rt: HostRuntime,
+    frames: &mut [u8],
+    slots: &mut [u8],
+    first: usize,
+    n: usize,
+) -> bool
     requires frames_len { (length frames.old ≡ last_carrier) × (length slots.old ≡ last_carrier) }
     requires first_bound { (first ≤ 7) × (n ≤ last_carrier) }
 {
@@ -48,8 +55,9 @@ fn read_carriers(frames: &mut [u8], slots: &mut [u8], first: usize, n: usize) ->
     let mut c = 0;
     while c < n {
         let at = first + WORDS * c;
-        let f = small_at(at, c + 1, b"FRAMES", fewest, most);
+        let f = small_at(rt, at, c + 1, b"FRAMES", fewest, most);
         let s = small_at(
+            rt,
             at + 1,
             c + 1,
             b"SLOTS",
@@ -69,28 +77,30 @@ fn read_carriers(frames: &mut [u8], slots: &mut [u8], first: usize, n: usize) ->
     true
 }
 
-// Opens the named file to write, and empties it. If it cannot be opened, says so and answers -1.
-fn create(i: usize) -> i32 {
+// Opens the named file to write, and empties it. If it cannot be opened, says so and answers none.
+fn create(rt: HostRuntime, i: usize) -> Output {
     let mut name = io::buffer();
-    let n = arguments::word(i, &mut name);
-    let fd = os::open_overwrite(&name[0..n]);
-    if fd < 0 {
-        os::fail(&name[0..n]);
+    let n = arguments::word(rt, i, &mut name);
+    match host::create(rt, &name[0..n]) {
+        Ok(output) => output,
+        Err(error) => {
+            host::fail(&name[0..n], error);
+            Output::None
+        }
     }
-    fd
 }
 
-fn create_all(fds: &mut [i32], first: usize, n: usize) -> bool
-    requires fds_len { (length fds.old ≡ last_carrier) × (n ≤ last_carrier) }
+fn create_all(rt: HostRuntime, outputs: &mut [Output], first: usize, n: usize) -> bool
+    requires outputs_len { (length outputs.old ≡ last_carrier) × (n ≤ last_carrier) }
     requires first_bound { first ≤ 7 }
 {
     let mut c = 0;
     while c < n {
-        let fd = create(first + WORDS * c + 2);
-        if fd < 0 {
+        let output = create(rt, first + WORDS * c + 2);
+        if !output.is_open() {
             return false;
         }
-        fds[c] = fd;
+        outputs[c] = output;
         c += 1;
     }
     true
@@ -119,25 +129,25 @@ fn packets_of(frames: &[u8], slots: &[u8], n: usize) -> usize
     carriers::at_most(sum, STREAM_BYTES / PACKET_BYTES)
 }
 
-fn write(fd: i32, c: usize, bytes: &[u8]) -> bool {
-    if !io::write_all(fd, bytes) {
+fn write(output: &Output, c: usize, bytes: &[u8]) -> bool {
+    if let Err(error) = host::write(output, bytes) {
         says::about(b"carrier ", c as u64);
-        os::fail(b"output");
+        host::fail(b"output", error);
         return false;
     }
     true
 }
 
 // Writes each carrier's super frame to its file.
-fn write_parts(fds: &[i32], group: &[u8], frames: &[u8], n: usize) -> bool
-    requires frames_len { (length frames.now ≡ last_carrier) × (length fds.now ≡ last_carrier) }
+fn write_parts(outputs: &[Output], group: &[u8], frames: &[u8], n: usize) -> bool
+    requires frames_len { (length frames.now ≡ last_carrier) × (length outputs.now ≡ last_carrier) }
     requires group_len { (length group.now ≡ group_length) × (n ≤ last_carrier) }
 {
     let mut c = 0;
     while c < n {
         let at = carriers::bytes_before(frames, c);
         let bytes = carriers::bytes_of(frames[c], GROUP_BYTES - at);
-        if !write(fds[c], c + 1, &group[at..at + bytes]) {
+        if !write(&outputs[c], c + 1, &group[at..at + bytes]) {
             return false;
         }
         c += 1;
@@ -146,15 +156,15 @@ fn write_parts(fds: &[i32], group: &[u8], frames: &[u8], n: usize) -> bool
 }
 
 // Writes to each carrier the header that vouches for its last frame.
-fn write_last(fds: &[i32], group: &[u8], frames: &[u8], n: usize)
-    requires frames_len { (length frames.now ≡ last_carrier) × (length fds.now ≡ last_carrier) }
+fn write_last(outputs: &[Output], group: &[u8], frames: &[u8], n: usize)
+    requires frames_len { (length frames.now ≡ last_carrier) × (length outputs.now ≡ last_carrier) }
     requires group_len { (length group.now ≡ group_length) × (n ≤ last_carrier) }
 {
     let mut c = 0;
     while c < n {
         let at = carriers::bytes_before(frames, c);
         let bytes = carriers::at_most(PACKET_BYTES, GROUP_BYTES - at);
-        write(fds[c], c + 1, &group[at..at + bytes]);
+        write(&outputs[c], c + 1, &group[at..at + bytes]);
         c += 1;
     }
 }
@@ -171,8 +181,8 @@ fn spread(group: &mut [u8], stream: &[u8], bond: Bond) -> bool {
 }
 
 // Reads as many packets as a super frame takes. If fewer are left, null packets fill the rest. Answers whether there was a packet.
-fn read_stream(fd: i32, stream: &mut [u8]) -> bool {
-    let got = input::read_block(fd, stream);
+fn read_stream(input: &Input, stream: &mut [u8]) -> bool {
+    let got = input::read_block(input, stream);
     input::say_part(got);
     let whole = got - got % PACKET_BYTES;
     nulls::write_nulls(&mut stream[whole..]);
@@ -181,26 +191,26 @@ fn read_stream(fd: i32, stream: &mut [u8]) -> bool {
 
 // Fills and writes a super frame of the group, whose headers are in place. Answers whether more may follow.
 fn make_super(
-    fd: i32,
-    fds: &[i32],
+    input: &Input,
+    outputs: &[Output],
     group: &mut [u8],
     stream: &mut [u8],
     bond: Bond,
     frames: &[u8],
     n: usize,
 ) -> bool
-    requires frames_len { (length frames.now ≡ last_carrier) × (length fds.now ≡ last_carrier) }
+    requires frames_len { (length frames.now ≡ last_carrier) × (length outputs.now ≡ last_carrier) }
     requires group_len { (length group.old ≡ group_length) × (n ≤ last_carrier) }
 {
-    if !read_stream(fd, stream) {
-        write_last(fds, group, frames, n);
+    if !read_stream(input, stream) {
+        write_last(outputs, group, frames, n);
         return false;
     }
     let end = carriers::bytes_before(frames, n);
     if !spread(&mut group[0..end], stream, bond) {
         return false;
     }
-    write_parts(fds, group, frames, n)
+    write_parts(outputs, group, frames, n)
 }
 
 // On a long input, a line of progress every so many super frames.
@@ -215,8 +225,8 @@ fn say_progress(number: u64) {
 
 // Makes super frames until the stream is used up. A proved loop has to end: this one does, at the latest, when the numbers run out.
 fn make_all(
-    fd: i32,
-    fds: &[i32],
+    input: &Input,
+    outputs: &[Output],
     group: &mut [u8],
     stream: &mut [u8],
     b: Bonded,
@@ -226,7 +236,7 @@ fn make_all(
 )
     requires frames_len { (length frames.now ≡ last_carrier) × (length slots.now ≡ last_carrier) }
     requires group_len { (length group.old ≡ group_length) × (n ≤ last_carrier) }
-    requires fds_len { length fds.now ≡ last_carrier }
+    requires outputs_len { length outputs.now ≡ last_carrier }
 {
     let mut number: u64 = 0;
     while number < u64::MAX {
@@ -234,7 +244,7 @@ fn make_all(
             return;
         }
         let bond = b.bond;
-        if !make_super(fd, fds, group, stream, bond, frames, n) {
+        if !make_super(input, outputs, group, stream, bond, frames, n) {
             return;
         }
         number += 1;
@@ -243,8 +253,8 @@ fn make_all(
 }
 
 fn bond_with(
-    fd: i32,
-    fds: &[i32],
+    input: &Input,
+    outputs: &[Output],
     group: &mut [u8],
     stream: &mut [u8],
     b: Bonded,
@@ -254,47 +264,56 @@ fn bond_with(
 )
     requires frames_len { (length frames.now ≡ last_carrier) × (length slots.now ≡ last_carrier) }
     requires group_len { (length group.old ≡ group_length) × (n ≤ last_carrier) }
-    requires fds_len { (length fds.now ≡ last_carrier) × (length stream.old ≡ stream_length) }
+    requires outputs_len { (length outputs.now ≡ last_carrier) × (length stream.old ≡ stream_length) }
 {
     nulls::write_nulls(group);
     let end = PACKET_BYTES * packets_of(frames, slots, n);
-    make_all(fd, fds, group, &mut stream[0..end], b, frames, slots, n);
+    make_all(
+        input,
+        outputs,
+        group,
+        &mut stream[0..end],
+        b,
+        frames,
+        slots,
+        n,
+    );
 }
 
-fn bond_files(fd: i32, fds: &[i32], b: Bonded, frames: &[u8], slots: &[u8], n: usize)
+fn bond_files(input: &Input, outputs: &[Output], b: Bonded, frames: &[u8], slots: &[u8], n: usize)
     requires frames_len { (length frames.now ≡ last_carrier) × (length slots.now ≡ last_carrier) }
-    requires fds_len { (length fds.now ≡ last_carrier) × (n ≤ last_carrier) }
+    requires outputs_len { (length outputs.now ≡ last_carrier) × (n ≤ last_carrier) }
 {
     let mut group = [0u8; GROUP_BYTES];
     let mut stream = [0u8; STREAM_BYTES];
-    bond_with(fd, fds, &mut group, &mut stream, b, frames, slots, n);
+    bond_with(input, outputs, &mut group, &mut stream, b, frames, slots, n);
 }
 
-fn run_carriers(b: Bonded, input: usize, n: usize)
+fn run_carriers(rt: HostRuntime, b: Bonded, input: usize, n: usize)
     requires { (input ≤ 6) × (n ≤ last_carrier) }
 {
     let mut frames = [0u8; CARRIERS];
     let mut slots = [0u8; CARRIERS];
-    if !read_carriers(&mut frames, &mut slots, input + 1, n) {
+    if !read_carriers(rt, &mut frames, &mut slots, input + 1, n) {
         return;
     }
-    let fd = arguments::open(input);
-    if fd < 0 {
+    let source = arguments::open(rt, input);
+    if !source.is_open() {
         return;
     }
-    let mut fds = [0i32; CARRIERS];
-    if create_all(&mut fds, input + 1, n) {
-        bond_files(fd, &fds, b, &frames, &slots, n);
+    let mut outputs: [Output; CARRIERS] = std::array::from_fn(|_| Output::None);
+    if create_all(rt, &mut outputs, input + 1, n) {
+        bond_files(&source, &outputs, b, &frames, &slots, n);
     }
 }
 
-fn run_group(pid: u16, group_id: u8, first: usize, n: usize)
+fn run_group(rt: HostRuntime, pid: u16, group_id: u8, first: usize, n: usize)
     requires { (first ≤ 2) × (n ≤ last_carrier) }
 {
-    let Number::Is(ts_id) = arguments::identifier(first + 2, b"TS_ID") else {
+    let Number::Is(ts_id) = arguments::identifier(rt, first + 2, b"TS_ID") else {
         return;
     };
-    let Number::Is(network_id) = arguments::identifier(first + 3, b"NETWORK_ID") else {
+    let Number::Is(network_id) = arguments::identifier(rt, first + 3, b"NETWORK_ID") else {
         return;
     };
     let bond = Bond {
@@ -303,27 +322,27 @@ fn run_group(pid: u16, group_id: u8, first: usize, n: usize)
         ts_id: arguments::low(ts_id),
         original_network_id: arguments::low(network_id),
     };
-    run_carriers(Bonded { bond, group_id }, first + 4, n);
+    run_carriers(rt, Bonded { bond, group_id }, first + 4, n);
 }
 
-fn run_counted(first: usize, n: usize)
+fn run_counted(rt: HostRuntime, first: usize, n: usize)
     requires { (first ≤ 2) × (n ≤ last_carrier) }
 {
-    let pid = arguments::pid(first);
+    let pid = arguments::pid(rt, first);
     if pid == 0 {
         return;
     }
-    let Number::Is(group_id) = arguments::number_at(first + 1, 0, 255) else {
+    let Number::Is(group_id) = arguments::number_at(rt, first + 1, 0, 255) else {
         says::range(b"GROUP", 0, 255, 17);
         return;
     };
-    run_group(pid, (group_id % 256) as u8, first, n);
+    run_group(rt, pid, (group_id % 256) as u8, first, n);
 }
 
-pub(crate) fn run(first: usize)
+pub(crate) fn run(rt: HostRuntime, first: usize)
     requires { first ≤ 2 }
 {
-    let count = os::arg_count();
+    let count = host::argument_count(rt);
     if count < first + HEAD + WORDS {
         usage();
         return;
@@ -337,5 +356,5 @@ pub(crate) fn run(first: usize)
         says::range(b"carriers", 1, CARRIERS as u32, 17);
         return;
     }
-    run_counted(first, words / WORDS);
+    run_counted(rt, first, words / WORDS);
 }

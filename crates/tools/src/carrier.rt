@@ -10,6 +10,7 @@ use crate::carriers::SUPER_BYTES;
 use crate::tally::Tally;
 use crate::{input, says, tally};
 use counters::{FramePosition, SLOTS};
+use host::Input;
 use packet::{FRAME_BYTES, PACKET_BYTES};
 use receiver::{RECEIVER_BYTES, Told, events};
 use setting::{Kind, limits};
@@ -27,9 +28,10 @@ pub(crate) const SUPER_AT: usize = BLOCK_AT + BLOCK_BYTES;
 
 pub(crate) const PART_BYTES: usize = SUPER_AT + SUPER_BYTES;
 
-#[derive(Drop)]
+#[derive(Clone, Copy)]
 pub(crate) struct Carrier {
-    pub(crate) fd: i32,
+    // Whether it has a file.
+    pub(crate) open: bool,
     // Whether the input has ended.
     pub(crate) ended: bool,
     // How many frames a super frame has, by the last good header; 0 before the first one.
@@ -45,9 +47,9 @@ pub(crate) struct Carrier {
     pub(crate) tally: Tally,
 }
 
-pub(crate) fn start(fd: i32) -> Carrier {
+pub(crate) fn start(open: bool) -> Carrier {
     Carrier {
-        fd,
+        open,
         ended: false,
         frames: 0,
         place: 0,
@@ -257,10 +259,10 @@ fn take(
 }
 
 // Reads the next block.
-fn refill(c: Carrier, part: &mut [u8]) -> Carrier
+fn refill(c: Carrier, input: &Input, part: &mut [u8]) -> Carrier
     requires { length part.old ≡ part_length }
 {
-    let got = input::read_block(c.fd, &mut part[BLOCK_AT..SUPER_AT]);
+    let got = input::read_block(input, &mut part[BLOCK_AT..SUPER_AT]);
     input::say_part(got);
     let mut next = c;
     next.packets = got / PACKET_BYTES;
@@ -291,17 +293,31 @@ fn take_next(c: Carrier, want: u64, pid: u16, frame: &mut [u8], part: &mut [u8])
 }
 
 // Takes the next packet of the block, or reads another block if none is left.
-fn step(c: Carrier, want: u64, pid: u16, frame: &mut [u8], part: &mut [u8]) -> Carrier
+fn step(
+    c: Carrier,
+    input: &Input,
+    want: u64,
+    pid: u16,
+    frame: &mut [u8],
+    part: &mut [u8],
+) -> Carrier
     requires { (length frame.old ≡ frame_length last_slot) × (length part.old ≡ part_length) }
 {
     if c.taken < c.packets {
         return take_next(c, want, pid, frame, part);
     }
-    refill(c, part)
+    refill(c, input, part)
 }
 
 // Reads on until a super frame behind the one with this number has begun, or the input has ended.
-pub(crate) fn read_on(c: Carrier, want: u64, pid: u16, frame: &mut [u8], part: &mut [u8]) -> Carrier
+pub(crate) fn read_on(
+    c: Carrier,
+    input: &Input,
+    want: u64,
+    pid: u16,
+    frame: &mut [u8],
+    part: &mut [u8],
+) -> Carrier
     requires { (length frame.old ≡ frame_length last_slot) × (length part.old ≡ part_length) }
 {
     let mut next = c;
@@ -311,7 +327,7 @@ pub(crate) fn read_on(c: Carrier, want: u64, pid: u16, frame: &mut [u8], part: &
         if is_past(next, want) {
             return next;
         }
-        next = step(next, want, pid, frame, part);
+        next = step(next, input, want, pid, frame, part);
         if next.ended {
             return next;
         }

@@ -8,7 +8,7 @@ use crate::arguments::Number;
 use crate::tally::Tally;
 use crate::{arguments, input, says, settings, sizes, tally};
 use counters::{RelativeNumber, RelativeNumberAnswer, SLOTS, STREAMS};
-use libc::{STDIN_FILENO, STDOUT_FILENO};
+use host::Input;
 use packet::PACKET_BYTES;
 use receiver::{RECEIVER_BYTES, STORE_BYTES, events};
 use setting::{Kind, Setting};
@@ -25,7 +25,7 @@ fn usage() {
 }
 
 // Which stream: by its number, or by its identifiers; or none was chosen.
-#[derive(Drop)]
+#[derive(Clone, Copy)]
 enum Choice {
     Number(RelativeNumber),
     Pair(u16, u16),
@@ -33,7 +33,7 @@ enum Choice {
 }
 
 // What is asked for: the PID and the kind of the headers, and the stream.
-#[derive(Drop)]
+#[derive(Clone, Copy)]
 struct Asked {
     pid: u16,
     kind: Kind,
@@ -93,9 +93,9 @@ fn choose(text: &[u8], last: u32) -> Choice {
 }
 
 // The stream that argument i names, in headers of this kind.
-fn chosen_at(i: usize, kind: Kind) -> Choice {
+fn chosen_at(rt: HostRuntime, i: usize, kind: Kind) -> Choice {
     let mut word = io::buffer();
-    let n = arguments::word(i, &mut word);
+    let n = arguments::word(rt, i, &mut word);
     choose(&word[0..n], sizes::streams_of(kind) as u32)
 }
 
@@ -116,7 +116,7 @@ fn is_stream(s: Setting, r: RelativeNumber, ts_id: u16, network_id: u16) -> bool
 }
 
 // The number by which a header knows a stream, if it does.
-#[derive(Drop)]
+#[derive(Clone, Copy)]
 enum Known {
     As(RelativeNumber),
     Not,
@@ -136,7 +136,7 @@ fn number_in(s: Setting, ts_id: u16, network_id: u16) -> Known {
 }
 
 // The stream's number in the open frame, and what happened so far.
-#[derive(Drop)]
+#[derive(Clone, Copy)]
 struct Link {
     number: Known,
     tally: Tally,
@@ -162,14 +162,14 @@ fn number_after(event: u8, packet: &[u8], asked: Asked, number: Known) -> Known 
 }
 
 // Writes the packets that were handed out.
-fn write_packets(out: &[u8], packets: usize) -> bool
+fn write_packets(rt: HostRuntime, out: &[u8], packets: usize) -> bool
     requires { length out.now ≡ store_length last_slot }
 {
     if SLOTS < packets {
         return false;
     }
-    if !io::write_all(STDOUT_FILENO, &out[0..PACKET_BYTES * packets]) {
-        os::fail(b"standard output");
+    if let Err(error) = host::print(rt, &out[0..PACKET_BYTES * packets]) {
+        host::fail(b"standard output", error);
         return false;
     }
     true
@@ -177,22 +177,22 @@ fn write_packets(out: &[u8], packets: usize) -> bool
 
 // Hands out the stream's packets of a frame that just became ready. Answers how many there are, or more than a frame can have if standard
 // output did not take them.
-fn hand_out(state: &[u8], store: &[u8], number: Known) -> usize {
+fn hand_out(rt: HostRuntime, state: &[u8], store: &[u8], number: Known) -> usize {
     let Known::As(r) = number else {
         return 0;
     };
     let mut out = [0u8; STORE_BYTES];
     let mut packets = 0usize;
     receiver_hand_out::niranbok_receiver_hand_out(state, store, &mut out, r.0, &mut packets);
-    if write_packets(&out, packets) {
+    if write_packets(rt, &out, packets) {
         return packets;
     }
     SLOTS + 1
 }
 
-fn after_ready(link: Link, state: &[u8], store: &[u8]) -> Link {
+fn after_ready(rt: HostRuntime, link: Link, state: &[u8], store: &[u8]) -> Link {
     let number = link.number;
-    let packets = hand_out(state, store, number);
+    let packets = hand_out(rt, state, store, number);
     let before = link.tally;
     let mut next = link;
     if SLOTS < packets {
@@ -204,15 +204,22 @@ fn after_ready(link: Link, state: &[u8], store: &[u8]) -> Link {
     next
 }
 
-fn after_event(link: Link, event: u8, state: &[u8], store: &[u8]) -> Link {
+fn after_event(rt: HostRuntime, link: Link, event: u8, state: &[u8], store: &[u8]) -> Link {
     if event == events::READY {
-        return after_ready(link, state, store);
+        return after_ready(rt, link, state, store);
     }
     link
 }
 
 // Takes one packet.
-fn take(link: Link, packet: &[u8], state: &mut [u8], store: &mut [u8], asked: Asked) -> Link {
+fn take(
+    rt: HostRuntime,
+    link: Link,
+    packet: &[u8],
+    state: &mut [u8],
+    store: &mut [u8],
+    asked: Asked,
+) -> Link {
     let mut event = events::NOTHING;
     let mut remainder = 0u32;
     receiver_receive::niranbok_receiver_receive(state, packet, store, &mut event, &mut remainder);
@@ -224,7 +231,7 @@ fn take(link: Link, packet: &[u8], state: &mut [u8], store: &mut [u8], asked: As
         tally: tally::with_refusal(tally::with_event(before, event), packet, asked.pid, kind),
         taken: link.taken,
     };
-    let next = after_event(counted, event, state, store);
+    let next = after_event(rt, counted, event, state, store);
     let after = next.tally;
     Link {
         number: number_after(event, packet, asked, number),
@@ -234,14 +241,21 @@ fn take(link: Link, packet: &[u8], state: &mut [u8], store: &mut [u8], asked: As
 }
 
 // Takes the packets of a block, one after another.
-fn take_block(link: Link, block: &[u8], state: &mut [u8], store: &mut [u8], asked: Asked) -> Link {
+fn take_block(
+    rt: HostRuntime,
+    link: Link,
+    block: &[u8],
+    state: &mut [u8],
+    store: &mut [u8],
+    asked: Asked,
+) -> Link {
     let packets = block.len() / PACKET_BYTES;
     let mut next = link;
     let mut i = 0;
     while i < packets {
         let at = PACKET_BYTES * i;
         let packet = &block[at..at + PACKET_BYTES];
-        next = take(next, packet, state, store, asked);
+        next = take(rt, next, packet, state, store, asked);
         if !next.taken {
             return next;
         }
@@ -260,7 +274,8 @@ fn start() -> Link {
 
 // Reads blocks to the end of the input. A proved loop has to end: this one does, at the latest, when the numbers of blocks run out.
 fn take_all(
-    fd: i32,
+    rt: HostRuntime,
+    input: &Input,
     block: &mut [u8],
     state: &mut [u8],
     store: &mut [u8],
@@ -272,8 +287,8 @@ fn take_all(
     let mut next = link;
     let mut blocks: u64 = 0;
     while blocks < u64::MAX {
-        let got = input::read_block(fd, block);
-        next = take_block(next, &block[0..got], state, store, asked);
+        let got = input::read_block(input, block);
+        next = take_block(rt, next, &block[0..got], state, store, asked);
         if !next.taken {
             return next;
         }
@@ -286,8 +301,8 @@ fn take_all(
     next
 }
 
-fn demux(fd: i32, asked: Asked) {
-    if !input::is_cut(fd) {
+fn demux(rt: HostRuntime, input: &Input, asked: Asked) {
+    if !input::is_cut(rt, input) {
         return;
     }
     let pid = asked.pid;
@@ -298,7 +313,8 @@ fn demux(fd: i32, asked: Asked) {
     let end = PACKET_BYTES * sizes::slots_of(kind);
     receiver_start::niranbok_receiver_start(&mut state, pid, setting_bytes::kind_number(kind));
     let last = take_all(
-        fd,
+        rt,
+        input,
         &mut block,
         &mut state,
         &mut store[0..end],
@@ -308,26 +324,26 @@ fn demux(fd: i32, asked: Asked) {
     tally::say(last.tally, pid);
 }
 
-fn run_chosen(fd: i32, pid: u16, kind: Kind, i: usize) {
-    let choice = chosen_at(i, kind);
+fn run_chosen(rt: HostRuntime, input: &Input, pid: u16, kind: Kind, i: usize) {
+    let choice = chosen_at(rt, i, kind);
     if let Choice::None = choice {
         return;
     }
-    demux(fd, Asked { pid, kind, choice });
+    demux(rt, input, Asked { pid, kind, choice });
 }
 
 // The input: the file that argument i names, or standard input if there is no such argument.
-fn source(i: usize) -> i32 {
-    if i < os::arg_count() {
-        return arguments::open(i);
+fn source(rt: HostRuntime, i: usize) -> Input {
+    if i < host::argument_count(rt) {
+        return arguments::open(rt, i);
     }
-    STDIN_FILENO
+    Input::Standard(rt.stdin())
 }
 
-fn run_kind(kind: Kind, first: usize)
+fn run_kind(rt: HostRuntime, kind: Kind, first: usize)
     requires { first ≤ 3 }
 {
-    let count = os::arg_count();
+    let count = host::argument_count(rt);
     if count < first + 2 {
         usage();
         return;
@@ -336,24 +352,24 @@ fn run_kind(kind: Kind, first: usize)
         usage();
         return;
     }
-    let pid = arguments::pid(first);
+    let pid = arguments::pid(rt, first);
     if pid == 0 {
         return;
     }
-    let fd = source(first + 2);
-    if fd < 0 {
+    let input = source(rt, first + 2);
+    if !input.is_open() {
         return;
     }
-    run_chosen(fd, pid, kind, first + 1);
+    run_chosen(rt, &input, pid, kind, first + 1);
 }
 
 // The option, if it is there, stands in front of the other arguments.
-pub(crate) fn run(first: usize)
+pub(crate) fn run(rt: HostRuntime, first: usize)
     requires { first ≤ 2 }
 {
-    if arguments::is_short(first) {
-        run_kind(Kind::Short, first + 1);
+    if arguments::is_short(rt, first) {
+        run_kind(rt, Kind::Short, first + 1);
         return;
     }
-    run_kind(Kind::Plain, first);
+    run_kind(rt, Kind::Plain, first);
 }

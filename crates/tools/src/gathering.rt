@@ -9,11 +9,10 @@ use crate::{carrier, carriers, says};
 use bond::Moved;
 use bond_group::Bond;
 use header_check::Refusal;
-use libc::STDOUT_FILENO;
 use packet::{FRAME_BYTES, PACKET_BYTES};
 
 // The carriers of the group.
-#[derive(Drop)]
+#[derive(Clone, Copy)]
 pub(crate) struct Group {
     pub(crate) carriers: [Carrier; CARRIERS],
 }
@@ -25,7 +24,7 @@ pub(crate) const FRAMES_BYTES: usize = GROUP_BYTES + FRAME_BYTES * CARRIERS;
 pub(crate) const PARTS_BYTES: usize = STREAM_BYTES + PART_BYTES * CARRIERS;
 
 // What became of the super frames.
-#[derive(Drop)]
+#[derive(Clone, Copy)]
 pub(crate) struct Count {
     pub(crate) out: u64,
     pub(crate) dropped: u64,
@@ -37,7 +36,7 @@ pub(crate) struct Count {
 }
 
 // Of the carriers: whether all have a file, all have the whole super frame, some have a part of it, and the input of some has ended.
-#[derive(Drop)]
+#[derive(Clone, Copy)]
 pub(crate) struct Standing {
     pub(crate) open: bool,
     pub(crate) whole: bool,
@@ -47,7 +46,7 @@ pub(crate) struct Standing {
 
 fn with_carrier(s: Standing, one: Carrier) -> Standing {
     Standing {
-        open: s.open && one.fd >= 0,
+        open: s.open && one.open,
         whole: s.whole && carrier::frames_whole(one) != 0,
         part: s.part || one.have != 0,
         ended: s.ended || one.ended,
@@ -115,12 +114,12 @@ fn join(frames: &mut [u8], parts: &[u8], sizes: &[u8], n: usize)
 }
 
 // Writes so many packets of the stream. Answers whether standard output took them.
-fn write(parts: &[u8], packets: usize) -> bool
+fn write(rt: HostRuntime, parts: &[u8], packets: usize) -> bool
     requires { length parts.now ≡ parts_length }
 {
     let end = carriers::at_most(packets, STREAM_BYTES / PACKET_BYTES);
-    if !io::write_all(STDOUT_FILENO, &parts[0..PACKET_BYTES * end]) {
-        os::fail(b"standard output");
+    if let Err(error) = host::print(rt, &parts[0..PACKET_BYTES * end]) {
+        host::fail(b"standard output", error);
         return false;
     }
     true
@@ -170,7 +169,14 @@ fn gather_group(frames: &[u8], bytes: usize, parts: &mut [u8], bond: Bond) -> Mo
 }
 
 // Gathers the group and writes the stream.
-fn gather(frames: &[u8], bytes: usize, parts: &mut [u8], bond: Bond, count: Count) -> Count
+fn gather(
+    rt: HostRuntime,
+    frames: &[u8],
+    bytes: usize,
+    parts: &mut [u8],
+    bond: Bond,
+    count: Count,
+) -> Count
     requires frames_len { (length frames.now ≡ frames_length) × (length parts.old ≡ parts_length) }
     requires bytes_le_group_length { bytes ≤ group_length }
 {
@@ -179,7 +185,7 @@ fn gather(frames: &[u8], bytes: usize, parts: &mut [u8], bond: Bond, count: Coun
     if refusal.number != 0 {
         return with_refusal(count, refusal);
     }
-    if !write(parts, moved.packets) {
+    if !write(rt, parts, moved.packets) {
         let mut last = count;
         last.ended = true;
         return last;
@@ -206,6 +212,7 @@ fn not_whole(now: Standing, count: Count) -> Count {
 }
 
 pub(crate) fn one_super(
+    rt: HostRuntime,
     g: Group,
     n: usize,
     frames: &mut [u8],
@@ -223,7 +230,7 @@ pub(crate) fn one_super(
     let sizes = frames_of(g, n);
     join(frames, parts, &sizes, n);
     let bytes = carriers::bytes_before(&sizes, n);
-    gather(frames, bytes, parts, bond, count)
+    gather(rt, frames, bytes, parts, bond, count)
 }
 
 pub(crate) fn say(count: Count) {

@@ -14,7 +14,7 @@ use setting::{Kind, Setting, limits};
 use setting_bytes::SETTING_BYTES;
 
 // A bond and the id of its group.
-#[derive(Drop)]
+#[derive(Clone, Copy)]
 pub(crate) struct Bonded {
     pub(crate) bond: Bond,
     pub(crate) group_id: u8,

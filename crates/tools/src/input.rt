@@ -3,26 +3,29 @@ ghost use Rattle.io.specs.Counts.{IsPrefixLen};
 ghost use Rattle.std.specs.Prelude.{◌≤◌, length};
 
 use crate::says;
+use host::Input;
 use packet::PACKET_BYTES;
 
 // Reads once. A read that fails is reported, and counts as no bytes.
-fn read_once(fd: i32, place: &mut [u8]) -> usize
+fn read_once(input: &Input, place: &mut [u8]) -> usize
     ensures { result ≤ length place.new }
 {
-    let got = libc::read(fd, place);
-    if got < 0 {
-        os::fail(b"input");
+    match host::read(input, place) {
+        Ok(got) => got,
+        Err(error) => {
+            host::fail(b"input", error);
+            0
+        }
     }
-    io::count(got, place)
 }
 
 // Reads until the block is full or a read brings nothing. A read that brings less than was asked for is not the end.
-pub(crate) fn read_block(fd: i32, block: &mut [u8]) -> usize
+pub(crate) fn read_block(input: &Input, block: &mut [u8]) -> usize
     ensures { IsPrefixLen result block.new }
 {
     let mut done = 0;
     while done < block.len() {
-        let more = read_once(fd, &mut block[done..]);
+        let more = read_once(input, &mut block[done..]);
         if more == 0 {
             return done;
         }
@@ -46,29 +49,11 @@ pub(crate) fn say_part(bytes: usize) {
     }
 }
 
-const TO_THE_PLACE: i32 = 0;
-
-const FROM_HERE: i32 = 1;
-
-const FROM_THE_END: i32 = 2;
-
-// A place in a file as a count of bytes; 0 if it is none.
-fn place(n: i64) -> u64 {
-    if n > 0 {
-        return n as u64;
-    }
-    0
-}
-
-// Whether the rest of a file is whole packets. For a pipe this cannot be known before its end, and the answer is yes.
-pub(crate) fn is_cut(fd: i32) -> bool {
-    let here = libc::lseek(fd, 0, FROM_HERE);
-    if here < 0 {
+// Whether the rest of an input is whole packets. For a pipe this cannot be known before its end, and the answer is yes.
+pub(crate) fn is_cut(rt: HostRuntime, input: &Input) -> bool {
+    let Some(left) = host::left(rt, input) else {
         return true;
-    }
-    let end = libc::lseek(fd, 0, FROM_THE_END);
-    libc::lseek(fd, here, TO_THE_PLACE);
-    let left = std::num::wrapping_sub_u64(place(end), place(here));
+    };
     let tail = left % (PACKET_BYTES as u64);
     if tail == 0 {
         return true;

@@ -21,7 +21,7 @@ mod unbonding;
 
 ghost use Rattle.std.specs.Prelude.{◌+◌, ◌^◌, ◌<◌, ◌≤◌, length};
 
-#[derive(Drop)]
+#[derive(Clone, Copy)]
 enum Tool {
     Mux,
     Demux,
@@ -71,22 +71,22 @@ fn named(name: &[u8]) -> Tool {
 }
 
 // The program that argument i names.
-fn tool_at(i: usize) -> Tool {
+fn tool_at(rt: HostRuntime, i: usize) -> Tool {
     let mut word = io::buffer();
-    let n = arguments::word(i, &mut word);
+    let n = arguments::word(rt, i, &mut word);
     let from = base(&word[0..n]);
     named(&word[from..n])
 }
 
 // Runs the program, whose arguments start at `first`. Answers false if there is no such program.
-fn run(tool: Tool, first: usize) -> bool
+fn run(rt: HostRuntime, tool: Tool, first: usize) -> bool
     requires { first ≤ 2 }
 {
     match tool {
-        Tool::Mux => mux::run(first),
-        Tool::Demux => demux::run(first),
-        Tool::Bond => bonding::run(first),
-        Tool::Unbond => unbonding::run(first),
+        Tool::Mux => mux::run(rt, first),
+        Tool::Demux => demux::run(rt, first),
+        Tool::Bond => bonding::run(rt, first),
+        Tool::Unbond => unbonding::run(rt, first),
         Tool::None => {
             return false;
         }
@@ -94,11 +94,11 @@ fn run(tool: Tool, first: usize) -> bool
     true
 }
 
-fn main() {
-    if run(tool_at(0), 1) {
+fn main(rt: HostRuntime) {
+    if run(rt, tool_at(rt, 0), 1) {
         return;
     }
-    if run(tool_at(1), 2) {
+    if run(rt, tool_at(rt, 1), 2) {
         return;
     }
     says::text(b"usage: mux | demux | bond | unbond ARGUMENTS; each of them alone says which\n");

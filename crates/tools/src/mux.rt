@@ -11,7 +11,7 @@ use crate::{arguments, carriers, input, plan, says, settings, sizes};
 use composer::COMPOSER_BYTES;
 use counters::{RelativeNumber, SLOTS, STREAMS, Slot};
 use header_check::Refusal;
-use libc::STDOUT_FILENO;
+use host::Input;
 use packet::{FRAME_BYTES, PACKET_BYTES};
 use receiver::STORE_BYTES;
 use setting::{Kind, Setting, limits};
@@ -27,7 +27,7 @@ fn usage() {
 }
 
 // What the arguments say: whether all are good, the setting, and how many slots each number has. Number 0 is for slots of no stream.
-#[derive(Drop)]
+#[derive(Clone, Copy)]
 struct Given {
     good: bool,
     setting: Setting,
@@ -41,12 +41,12 @@ fn out_of_range(r: RelativeNumber, field: &[u8], first: u32, last: u32) {
 }
 
 // Argument i, the number of slots of stream r, of all that a frame has. If it is out of range, says so and answers 0.
-fn slots_at(i: usize, r: RelativeNumber, all: usize) -> u32
+fn slots_at(rt: HostRuntime, i: usize, r: RelativeNumber, all: usize) -> u32
     requires { all ≤ last_slot }
 {
     let first = Slot::FIRST as u32;
     let last = all as u32;
-    let Number::Is(n) = arguments::number_at(i, first, last) else {
+    let Number::Is(n) = arguments::number_at(rt, i, first, last) else {
         out_of_range(r, b"SLOTS", first, last);
         return 0;
     };
@@ -84,23 +84,23 @@ fn not_good(given: Given) -> Given {
 }
 
 // Adds stream r, whose arguments start at argument i. A frame has so many slots.
-fn with_words(given: Given, i: usize, r: RelativeNumber, all: usize) -> Given
+fn with_words(rt: HostRuntime, given: Given, i: usize, r: RelativeNumber, all: usize) -> Given
     requires le_r { (1 ≤ r.0) × (r.0 ≤ last_stream) }
     requires i_bound { (i ≤ 1000) × (all ≤ last_slot) }
 {
-    let n = slots_at(i, r, all);
-    let Number::Is(ts_id) = arguments::number_at(i + 1, 0, 65535) else {
+    let n = slots_at(rt, i, r, all);
+    let Number::Is(ts_id) = arguments::number_at(rt, i + 1, 0, 65535) else {
         out_of_range(r, b"TS_ID", 0, 65535);
         return not_good(given);
     };
-    let Number::Is(network_id) = arguments::number_at(i + 2, 0, 65535) else {
+    let Number::Is(network_id) = arguments::number_at(rt, i + 2, 0, 65535) else {
         out_of_range(r, b"NETWORK_ID", 0, 65535);
         return not_good(given);
     };
     with_slots(given, r, n, ts_id, network_id)
 }
 
-fn read_streams(first: usize, streams: usize, all: usize) -> Given
+fn read_streams(rt: HostRuntime, first: usize, streams: usize, all: usize) -> Given
     requires first_bound { (first ≤ 4) × (streams ≤ last_stream) }
     requires all_le_last_slot { all ≤ last_slot }
 {
@@ -112,7 +112,7 @@ fn read_streams(first: usize, streams: usize, all: usize) -> Given
     let mut k = 0;
     while k < streams {
         let r = settings::stream_at(k);
-        given = with_words(given, first + WORDS * k, r, all);
+        given = with_words(rt, given, first + WORDS * k, r, all);
         k += 1;
     }
     given
@@ -158,36 +158,36 @@ fn with_plan(given: Given, kind: Kind) -> Given {
 }
 
 // Opens the streams' files. Answers whether all were opened.
-fn open_all(fds: &mut [i32], first: usize, streams: usize) -> bool
-    requires first_bound { (first ≤ 4) × (streams ≤ length fds.old) }
-    requires fds_len { length fds.old ≡ last_stream }
+fn open_all(rt: HostRuntime, inputs: &mut [Input], first: usize, streams: usize) -> bool
+    requires first_bound { (first ≤ 4) × (streams ≤ length inputs.old) }
+    requires inputs_len { length inputs.old ≡ last_stream }
 {
     let mut k = 0;
     while k < streams {
-        let fd = arguments::open(first + WORDS * k + 3);
-        if fd < 0 {
+        let input = arguments::open(rt, first + WORDS * k + 3);
+        if !input.is_open() {
             return false;
         }
-        fds[k] = fd;
+        inputs[k] = input;
         k += 1;
     }
     true
 }
 
 // What the streams put into a frame so far: refusal 0 and the number of packets, or the refusal's number.
-#[derive(Drop)]
+#[derive(Clone, Copy)]
 struct Filled {
     refusal: u8,
     packets: usize,
 }
 
 // Reads as many packets as there are slots, or all that are left. Answers the bytes of the whole packets.
-fn read_packets(fd: i32, bytes: &mut [u8], slots: u32, r: RelativeNumber) -> usize
+fn read_packets(input: &Input, bytes: &mut [u8], slots: u32, r: RelativeNumber) -> usize
     requires { length bytes.old ≡ store_length last_slot }
     ensures { IsPrefixLen result bytes.new }
 {
     let most = carriers::at_most(slots as usize, SLOTS);
-    let got = input::read_block(fd, &mut bytes[0..PACKET_BYTES * most]);
+    let got = input::read_block(input, &mut bytes[0..PACKET_BYTES * most]);
     let tail = got % PACKET_BYTES;
     if tail != 0 {
         says::about(b"stream ", r.0 as u64);
@@ -221,18 +221,24 @@ fn put_stream(
     filled: Filled,
     state: &mut [u8],
     frame: &mut [u8],
-    fd: i32,
+    input: &Input,
     slots: u32,
     r: RelativeNumber,
 ) -> Filled {
     let mut bytes = [0u8; STORE_BYTES];
-    let n = read_packets(fd, &mut bytes, slots, r);
+    let n = read_packets(input, &mut bytes, slots, r);
     put_packets(filled, state, frame, &bytes[0..n], r)
 }
 
 // Puts the packets of all streams into the frame, one stream after another.
-fn fill(state: &mut [u8], frame: &mut [u8], fds: &[i32], slots: &[u32], streams: usize) -> Filled
-    requires fds_len { (length fds.now ≡ last_stream) × (length slots.now ≡ last_stream + 1) }
+fn fill(
+    state: &mut [u8],
+    frame: &mut [u8],
+    inputs: &[Input],
+    slots: &[u32],
+    streams: usize,
+) -> Filled
+    requires inputs_len { (length inputs.now ≡ last_stream) × (length slots.now ≡ last_stream + 1) }
     requires streams_le_last_stream { streams ≤ last_stream }
 {
     let mut filled = Filled {
@@ -242,7 +248,7 @@ fn fill(state: &mut [u8], frame: &mut [u8], fds: &[i32], slots: &[u32], streams:
     let mut k = 0;
     while k < streams {
         let r = settings::stream_at(k);
-        filled = put_stream(filled, state, frame, fds[k], slots[k + 1], r);
+        filled = put_stream(filled, state, frame, &inputs[k], slots[k + 1], r);
         if filled.refusal != 0 {
             return filled;
         }
@@ -251,26 +257,26 @@ fn fill(state: &mut [u8], frame: &mut [u8], fds: &[i32], slots: &[u32], streams:
     filled
 }
 
-fn write(bytes: &[u8]) -> bool {
-    if !io::write_all(STDOUT_FILENO, bytes) {
-        os::fail(b"standard output");
+fn write(rt: HostRuntime, bytes: &[u8]) -> bool {
+    if let Err(error) = host::print(rt, bytes) {
+        host::fail(b"standard output", error);
         return false;
     }
     true
 }
 
 // Writes a frame. If no stream had packets for it, writes only its header, which vouches for the frame before. Answers whether to go on.
-fn write_frame(frame: &[u8], packets: usize) -> bool
+fn write_frame(rt: HostRuntime, frame: &[u8], packets: usize) -> bool
     requires { packet_length ≤ length frame.now }
 {
     if packets == 0 {
-        write(&frame[0..PACKET_BYTES]);
+        write(rt, &frame[0..PACKET_BYTES]);
         return false;
     }
-    write(frame)
+    write(rt, frame)
 }
 
-fn close_frame(state: &mut [u8], frame: &mut [u8], packets: usize) -> bool
+fn close_frame(rt: HostRuntime, state: &mut [u8], frame: &mut [u8], packets: usize) -> bool
     requires { packet_length ≤ length frame.old }
 {
     let refusal = composer_close::niranbok_composer_close(state, frame);
@@ -278,36 +284,38 @@ fn close_frame(state: &mut [u8], frame: &mut [u8], packets: usize) -> bool
         says::refusal(b"close", Refusal::bare(refusal));
         return false;
     }
-    write_frame(frame, packets)
+    write_frame(rt, frame, packets)
 }
 
 fn finish_frame(
+    rt: HostRuntime,
     state: &mut [u8],
     frame: &mut [u8],
-    fds: &[i32],
+    inputs: &[Input],
     slots: &[u32],
     streams: usize,
 ) -> bool
-    requires fds_len { (length fds.now ≡ last_stream) × (length slots.now ≡ last_stream + 1) }
+    requires inputs_len { (length inputs.now ≡ last_stream) × (length slots.now ≡ last_stream + 1) }
     requires streams_le_last_stream { (streams ≤ last_stream) × (packet_length ≤ length frame.old) }
 {
-    let filled = fill(state, frame, fds, slots, streams);
+    let filled = fill(state, frame, inputs, slots, streams);
     if filled.refusal != 0 {
         return false;
     }
-    close_frame(state, frame, filled.packets)
+    close_frame(rt, state, frame, filled.packets)
 }
 
 // Makes a frame. Answers whether the run goes on after it.
 fn make_frame(
+    rt: HostRuntime,
     state: &mut [u8],
     frame: &mut [u8],
     setting: &[u8],
-    fds: &[i32],
+    inputs: &[Input],
     slots: &[u32],
     streams: usize,
 ) -> bool
-    requires fds_len { (length fds.now ≡ last_stream) × (length slots.now ≡ last_stream + 1) }
+    requires inputs_len { (length inputs.now ≡ last_stream) × (length slots.now ≡ last_stream + 1) }
     requires streams_le_last_stream { (streams ≤ last_stream) × (packet_length ≤ length frame.old) }
 {
     let refusal = composer_begin::niranbok_composer_begin(state, frame, setting);
@@ -315,7 +323,7 @@ fn make_frame(
         says::refusal(b"streams", Refusal::bare(refusal));
         return false;
     }
-    finish_frame(state, frame, fds, slots, streams)
+    finish_frame(rt, state, frame, inputs, slots, streams)
 }
 
 // On a long run, a line of progress every so many frames, which is about a gigabyte.
@@ -330,19 +338,20 @@ fn say_progress(frames: u64) {
 
 // Makes frames until the streams are used up. A proved loop has to end: this one does, at the latest, when the numbers run out.
 fn make_frames(
+    rt: HostRuntime,
     state: &mut [u8],
     frame: &mut [u8],
     setting: &[u8],
-    fds: &[i32],
+    inputs: &[Input],
     slots: &[u32],
     streams: usize,
 )
-    requires fds_len { (length fds.now ≡ last_stream) × (length slots.now ≡ last_stream + 1) }
+    requires inputs_len { (length inputs.now ≡ last_stream) × (length slots.now ≡ last_stream + 1) }
     requires streams_le_last_stream { (streams ≤ last_stream) × (packet_length ≤ length frame.old) }
 {
     let mut frames: u64 = 0;
     while frames < u64::MAX {
-        if !make_frame(state, frame, setting, fds, slots, streams) {
+        if !make_frame(rt, state, frame, setting, inputs, slots, streams) {
             return;
         }
         frames += 1;
@@ -352,24 +361,33 @@ fn make_frames(
 
 // Makes the frames of a kind at the front of a buffer that has room for the longest.
 fn make_kind(
+    rt: HostRuntime,
     kind: Kind,
     state: &mut [u8],
     buffer: &mut [u8],
     setting: &[u8],
-    fds: &[i32],
+    inputs: &[Input],
     slots: &[u32],
     streams: usize,
 )
-    requires fds_len { (length fds.now ≡ last_stream) × (length slots.now ≡ last_stream + 1) }
+    requires inputs_len { (length inputs.now ≡ last_stream) × (length slots.now ≡ last_stream + 1) }
     requires streams_le_last_stream { (streams ≤ last_stream) × (length buffer.old ≡ frame_length last_slot) }
 {
     let end = sizes::frame_bytes(kind);
-    make_frames(state, &mut buffer[0..end], setting, fds, slots, streams);
+    make_frames(
+        rt,
+        state,
+        &mut buffer[0..end],
+        setting,
+        inputs,
+        slots,
+        streams,
+    );
 }
 
 // Starts the run and makes its frames.
-fn compose(pid: u16, kind: Kind, given: Given, fds: &[i32], streams: usize)
-    requires { (length fds.now ≡ last_stream) × (streams ≤ last_stream) }
+fn compose(rt: HostRuntime, pid: u16, kind: Kind, given: Given, inputs: &[Input], streams: usize)
+    requires { (length inputs.now ≡ last_stream) × (streams ≤ last_stream) }
 {
     let mut state = [0u8; COMPOSER_BYTES];
     composer_start::niranbok_composer_start(&mut state, pid, setting_bytes::kind_number(kind));
@@ -378,39 +396,43 @@ fn compose(pid: u16, kind: Kind, given: Given, fds: &[i32], streams: usize)
     let slots = given.slots;
     let mut buffer = [0u8; FRAME_BYTES];
     make_kind(
+        rt,
         kind,
         &mut state,
         &mut buffer,
         &setting,
-        fds,
+        inputs,
         &slots,
         streams,
     );
 }
 
-fn start(pid: u16, kind: Kind, given: Given, first: usize, streams: usize)
+fn start(rt: HostRuntime, pid: u16, kind: Kind, given: Given, first: usize, streams: usize)
     requires { (first ≤ 4) × (streams ≤ last_stream) }
 {
-    let mut fds = [0i32; STREAMS];
-    if open_all(&mut fds, first, streams) {
-        compose(pid, kind, given, &fds, streams);
+    let mut inputs: [Input; STREAMS] = std::array::from_fn(|_| Input::None);
+    if open_all(rt, &mut inputs, first, streams) {
+        compose(rt, pid, kind, given, &inputs, streams);
     }
 }
 
 // Reads the streams' arguments, which start at `first`, and makes the frames.
-fn run_streams(pid: u16, kind: Kind, first: usize, streams: usize)
+fn run_streams(rt: HostRuntime, pid: u16, kind: Kind, first: usize, streams: usize)
     requires { (first ≤ 4) × (streams ≤ last_stream) }
 {
-    let given = with_plan(read_streams(first, streams, sizes::slots_of(kind)), kind);
+    let given = with_plan(
+        read_streams(rt, first, streams, sizes::slots_of(kind)),
+        kind,
+    );
     if given.good {
-        start(pid, kind, given, first, streams);
+        start(rt, pid, kind, given, first, streams);
     }
 }
 
-fn run_kind(kind: Kind, first: usize)
+fn run_kind(rt: HostRuntime, kind: Kind, first: usize)
     requires { first ≤ 3 }
 {
-    let count = os::arg_count();
+    let count = host::argument_count(rt);
     if count < first + 1 + WORDS {
         usage();
         return;
@@ -425,19 +447,19 @@ fn run_kind(kind: Kind, first: usize)
         says::range(b"streams", 1, most as u32, 17);
         return;
     }
-    let pid = arguments::pid(first);
+    let pid = arguments::pid(rt, first);
     if pid != 0 {
-        run_streams(pid, kind, first + 1, words / WORDS);
+        run_streams(rt, pid, kind, first + 1, words / WORDS);
     }
 }
 
 // The option, if it is there, stands in front of the other arguments.
-pub(crate) fn run(first: usize)
+pub(crate) fn run(rt: HostRuntime, first: usize)
     requires { first ≤ 2 }
 {
-    if arguments::is_short(first) {
-        run_kind(Kind::Short, first + 1);
+    if arguments::is_short(rt, first) {
+        run_kind(rt, Kind::Short, first + 1);
         return;
     }
-    run_kind(Kind::Plain, first);
+    run_kind(rt, Kind::Plain, first);
 }

@@ -1,6 +1,8 @@
 // What the programs write to standard error, line by line.
 use header_check::Refusal;
-use libc::STDERR_FILENO;
+
+// Standard error.
+const STDERR_FILENO: i32 = 2;
 
 pub(crate) fn text(words: &[u8]) {
     io::write_all(STDERR_FILENO, words);

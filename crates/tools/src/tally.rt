@@ -5,7 +5,7 @@ use receiver::events;
 use setting::Kind;
 
 // The counts. Each would wrap at 2^64.
-#[derive(Drop)]
+#[derive(Clone, Copy)]
 pub(crate) struct Tally {
     // Packets that came in, and packets of the chosen stream that went out.
     pub(crate) came: u64,

@@ -9,6 +9,7 @@ use crate::carriers::{CARRIERS, GROUP_BYTES, STREAM_BYTES};
 use crate::gathering::{Count, FRAMES_BYTES, Group, PARTS_BYTES};
 use crate::{arguments, carrier, gathering, says, tally};
 use bond_group::Bond;
+use host::Input;
 use packet::FRAME_BYTES;
 use receiver::RECEIVER_BYTES;
 
@@ -21,14 +22,16 @@ fn usage() {
     );
 }
 
-fn open_all(g: Group, first: usize, n: usize) -> Group
-    requires { (first ≤ 5) × (n ≤ last_carrier) }
+fn open_all(rt: HostRuntime, g: Group, inputs: &mut [Input], first: usize, n: usize) -> Group
+    requires first_bound { (first ≤ 5) × (n ≤ last_carrier) }
+    requires inputs_len { length inputs.old ≡ last_carrier }
 {
     let mut next = g;
     let mut c = 0;
     while c < n {
-        let fd = arguments::open(first + c);
-        next.carriers[c] = carrier::start(fd);
+        let input = arguments::open(rt, first + c);
+        next.carriers[c] = carrier::start(input.is_open());
+        inputs[c] = input;
         c += 1;
     }
     next
@@ -49,6 +52,7 @@ fn start_receivers(parts: &mut [u8], pid: u16)
 // Reads carrier c, from 0, to the end of the super frame with this number, or to the end of its input.
 fn read_one(
     one: Carrier,
+    input: &Input,
     c: usize,
     want: u64,
     pid: u16,
@@ -62,6 +66,7 @@ fn read_one(
     let part = STREAM_BYTES + PART_BYTES * c;
     carrier::read_on(
         one,
+        input,
         want,
         pid,
         &mut frames[frame..frame + FRAME_BYTES],
@@ -70,15 +75,24 @@ fn read_one(
 }
 
 // Does so for each carrier.
-fn read_on(g: Group, want: u64, pid: u16, n: usize, frames: &mut [u8], parts: &mut [u8]) -> Group
+fn read_on(
+    g: Group,
+    inputs: &[Input],
+    want: u64,
+    pid: u16,
+    n: usize,
+    frames: &mut [u8],
+    parts: &mut [u8],
+) -> Group
     requires frames_len { (length frames.old ≡ frames_length) × (length parts.old ≡ parts_length) }
     requires n_le_last_carrier { n ≤ last_carrier }
+    requires inputs_len { length inputs.now ≡ last_carrier }
 {
     let mut next = g;
     let mut c = 0;
     while c < n {
         let one = next.carriers[c];
-        next.carriers[c] = read_one(one, c, want, pid, frames, parts);
+        next.carriers[c] = read_one(one, &inputs[c], c, want, pid, frames, parts);
         c += 1;
     }
     next
@@ -98,7 +112,7 @@ fn say_carriers(g: Group, pid: u16, n: usize)
 }
 
 // The carriers, and what became of the super frames so far.
-#[derive(Drop)]
+#[derive(Clone, Copy)]
 struct State {
     group: Group,
     count: Count,
@@ -106,7 +120,9 @@ struct State {
 
 // Reads the super frame with this number, and gathers it.
 fn next_super(
+    rt: HostRuntime,
     s: State,
+    inputs: &[Input],
     want: u64,
     n: usize,
     bond: Bond,
@@ -115,22 +131,32 @@ fn next_super(
 ) -> State
     requires frames_len { (length frames.old ≡ frames_length) × (length parts.old ≡ parts_length) }
     requires n_le_last_carrier { n ≤ last_carrier }
+    requires inputs_len { length inputs.now ≡ last_carrier }
 {
     let before = s.count;
-    let group = read_on(s.group, want, bond.pid, n, frames, parts);
-    let count = gathering::one_super(group, n, frames, parts, bond, before);
+    let group = read_on(s.group, inputs, want, bond.pid, n, frames, parts);
+    let count = gathering::one_super(rt, group, n, frames, parts, bond, before);
     State { group, count }
 }
 
 // Reads and gathers until the input ends. A proved loop has to end: this one does, at the latest, when the numbers run out.
-fn unbond_with(start: State, n: usize, bond: Bond, frames: &mut [u8], parts: &mut [u8]) -> State
+fn unbond_with(
+    rt: HostRuntime,
+    start: State,
+    inputs: &[Input],
+    n: usize,
+    bond: Bond,
+    frames: &mut [u8],
+    parts: &mut [u8],
+) -> State
     requires frames_len { (length frames.old ≡ frames_length) × (length parts.old ≡ parts_length) }
     requires n_le_last_carrier { n ≤ last_carrier }
+    requires inputs_len { length inputs.now ≡ last_carrier }
 {
     let mut s = start;
     let mut want: u64 = 0;
     while want < u64::MAX {
-        s = next_super(s, want, n, bond, frames, parts);
+        s = next_super(rt, s, inputs, want, n, bond, frames, parts);
         let count = s.count;
         if count.ended {
             return s;
@@ -141,7 +167,9 @@ fn unbond_with(start: State, n: usize, bond: Bond, frames: &mut [u8], parts: &mu
 }
 
 fn start_and_unbond(
+    rt: HostRuntime,
     start: State,
+    inputs: &[Input],
     n: usize,
     bond: Bond,
     frames: &mut [u8],
@@ -149,18 +177,20 @@ fn start_and_unbond(
 ) -> State
     requires frames_len { (length frames.old ≡ frames_length) × (length parts.old ≡ parts_length) }
     requires n_le_last_carrier { n ≤ last_carrier }
+    requires inputs_len { length inputs.now ≡ last_carrier }
 {
     start_receivers(parts, bond.pid);
-    unbond_with(start, n, bond, frames, parts)
+    unbond_with(rt, start, inputs, n, bond, frames, parts)
 }
 
 // Two buffers, since each copy is from one to the other: of a frame, then of a super frame, then of the group, then of the stream.
-fn unbond(start: State, n: usize, bond: Bond) -> State
-    requires { n ≤ last_carrier }
+fn unbond(rt: HostRuntime, start: State, inputs: &[Input], n: usize, bond: Bond) -> State
+    requires n_le_last_carrier { n ≤ last_carrier }
+    requires inputs_len { length inputs.now ≡ last_carrier }
 {
     let mut frames = [0u8; FRAMES_BYTES];
     let mut parts = [0u8; PARTS_BYTES];
-    start_and_unbond(start, n, bond, &mut frames, &mut parts)
+    start_and_unbond(rt, start, inputs, n, bond, &mut frames, &mut parts)
 }
 
 // The counts before the first super frame.
@@ -174,14 +204,17 @@ fn no_count() -> Count {
     }
 }
 
-fn run_files(bond: Bond, first: usize, n: usize)
+fn run_files(rt: HostRuntime, bond: Bond, first: usize, n: usize)
     requires { (first ≤ 5) × (n ≤ last_carrier) }
 {
-    let none = carrier::start(-1);
+    let none = carrier::start(false);
+    let mut inputs: [Input; CARRIERS] = std::array::from_fn(|_| Input::None);
     let g = open_all(
+        rt,
         Group {
             carriers: [none; CARRIERS],
         },
+        &mut inputs,
         first,
         n,
     );
@@ -193,24 +226,24 @@ fn run_files(bond: Bond, first: usize, n: usize)
         group: g,
         count: no_count(),
     };
-    let end = unbond(start, n, bond);
+    let end = unbond(rt, start, &inputs, n, bond);
     let group = end.group;
     let count = end.count;
     say_carriers(group, bond.pid, n);
     gathering::say(count);
 }
 
-fn run_counted(first: usize, n: usize)
+fn run_counted(rt: HostRuntime, first: usize, n: usize)
     requires { (first ≤ 2) × (n ≤ last_carrier) }
 {
-    let pid = arguments::pid(first);
+    let pid = arguments::pid(rt, first);
     if pid == 0 {
         return;
     }
-    let Number::Is(ts_id) = arguments::identifier(first + 1, b"TS_ID") else {
+    let Number::Is(ts_id) = arguments::identifier(rt, first + 1, b"TS_ID") else {
         return;
     };
-    let Number::Is(network_id) = arguments::identifier(first + 2, b"NETWORK_ID") else {
+    let Number::Is(network_id) = arguments::identifier(rt, first + 2, b"NETWORK_ID") else {
         return;
     };
     let bond = Bond {
@@ -219,13 +252,13 @@ fn run_counted(first: usize, n: usize)
         ts_id: arguments::low(ts_id),
         original_network_id: arguments::low(network_id),
     };
-    run_files(bond, first + HEAD, n);
+    run_files(rt, bond, first + HEAD, n);
 }
 
-pub(crate) fn run(first: usize)
+pub(crate) fn run(rt: HostRuntime, first: usize)
     requires { first ≤ 2 }
 {
-    let count = os::arg_count();
+    let count = host::argument_count(rt);
     if count < first + HEAD + 1 {
         usage();
         return;
@@ -235,5 +268,5 @@ pub(crate) fn run(first: usize)
         says::range(b"carriers", 1, CARRIERS as u32, 17);
         return;
     }
-    run_counted(first, n);
+    run_counted(rt, first, n);
 }

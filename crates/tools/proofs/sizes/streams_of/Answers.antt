@@ -1,0 +1,6 @@
+-- `streams_of` meets its contract. Assumes nothing.
+use Rattle.setting.proofs.Sizes.{sized}
+use Rattle.tools.proofs.sizes.streams_of.Goals as goal
+
+pub returns : goal.returns
+returns c = rw c.size_of-size.ensures (sized c.args.kind).streams
