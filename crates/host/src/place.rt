@@ -44,8 +44,8 @@ fn standard_end(rt: HostRuntime, about: &Metadata) -> Result<u64> {
 }
 
 // A place in a file as a count of bytes; 0 if it is none.
-fn known(place: Result<u64>) -> u64 {
-    match place {
+fn place(found: Result<u64>) -> u64 {
+    match found {
         Ok(n) => n,
         Err(_) => 0,
     }
@@ -57,13 +57,13 @@ fn left_of_standard(rt: HostRuntime) -> Option<u64> {
         return None;
     }
     let here = standard_place(rt)?;
-    Some(known(standard_end(rt, &about)).wrapping_sub(here))
+    Some(place(standard_end(rt, &about)).wrapping_sub(here))
 }
 
 fn left_of_file(file: &File) -> Option<u64> {
     let mut at = file;
     let here = at.seek(SeekFrom::Current(0)).ok()?;
-    let end = known(at.seek(SeekFrom::End(0)));
+    let end = place(at.seek(SeekFrom::End(0)));
     let _ = at.seek(SeekFrom::Start(here));
     Some(end.wrapping_sub(here))
 }

@@ -22,9 +22,14 @@ fn usage() {
     );
 }
 
-fn open_all(rt: HostRuntime, g: Group, inputs: &mut [Input], first: usize, n: usize) -> Group
-    requires first_bound { (first ≤ 5) × (n ≤ last_carrier) }
-    requires inputs_len { length inputs.old ≡ last_carrier }
+fn open_all(
+    rt: HostRuntime,
+    g: Group,
+    inputs: &mut [Input; CARRIERS],
+    first: usize,
+    n: usize,
+) -> Group
+    requires { (first ≤ 5) × (n ≤ last_carrier) }
 {
     let mut next = g;
     let mut c = 0;
@@ -77,7 +82,7 @@ fn read_one(
 // Does so for each carrier.
 fn read_on(
     g: Group,
-    inputs: &[Input],
+    inputs: &[Input; CARRIERS],
     want: u64,
     pid: u16,
     n: usize,
@@ -86,7 +91,6 @@ fn read_on(
 ) -> Group
     requires frames_len { (length frames.old ≡ frames_length) × (length parts.old ≡ parts_length) }
     requires n_le_last_carrier { n ≤ last_carrier }
-    requires inputs_len { length inputs.now ≡ last_carrier }
 {
     let mut next = g;
     let mut c = 0;
@@ -122,7 +126,7 @@ struct State {
 fn next_super(
     rt: HostRuntime,
     s: State,
-    inputs: &[Input],
+    inputs: &[Input; CARRIERS],
     want: u64,
     n: usize,
     bond: Bond,
@@ -131,7 +135,6 @@ fn next_super(
 ) -> State
     requires frames_len { (length frames.old ≡ frames_length) × (length parts.old ≡ parts_length) }
     requires n_le_last_carrier { n ≤ last_carrier }
-    requires inputs_len { length inputs.now ≡ last_carrier }
 {
     let before = s.count;
     let group = read_on(s.group, inputs, want, bond.pid, n, frames, parts);
@@ -143,7 +146,7 @@ fn next_super(
 fn unbond_with(
     rt: HostRuntime,
     start: State,
-    inputs: &[Input],
+    inputs: &[Input; CARRIERS],
     n: usize,
     bond: Bond,
     frames: &mut [u8],
@@ -151,7 +154,6 @@ fn unbond_with(
 ) -> State
     requires frames_len { (length frames.old ≡ frames_length) × (length parts.old ≡ parts_length) }
     requires n_le_last_carrier { n ≤ last_carrier }
-    requires inputs_len { length inputs.now ≡ last_carrier }
 {
     let mut s = start;
     let mut want: u64 = 0;
@@ -169,7 +171,7 @@ fn unbond_with(
 fn start_and_unbond(
     rt: HostRuntime,
     start: State,
-    inputs: &[Input],
+    inputs: &[Input; CARRIERS],
     n: usize,
     bond: Bond,
     frames: &mut [u8],
@@ -177,16 +179,14 @@ fn start_and_unbond(
 ) -> State
     requires frames_len { (length frames.old ≡ frames_length) × (length parts.old ≡ parts_length) }
     requires n_le_last_carrier { n ≤ last_carrier }
-    requires inputs_len { length inputs.now ≡ last_carrier }
 {
     start_receivers(parts, bond.pid);
     unbond_with(rt, start, inputs, n, bond, frames, parts)
 }
 
 // Two buffers, since each copy is from one to the other: of a frame, then of a super frame, then of the group, then of the stream.
-fn unbond(rt: HostRuntime, start: State, inputs: &[Input], n: usize, bond: Bond) -> State
-    requires n_le_last_carrier { n ≤ last_carrier }
-    requires inputs_len { length inputs.now ≡ last_carrier }
+fn unbond(rt: HostRuntime, start: State, inputs: &[Input; CARRIERS], n: usize, bond: Bond) -> State
+    requires { n ≤ last_carrier }
 {
     let mut frames = [0u8; FRAMES_BYTES];
     let mut parts = [0u8; PARTS_BYTES];

@@ -13,5 +13,4 @@ pub start_and_unbond-requires : goal.start_and_unbond-requires
 start_and_unbond-requires c = record {
   frames_len = (length-replicate {A = ℕ} 398560 0, length-replicate {A = ℕ} 711856 0);
   n_le_last_carrier = search rules;
-  inputs_len = search rules;
 }
