@@ -4,6 +4,9 @@
 # `make setup` does that apart. Measuring and valgrind take an archive for the machine's own processor.
 .PHONY: tools names rust-test tools-test lister-test real run test board archive archive-test limits-test stack-test stack board-test native \
 	bench count memory vectors setup map map-test
+# The static libraries of crates.txt, which are the archive for C.
+BOARD = $(shell sed -n -E 's/^(niranbok_[a-z_]+) staticlib:.*/\1/p' crates.txt)
+
 SHELL = /bin/bash
 .SHELLFLAGS = -o pipefail -c
 
@@ -97,7 +100,7 @@ map-test:
 
 # The board interface as one archive, target/board/libniranbok.a, for include/niranbok.h.
 board:
-	@scripts/prove.sh niranbok
+	@scripts/prove.sh $(BOARD)
 	@$(MAKE) --no-print-directory archive
 
 # The archive alone. The gate says since when rt has proved what there is.
@@ -132,7 +135,7 @@ board-test: setup board
 # this machine's own processor.
 native:
 ifdef EMULATOR
-	@scripts/prove.sh niranbok
+	@scripts/prove.sh $(BOARD)
 	@scripts/archive.sh $(NATIVE) --target $(shell uname -m)-unknown-linux-gnu
 else
 	@$(MAKE) --no-print-directory board

@@ -25,15 +25,15 @@ heads() { # FILE..
         part == "body" { body = body $0 }
         part && /^[}]$/ {
             crate = FILENAME; sub(/.*crates\//, "", crate); sub(/\/.*/, "", crate)
-            if (crate == "niranbok") { crate = body; sub(/^ */, "", crate); if (!sub("::" name "[(].*", "", crate)) crate = "nothing of its name" }
+            if (crate ~ /^niranbok_/) { crate = body; sub(/^ */, "", crate); if (!sub("::" name "[(].*", "", crate)) crate = "nothing of its name" }
             sub(/extern "C" /, "", head); gsub(/ +/, " ", head); gsub(/\( /, "(", head); gsub(/, \)/, ")", head)
             print crate ":" head
             part = ""
         }' "$@" | sort
 }
-calls=$(heads "$root"/crates/niranbok/src/*.rt)
-mapfile -t libraries < <(grep -l -E '^pub (extern "C" )?fn niranbok_' "$root"/crates/*/src/*.rt | grep -v /crates/niranbok/)
+calls=$(heads "$root"/crates/niranbok_*/src/*.rt)
+mapfile -t libraries < <(grep -l -E '^pub (extern "C" )?fn niranbok_' "$root"/crates/*/src/*.rt | grep -v /crates/niranbok_)
 called=$(heads "${libraries[@]}")
 diff <(echo "$called") <(echo "$calls") | sed -n -e 's/^< /without its export: /p' -e 's/^> /exported otherwise than the library has it: /p' || true
-[ "$called" = "$calls" ] || { echo "FAILED: crates/niranbok does not have the libraries' parameters and clauses"; exit 1; }
+[ "$called" = "$calls" ] || { echo "FAILED: the crates niranbok_* do not have the libraries' parameters and clauses"; exit 1; }
 echo "$1 exports the $(echo "$exported" | wc -l) functions of niranbok.h, each once, with the libraries' clauses"

@@ -1,7 +1,10 @@
-// Headers, and packets beside them.
+// The calls of include/niranbok.h that read headers and look at packets, as C has them: each calls the library's function of the same name,
+// and has its clauses, word for word.
+#![tactic(auto)]
+
 ghost use Rattle.std.specs.Prelude.{◌≡◌, length};
 ghost use Rattle.packet.specs.Packets.{place_refusal, rest_of};
-ghost use Rattle.header_calls.specs.Calls.{read_refused, read_remainder, read_memory, write_refused, write_memory};
+ghost use Rattle.header_calls.specs.Calls.{read_refused, read_remainder, read_memory};
 
 // Whether a packet may stand in a slot.
 #[unsafe(no_mangle)]
@@ -33,13 +36,4 @@ pub extern "C" fn niranbok_header_read(
     ensures setting_after { setting.new ≡ read_memory packet.now pid kind setting.old }
 {
     header_calls::niranbok_header_read(packet, pid, kind, setting, remainder)
-}
-
-// Writes the setting's header.
-#[unsafe(no_mangle)]
-pub extern "C" fn niranbok_header_write(packet: &mut [u8], pid: u16, kind: u8, setting: &[u8]) -> u8
-    ensures value { result ≡ write_refused packet.old pid kind setting.now }
-    ensures packet_after { packet.new ≡ write_memory packet.old pid kind setting.now }
-{
-    header_calls_write::niranbok_header_write(packet, pid, kind, setting)
 }

@@ -1,4 +1,7 @@
-// Frames composed, slot by slot.
+// The calls of include/niranbok.h that compose frames, as C has them: each calls the library's function of the same name, and has its
+// clauses, word for word.
+#![tactic(auto)]
+
 ghost use Rattle.std.specs.Prelude.{◌≡◌};
 ghost use Rattle.composer.specs.Calls.{start_refused, start_state, begin_refused, begin_state, begin_memory, put_refused, put_placed, put_state, put_memory, close_refused, close_state, close_memory};
 

@@ -1,4 +1,7 @@
-// Settings.
+// The calls of include/niranbok.h on settings, as C has them: each calls the library's function of the same name, and has its clauses, word
+// for word.
+#![tactic(auto)]
+
 ghost use Rattle.std.specs.Prelude.{◌≡◌};
 ghost use Rattle.setting.specs.Rules.{pid_allowed};
 ghost use Rattle.setting_calls.specs.Calls.{blank_refused, blank_memory, widths_refused, rules_refused};

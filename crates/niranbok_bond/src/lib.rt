@@ -1,4 +1,7 @@
-// One stream bonded over several carriers.
+// The calls of include/niranbok.h for bonded carriers, as C has them: each calls the library's function of the same name, and has its
+// clauses, word for word.
+#![tactic(auto)]
+
 ghost use Rattle.std.specs.Prelude.{◌≡◌, cond, length};
 ghost use Rattle.bond_group.specs.Plan.{planned_of};
 ghost use Rattle.bond_calls.specs.Bonds.{bond_of};

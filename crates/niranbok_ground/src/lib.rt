@@ -1,4 +1,7 @@
-// The counts and the CRC.
+// The calls of include/niranbok.h on numbers and the CRC, as C has them: each calls the library's function of the same name, and has its
+// clauses, word for word.
+#![tactic(auto)]
+
 ghost use Rattle.std.specs.Prelude.{◌≡◌};
 ghost use Rattle.counters.specs.Counters.{first_slot, last_slot, checked, first_stream, last_stream, first_position, last_position, available, count_available};
 ghost use Rattle.crc.specs.Crc.{register_of};

@@ -1,4 +1,7 @@
-// Frames received, packet by packet.
+// The calls of include/niranbok.h that receive frames, as C has them: each calls the library's function of the same name, and has its
+// clauses, word for word.
+#![tactic(auto)]
+
 ghost use Rattle.std.specs.Prelude.{◌≡◌};
 ghost use Rattle.receiver.specs.Calls.{start_refused, start_state, receive_refused, receive_event, receive_remainder, receive_state, receive_memory, hand_out_refused, hand_out_packets, hand_out_memory};
 
