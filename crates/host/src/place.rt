@@ -57,7 +57,8 @@ fn left_of_standard(rt: HostRuntime) -> Option<u64> {
         return None;
     }
     let here = standard_place(rt)?;
-    Some(place(standard_end(rt, &about)).wrapping_sub(here))
+    let end = standard_end(rt, &about).ok()?;
+    Some(end.wrapping_sub(here))
 }
 
 fn left_of_file(file: &File) -> Option<u64> {
