@@ -32,7 +32,7 @@ use Rattle.receiver.specs.Calls.{start_refused}
 use Rattle.runs.specs.Runs.{Each, none, more}
 use Rattle.runs.specs.Demands.{frames_closed}
 use Rattle.runs.proofs.Carried.{slot-first, slot_next}
-use Rattle.runs.specs.Work.{Work, numbers_filled, said as saidBy, headed_behind, headed, frame_of}
+use Rattle.runs.specs.Work.{Work, numbers_filled, said as said_by, headed_behind, headed, frame_of}
 use Rattle.runs.proofs.Composed.{Good, header_read, frame_length_lem}
 use Rattle.runs.proofs.Vouched.{accepted_reading}
 use Rattle.runs.proofs.Cycles.{the_pid, the_packet, packet_long, fit_packet, one_slot, Takes, one_takes, work_of, run_of, run-frames, run_good}
@@ -87,18 +87,18 @@ record Says (position : ℕ) (f : List ℕ) : Type 0 where
 
 module _ (position counter version : ℕ) where
   abbrev h : Setting × Work
-  h = (saidBy counter version (work_of (at position)), work_of (at position))
+  h = (said_by counter version (work_of (at position)), work_of (at position))
 
-  shows_it : shown_by (saidBy counter version (work_of (at position))) ≡ shown_by (at position)
-  unfolding shown_by saidBy saying work_of one_slot
+  shows_it : shown_by (said_by counter version (work_of (at position))) ≡ shown_by (at position)
+  unfolding shown_by said_by saying work_of one_slot
   shows_it = refl
 
-  carries_it : carries the_bond (saidBy counter version (work_of (at position))) ≡ true
-  unfolding carries number_of number_up_to names available saidBy saying work_of one_slot
+  carries_it : carries the_bond (said_by counter version (work_of (at position))) ≡ true
+  unfolding carries number_of number_up_to names available said_by saying work_of one_slot
   carries_it = refl
 
-  slot_1_has_it : bonded_slot the_bond (saidBy counter version (work_of (at position))) 1 ≡ true
-  unfolding bonded_slot number_of number_up_to names available saidBy saying work_of one_slot numbers_filled the_packet
+  slot_1_has_it : bonded_slot the_bond (said_by counter version (work_of (at position))) 1 ≡ true
+  unfolding bonded_slot number_of number_up_to names available said_by saying work_of one_slot numbers_filled the_packet
   slot_1_has_it = refl
 
   says : Good Kind.Extended the_pid h → Says position (frame_of Kind.Extended the_pid h)

@@ -21,7 +21,7 @@ use Rattle.composer.specs.States.{composer_length, composer_bytes, OfItsTypes as
 use Rattle.composer.specs.Calls.{start_refused, start_state}
 use Rattle.receiver.specs.Store.{store_length, numbered}
 use Rattle.receiver.specs.Bytes.{receiver_length}
-use Rattle.receiver.specs.Calls.{start_refused as receiverRefused, start_state as receiverStart}
+use Rattle.receiver.specs.Calls.{start_refused as receiver_refused, start_state as receiver_start}
 use Rattle.runs.specs.Runs.{Each, none, more, OfTypes, started, frames_of}
 use Rattle.runs.specs.Work.{no_work}
 use Rattle.runs.specs.Losses.{Sent, MayHappen, arriving, numbers_in, entire, wanted}
@@ -45,8 +45,8 @@ unfolding start_refused
 started-allowed state pid kind e =
     not-false _ (none_at (none_first ((1, not (eqb (length state) composer_length)) ∷ (2, not (pid_allowed pid)) ∷ (17, not (is_kind kind)) ∷ []) refl e) 1)
 
-pub tuned_allowed : (state : List ℕ) (pid kind : ℕ) → receiverRefused state pid kind ≡ 0 → pid_allowed pid ≡ true
-unfolding receiverRefused
+pub tuned_allowed : (state : List ℕ) (pid kind : ℕ) → receiver_refused state pid kind ≡ 0 → pid_allowed pid ≡ true
+unfolding receiver_refused
 tuned_allowed state pid kind e =
     not-false _ (none_at (none_first ((1, not (eqb (length state) receiver_length)) ∷ (2, not (pid_allowed pid)) ∷ (17, not (is_kind kind)) ∷ []) refl e) 1)
 
@@ -66,9 +66,9 @@ started_alike state pid kind e =
       counts = λ r. refl;
     }
 
-pub tuned_fresh : (state : List ℕ) (pid kind : ℕ) (store : List ℕ) → receiverRefused state pid kind ≡ 0 → length store ≡ store_length (slots_of (kind_of kind))
+pub tuned_fresh : (state : List ℕ) (pid kind : ℕ) (store : List ℕ) → receiver_refused state pid kind ≡ 0 → length store ≡ store_length (slots_of (kind_of kind))
     → Tuned (kind_of kind) pid (tuned_to state pid kind store) (fresh_with (kind_of kind) pid store)
-unfolding tuned_to receiverStart leaves
+unfolding tuned_to receiver_start leaves
 tuned_fresh state pid kind store e l = record { state_is = rw e; store_is = refl; set = waiting-set (kind_of kind) pid store (tuned_allowed state pid kind e) l }
 
 pub always_room : AlwaysRoom

@@ -31,7 +31,7 @@ use Rattle.slices.specs.Slices.{any_below, some_at_least}
 use Rattle.receiver.specs.Store.{store_length, numbered, slots_for}
 use Rattle.receiver.specs.Receiving.{waiting}
 use Rattle.receiver.specs.Bytes.{receiver_length}
-use Rattle.receiver.specs.Calls.{start_refused as receiverRefused}
+use Rattle.receiver.specs.Calls.{start_refused as receiver_refused}
 use Rattle.receiver.proofs.Store.{length-numbered, has_packets}
 use Rattle.runs.specs.Runs.{Call, Each, none, more, started, frames_of}
 use Rattle.runs.specs.Work.{Work, numbers_filled, said, headed_behind, headed, frame_of, added, taken as Wtaken}
@@ -423,8 +423,8 @@ nothing_wanted =
 
 -- ---- the same eighteen frames by firmware's calls
 
-tuned_accepted : receiverRefused (replicate receiver_length 0) the_pid plain_kind ≡ 0
-unfolding receiverRefused first_of kind_number
+tuned_accepted : receiver_refused (replicate receiver_length 0) the_pid plain_kind ≡ 0
+unfolding receiver_refused first_of kind_number
 tuned_accepted = refl
 
 abbrev the_run : RunOfCalls the_pid plain_kind

@@ -12,7 +12,7 @@ use Rattle.composer.specs.Calls.{begin_refused, put_refused, close_refused}
 use Rattle.receiver.specs.Store.{store_length}
 use Rattle.receiver.specs.Table.{is_ready}
 use Rattle.receiver.specs.Bytes.{receiver_of}
-use Rattle.receiver.specs.Calls.{start_refused as receiverRefused, receive_refused, hand_out_refused}
+use Rattle.receiver.specs.Calls.{start_refused as receiver_refused, receive_refused, hand_out_refused}
 use Rattle.runs.specs.Firmware.{started_as, after_calls, Demultiplexer, tuned_to, heard_all, ready_bytes}
 use Rattle.runs.specs.Demands.{RunOfCalls}
 
@@ -50,7 +50,7 @@ ClosesAccepted =
 -- a receiver that was started, and was given any packets with a store of its length
 pub record Reached (pid kind : ℕ) : Type 0 where
   pub state : List ℕ
-  pub accepted : receiverRefused state pid kind ≡ 0
+  pub accepted : receiver_refused state pid kind ≡ 0
   pub store : List ℕ
   pub store_long : length store ≡ store_length (slots_of (kind_of kind))
   pub packets : List (List ℕ)

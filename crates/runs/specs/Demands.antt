@@ -7,7 +7,7 @@ use Rattle.setting.specs.Size.{slots_of, streams_of}
 use Rattle.packet.specs.Packets.{packet_length}
 use Rattle.composer.specs.Calls.{start_refused}
 use Rattle.receiver.specs.Store.{store_length}
-use Rattle.receiver.specs.Calls.{start_refused as receiverRefused}
+use Rattle.receiver.specs.Calls.{start_refused as receiver_refused}
 use Rattle.runs.specs.Runs.{Each}
 use Rattle.runs.specs.Firmware.{FirmwareCall, OfBytes, started_as, Closed, closed_frames, Demultiplexer, tuned_to, given_out, WithRoom}
 use Rattle.runs.specs.Losses.{kept, Sent, MayHappen, InARowAtMost, arriving, wanted}
@@ -41,7 +41,7 @@ pub record LostOrSpoiled (limit pid kind : ℕ) (sent : List Sent) : Type 0 wher
 -- 'A fresh receiver set to both, and asked once, with room, for each stream number at every ready frame,'
 pub record FreshAndAsked (pid kind r : ℕ) (packets : List (List ℕ)) : Type 0 where
   pub state : List ℕ
-  pub accepted : receiverRefused state pid kind ≡ 0
+  pub accepted : receiver_refused state pid kind ≡ 0
   pub store : List ℕ
   pub store_long : length store ≡ store_length (slots_of (kind_of kind))
   pub from : first_stream ≤ r
@@ -58,7 +58,7 @@ hands_out {pid} {kind} {r} {packets} a = given_out r a.buffers (tuned_to a.state
 abbrev pub AlwaysRoom : Type 0
 AlwaysRoom =
     (pid kind r : ℕ) (state store : List ℕ) (buffers : ℕ → List ℕ) (packets : List (List ℕ))
-    → receiverRefused state pid kind ≡ 0 → length store ≡ store_length (slots_of (kind_of kind)) → first_stream ≤ r
+    → receiver_refused state pid kind ≡ 0 → length store ≡ store_length (slots_of (kind_of kind)) → first_stream ≤ r
     → ((n : ℕ) → store_length (slots_of (kind_of kind)) ≤ length (buffers n))
     → WithRoom r buffers (tuned_to state pid kind store) packets
 

@@ -6,7 +6,7 @@ use Rattle.composer.specs.Calls.{start_state, begin_refused, begin_state, begin_
 use Rattle.receiver.specs.declared.Event.{Event}
 use Rattle.receiver.specs.Store.{slots_for}
 use Rattle.receiver.specs.Bytes.{event_number, receiver_of}
-use Rattle.receiver.specs.Calls.{start_state as receiverStart, receive_event, receive_state, receive_memory, hand_out_packets, hand_out_memory}
+use Rattle.receiver.specs.Calls.{start_state as receiver_start, receive_event, receive_state, receive_memory, hand_out_packets, hand_out_memory}
 
 -- ---- at the multiplexer
 
@@ -97,7 +97,7 @@ pub record Demultiplexer : Type 0 where
 
 -- behind `niranbok_receiver_start`
 unfoldable pub tuned_to : List ℕ → ℕ → ℕ → List ℕ → Demultiplexer
-tuned_to state pid kind store = record { state = receiverStart state pid kind; store = store }
+tuned_to state pid kind store = record { state = receiver_start state pid kind; store = store }
 
 -- behind `niranbok_receiver_receive` of a packet, and of packets one after another
 unfoldable pub heard : Demultiplexer → List ℕ → Demultiplexer

@@ -9,7 +9,7 @@ use Rattle.setting.specs.declared.Size.{Size}
 use Rattle.setting.specs.Size.{slots_of}
 use Rattle.packet.specs.Packets.{frame_length}
 use Rattle.setting_bytes.specs.Settings.{setting_length, setting_of}
-use Rattle.composer.specs.Slots.{cleared as clearedFrame}
+use Rattle.composer.specs.Slots.{cleared as cleared_frame}
 use Rattle.composer.specs.Composing.{begin_refusal}
 use Rattle.composer.specs.States.{composer_length, composer_of}
 use Rattle.composer.proofs.Same.{opened-bytes, all-bytes, coded_by_counter}
@@ -73,7 +73,7 @@ returns c =
     let coded = coded_by_counter b (begin_counter _ _ _ (past (goal.at.returns c).Else-refusal-ne0)) in let all = begin_done b s a.frame.now long c.if-setting-ne-SETTING_BYTES.false c.begin_refusal-refusal.ensures c.if-refusal-ne0.false
     (c.«open».ensures
     ∙ sym (opened-bytes b long (all-bytes b c.are_bytes.ensures) coded s c.if-setting-ne-SETTING_BYTES.false (all-bytes s c.are_bytes-2.ensures)))
-    (c.clear.ensures ∙ ap (λ (n : ℕ). clearedFrame n a.frame.now) (slots-told (goal.at.returns c).After-size_of-size)) in record {
+    (c.clear.ensures ∙ ap (λ (n : ℕ). cleared_frame n a.frame.now) (slots-told (goal.at.returns c).After-size_of-size)) in record {
       value = all.0;
       state_after = all.1.0;
       frame_after = all.1.1;
