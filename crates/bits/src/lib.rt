@@ -10,14 +10,14 @@ ghost use Rattle.bits.specs.Halves.{halves_into};
 pub fn wide(byte: u8) -> u64
     ensures { (result ≡ byte) × (result ≤ 255) }
 {
-    byte as u64
+    u64::from(byte)
 }
 
 // A number of 16 bits from its two bytes.
 pub fn word(high: u8, low: u8) -> u16
     ensures { result ≡ high * 256 + low }
 {
-    (high as u16) * 256 + low as u16
+    u16::from_be_bytes([high, low])
 }
 
 // A number of 64 bits from its bytes, the first of them the highest; of more than eight bytes, that of the last eight. A caller cuts the
@@ -25,11 +25,12 @@ pub fn word(high: u8, low: u8) -> u16
 pub fn long(bytes: &[u8]) -> u64
     ensures { result ≡ number (run 8 bytes.now) % 2 ^ 64 }
 {
+    if let Some(&eight) = bytes.last_chunk::<8>() {
+        return u64::from_be_bytes(eight);
+    }
     let mut r: u64 = 0;
-    let mut i = 0;
-    while i < bytes.len() {
-        r = (r << 8) + wide(bytes[i]);
-        i += 1;
+    for &byte in bytes {
+        r = (r << 8) + u64::from(byte);
     }
     r
 }
@@ -38,15 +39,10 @@ pub fn long(bytes: &[u8]) -> u64
 pub fn pack_halves(part: &mut [u8], values: &[u8])
     ensures { part.new ≡ halves_into part.old values.now }
 {
-    if values.len() / 2 != part.len() {
+    if values.len() / 2 != part.len() || values.len() % 2 != 0 {
         return;
     }
-    if values.len() % 2 != 0 {
-        return;
-    }
-    let mut k = 0;
-    while k < part.len() {
-        part[k] = values[2 * k] % 16 * 16 + values[2 * k + 1] % 16;
-        k += 1;
+    for (k, byte) in part.iter_mut().enumerate() {
+        *byte = values[2 * k] % 16 * 16 + values[2 * k + 1] % 16;
     }
 }

@@ -158,10 +158,6 @@ module _ (carriers : ℕ) (frames : List ℕ) where
                   get_or-set_other (set notes (2 * n) p) (2 * n + 1) (2 * i + 1) f 0 (λ x. d (omega arith)) ∙ get_or-set_other notes (2 * n) (2 * i + 1) p 0 (λ x. omega arith) ∙ o.further;
             }
 
-    -- for which there is room
-    pub noted_room : (p : ℕ) → 2 * n + 1 < length (set notes (2 * n) p)
-    noted_room p = let few = c.few in let long = c.long in rw (length-set notes (2 * n) p) (omega arith)
-
     -- it looks at none
     pub noted_less : is_due carriers frames v ≡ false → Noted carriers frames notes n (v + 1)
     noted_less t =
@@ -211,15 +207,9 @@ module _ {carriers : ℕ} {frames : List ℕ} (a : Walkable carriers frames) (t 
   before_few : frames_before frames k ≤ last_position * (last_carrier - 1)
   before_few = let f = frames_few frames k a.short in let few = a.few in omega arith
 
-  -- the carrier is there, and the next one has its frames behind these
-  pub carrier_in : k < length frames
-  carrier_in = let few = a.few in let long = a.for_each in omega arith
-
+  -- the next one has its frames behind these
   pub carrier-next : {frame : ℕ} → frame ≡ frames_before frames k → (frame + get_or frames k 0 ≡ frames_before frames (k + 1)) × (k + 1 ≤ carriers)
   carrier-next is = (ap (λ (n : ℕ). n + get_or frames k 0) is ∙ sym (ap (frames_before frames) (add-one k) ∙ frames-next frames k), omega arith)
-
-  pub carrier_less : carriers - (k + 1) < carriers - k
-  carrier_less = omega arith
 
   module _ {notes : List ℕ} {n : ℕ} (c : Noted carriers frames notes n (last_carrier * t + k)) where
     abbrev f : ℕ
@@ -246,12 +236,6 @@ module _ {carriers : ℕ} {frames : List ℕ} (a : Walkable carriers frames) (t 
           frame_on = omega arith;
           on = omega arith;
         }
-
-    pub here-first : 2 * n < length notes
-    here-first = let few = a.few in let noted = c.few in let long = c.long in omega arith
-
-    pub here_room : (p : ℕ) → 2 * n + 1 < length (set notes (2 * n) p)
-    here_room p = let few = a.few in noted_room carriers frames c (omega arith) p
 
     pub here-more : t * get_or frames k 0 % round_twelfths ≡ 0
         → Noted carriers frames

@@ -1,10 +1,12 @@
 -- What spreading and gathering answer, and what they leave.
-use Rattle.std.specs.Prelude.{ℕ, ◌*◌, ◌%◌, cond, not, List, [], ◌∷◌, ◌++◌, ltb, eqb, length, take, drop}
+use Rattle.std.specs.Prelude.{ℕ, Result, Ok, Err, ◌*◌, ◌%◌, cond, not, List, [], ◌∷◌, ◌++◌, ltb, eqb, length, take, drop}
 use Rattle.slices.specs.Slices.{copied, over}
 use Rattle.setting.specs.Refusal.{Check, first_of}
 use Rattle.packet.specs.Packets.{packet_length, slot, some_unfit_in}
+use Rattle.refusals.specs.Refusals.{number}
+use Rattle.header_check.specs.declared.Refused.{Refused}
+use Rattle.header_check.specs.OnPaper.{Refusal}
 use Rattle.bond_group.specs.declared.Bond.{Bond}
-use Rattle.bond.specs.declared.Moved.{Moved}
 use Rattle.bond_group.specs.Group.{order}
 use Rattle.bond_group.specs.Standing.{plan_checks, group_refusal, some_carries}
 
@@ -24,6 +26,16 @@ gather_checks b group out =
     plan_checks b group ++ ((13, not (some_carries b group)) ∷ (15, ltb out (packet_length * length (order b group))) ∷ [])
 
 -- ---- the calls
+
+-- refusal 0 and the number of packets, or the refusal and 0
+pub record Moved : Type 0 where
+  pub refusal : Refusal
+  pub packets : ℕ
+
+-- those of a result
+abbrev pub moved_in : Result ℕ Refused → Moved
+moved_in (Ok packets) = record { refusal = record { number = 0; remainder = 0 }; packets = packets }
+moved_in (Err why) = record { refusal = record { number = number why.refusal; remainder = why.remainder }; packets = 0 }
 
 -- what is answered by a refusal's number: with 0 how many packets the group takes, with any other number none
 abbrev pub answered : Bond → List ℕ → ℕ → Moved

@@ -21,25 +21,27 @@ pub(crate) const NOTES: usize = 2 * CARRIERS * ROUND_TWELFTHS;
 // Room for each place of a round, and for one more: a packet is listed first and tested afterwards.
 pub(crate) const LISTED: usize = CARRIERS * ROUND_TWELFTHS + 1;
 
+// Where a group's packets are bonded: how many carriers it has, the number of frames of each, and the bonded slots of each frame, slot i in
+// bit i.
+#[derive(Clone, Copy)]
+pub(crate) struct Plan<'a> {
+    pub carriers: usize,
+    pub frames: &'a [u8],
+    pub slots: &'a [u64],
+}
+
 // Notes the places at one twelfth of the first round, behind those noted before. A note is the place's packet, and how many packets it moves
 // on in each round. Answers how many places are noted now.
-fn note_twelfth(
-    notes: &mut [u16],
-    noted: usize,
-    twelfth: usize,
-    carriers: usize,
-    frames: &[u8],
-) -> usize
-    requires walkable { Walkable carriers frames.now }
+fn note_twelfth(notes: &mut [u16], noted: usize, twelfth: usize, plan: Plan) -> usize
+    requires walkable { Walkable plan.carriers plan.frames.now }
     requires twelfth_lt_round_twelfths { twelfth < round_twelfths }
-    requires noted { Noted carriers frames.now notes.old noted (last_carrier * twelfth) }
-    ensures { Noted carriers frames.now notes.new result (last_carrier * (twelfth + 1)) }
+    requires noted { Noted plan.carriers plan.frames.now notes.old noted (last_carrier * twelfth) }
+    ensures { Noted plan.entry.carriers plan.entry.frames.now notes.new result (last_carrier * (twelfth + 1)) }
 {
     let mut n = noted;
     let mut frame = 0;
-    let mut k = 0;
-    while k < carriers {
-        let f = frames[k] as usize;
+    for count in &plan.frames[..plan.carriers] {
+        let f = *count as usize;
         let part = twelfth * f;
         if part % ROUND_TWELFTHS == 0 {
             notes[2 * n] = (FRAME_PACKETS * frame + part / ROUND_TWELFTHS) as u16;
@@ -47,22 +49,19 @@ fn note_twelfth(
             n += 1;
         }
         frame += f;
-        k += 1;
     }
     n
 }
 
 // Notes the places of the first round. Answers how many there are.
-pub(crate) fn note_round(notes: &mut [u16], carriers: usize, frames: &[u8]) -> usize
-    requires walkable { Walkable carriers frames.now }
+pub(crate) fn note_round(notes: &mut [u16], plan: Plan) -> usize
+    requires walkable { Walkable plan.carriers plan.frames.now }
     requires notes_len { length notes.old ≡ 2 * round_steps }
-    ensures { Noted carriers frames.now notes.new result round_steps }
+    ensures { Noted plan.entry.carriers plan.entry.frames.now notes.new result round_steps }
 {
     let mut noted = 0;
-    let mut twelfth = 0;
-    while twelfth < ROUND_TWELFTHS {
-        noted = note_twelfth(notes, noted, twelfth, carriers, frames);
-        twelfth += 1;
+    for twelfth in 0..ROUND_TWELFTHS {
+        noted = note_twelfth(notes, noted, twelfth, plan);
     }
     noted
 }
@@ -92,14 +91,12 @@ pub(crate) fn list_round(
     ensures upper_bound { result ≤ noted }
 {
     let mut n = 0;
-    let mut e = 0;
-    while e < noted {
+    for e in 0..noted {
         let m = notes[2 * e] as usize + round * notes[2 * e + 1] as usize;
         list[n] = m as u16;
         if is_marked(slots, m) {
             n += 1;
         }
-        e += 1;
     }
     n
 }

@@ -41,12 +41,12 @@ pub extern "C" fn niranbok_read_headers(
         &mut slots[0..0],
     );
     *is_carried = 0;
-    if headers.is_carried {
+    *packets = 0;
+    if let Ok(Some(bonded)) = headers {
         *is_carried = 1;
+        *packets = bonded;
     }
-    *packets = headers.packets;
-    *remainder = headers.refusal.remainder;
-    headers.refusal.number
+    header_check::answer(headers, remainder)
 }
 
 // Writes a stream's packets into the bonded slots of a group, in order.
@@ -76,9 +76,8 @@ pub extern "C" fn niranbok_spread(
             original_network_id,
         },
     );
-    *packets = spread.packets;
-    *remainder = spread.refusal.remainder;
-    spread.refusal.number
+    *packets = spread.unwrap_or(0);
+    header_check::answer(spread, remainder)
 }
 
 // Copies the bonded slots of a group, in order, to the front of `out`.
@@ -108,7 +107,6 @@ pub extern "C" fn niranbok_gather(
             original_network_id,
         },
     );
-    *packets = gathered.packets;
-    *remainder = gathered.refusal.remainder;
-    gathered.refusal.number
+    *packets = gathered.unwrap_or(0);
+    header_check::answer(gathered, remainder)
 }

@@ -6,15 +6,18 @@ use mathlib.Core.List.{List, [], ◌∷◌, ◌++◌}
 use native.Mathlib.Omega.{arith}
 use native.Mathlib.Numerals.{add-one}
 use lib.Count.{ones}
-use lib.ListN.{length, set, replicate}
-use lib.Seq.{take-nil, drop-nil}
+use lib.ListN.{length, set, replicate, drop, length-replicate, drop_of_length-le}
+use Rattle.std.proofs.Common.{min, inl, inr}
+use Rattle.std.proofs.lemmas.Bool.{cases_lt}
+use Rattle.std.proofs.lemmas.List.{take-replicate}
+use lib.Seq.{take_all, drop-nil}
 use Rattle.slices.specs.Slices.{copied}
 use Rattle.counters.specs.Counters.{last_carrier}
 use Rattle.bond_places.specs.Walk.{most_frames}
-use Rattle.header_check.specs.declared.Refusal.{Refusal}
+use Rattle.header_check.specs.OnPaper.{Refusal}
 use Rattle.header_check.specs.Checking.{bare}
 use Rattle.bond_group.specs.declared.Bond.{Bond}
-use Rattle.bond_group.specs.declared.headers.Headers.{Headers}
+use Rattle.bond_group.specs.Plan.{Headers}
 use Rattle.bond_group.specs.declared.headers.Shown.{Shown}
 use Rattle.bond_group.specs.Group.{frames_in, said, carries}
 use Rattle.bond_group.specs.Standing.{shown_by}
@@ -58,19 +61,18 @@ copied_twice (x ∷ into) (y ∷ xs) (z ∷ ys) e = ap (λ (l : List ℕ). z ∷
 copied_again : {now next : List ℕ} (into xs ys : List ℕ) → now ≡ copied into xs → length xs ≡ length ys → next ≡ copied now ys → next ≡ copied into ys
 copied_again into xs ys e l f = f ∙ ap (λ (m : List ℕ). copied m ys) e ∙ copied_twice into xs ys l
 
--- no zero yet, and one more
-pub cleared_none : (into : List ℕ) → into ≡ copied into (replicate 0 0)
+-- zeros written over, as many as there is room for
+pub zeros_over : (into : List ℕ) (m k : ℕ) → k ≡ min (length into) m → (ys : List ℕ) → ys ≡ replicate k 0 → ys ++ drop k into ≡ copied into (replicate m 0)
 unfolding copied
-cleared_none into = sym (ap (λ (l : List ℕ). l ++ into) (take-nil (length into)))
-
-zero_more : (into : List ℕ) (j : ℕ) → set (copied into (replicate j 0)) j 0 ≡ copied into (replicate (suc j) 0)
-unfolding copied
-zero_more [] j = ap (λ (l : List ℕ). set l j 0) (copied_nowhere (replicate j 0)) ∙ sym (copied_nowhere (replicate (suc j) 0))
-zero_more (x ∷ into) zero = ap (λ (l : List ℕ). 0 ∷ l) (cleared_none into)
-zero_more (x ∷ into) (suc j) = ap (λ (l : List ℕ). 0 ∷ l) (zero_more into j)
-
-pub cleared_more : (into : List ℕ) (j : ℕ) → set (copied into (replicate j 0)) j 0 ≡ copied into (replicate (j + 1) 0)
-cleared_more into j = zero_more into j ∙ ap (λ (k : ℕ). copied into (replicate k 0)) (sym (add-one j))
+zeros_over into m k e ys f =
+    elim (cases_lt (length into) m) [
+      | inl l ↦
+          let short : k ≡ length into = omega arith in
+          rw (f, short, length-replicate {A = ℕ} m 0, take-replicate {X = ℕ} (length into) m 0 (omega arith), drop_of_length-le into {i = length into} (omega arith), drop_of_length-le into {i = m} (omega arith))
+      | inr l ↦
+          let whole : k ≡ m = omega arith in
+          rw (f, whole, length-replicate {A = ℕ} m 0, take_all {A = ℕ} (length into) (replicate m 0) (rw (length-replicate {A = ℕ} m 0) l))
+    ]
 
 -- ---- the plan as it is written
 

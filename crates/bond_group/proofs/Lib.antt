@@ -6,3 +6,4 @@ pub mod Passing
 pub mod Lent
 pub mod Through
 pub mod Remainders
+mod Uncarried

@@ -14,7 +14,7 @@ use Rattle.setting.specs.Refusal.{NoneHolds, first_of}
 use Rattle.setting.specs.Rules.{pid_allowed}
 use Rattle.setting.proofs.Refusals.{numbered_append, numbered, none_first, none_at, onward, at_once, never_first}
 use Rattle.setting.proofs.Fields.{at_most}
-use Rattle.header_check.specs.declared.Refusal.{Refusal}
+use Rattle.header_check.specs.OnPaper.{Refusal}
 use Rattle.header_check.specs.Checking.{read_checks, bare}
 use Rattle.header_check.proofs.Accepted.{numbered_read}
 use Rattle.header_check.proofs.Asked.{refused_bare}

@@ -16,9 +16,9 @@ use Rattle.setting.specs.Setting.{blank}
 use Rattle.setting.specs.Refusal.{Check, NoneHolds, first_of}
 use Rattle.setting.specs.Rules.{pid_allowed}
 use Rattle.setting.proofs.Refusals.{answers, first_none, onward, at_once, none_append, none_before, none_behind, none_first, never_first}
-use Rattle.header_check.specs.declared.Checked.{Checked}
+use Rattle.header_check.specs.OnPaper.{Checked}
 use Rattle.header_layout.specs.Header.{header_length, reading}
-use Rattle.header_check.specs.declared.Refusal.{Refusal}
+use Rattle.header_check.specs.OnPaper.{Refusal}
 use Rattle.header_check.specs.Checking.{read_checks, read_refusal, bare, refusal_by, parts_of, checked_of}
 use Rattle.header_check.proofs.Accepted.{numbered_read}
 use Rattle.header_check.proofs.Asked.{refusal-shown, refusal_is, parts_are, refused_bare}

@@ -2,7 +2,7 @@
 use Rattle.std.specs.Prelude.{ℕ, ◌*◌, ◌<◌, ◌≡◌, List}
 use Rattle.setting.specs.declared.Kind.{Kind}
 use Rattle.setting.specs.Refusal.{NoneHolds}
-use Rattle.header_check.specs.declared.Refusal.{Refusal}
+use Rattle.header_check.specs.OnPaper.{Refusal}
 use Rattle.header_check.specs.Checking.{checked_of}
 use Rattle.header_check.specs.Demands.{OnlyBesideSeven}
 use Rattle.packet.specs.Packets.{slot}

@@ -1,13 +1,14 @@
 -- The plan of a group: what its headers say of the carriers and of the stream.
-use Rattle.std.specs.Prelude.{ℕ, zero, suc, ◌+◌, ◌-◌, Bool, false, cond, ◌||◌, List, [], ◌∷◌, eqb, set, replicate}
+use Rattle.std.specs.Prelude.{ℕ, zero, suc, ◌+◌, ◌-◌, Bool, true, false, cond, ◌||◌, List, [], ◌∷◌, eqb, set, replicate, Result, Ok, Err, Option, Some, None}
 use Rattle.std.specs.Int.Count.{ones}
 use Rattle.slot_bits.specs.Bits.{slots_as_bits}
 use Rattle.counters.specs.Counters.{first_slot, last_slot, last_carrier}
 use Rattle.setting.specs.declared.Setting.{Setting}
 use Rattle.setting.specs.Refusal.{first_of}
-use Rattle.header_check.specs.declared.Refusal.{Refusal}
+use Rattle.refusals.specs.Refusals.{number}
+use Rattle.header_check.specs.declared.Refused.{Refused}
+use Rattle.header_check.specs.OnPaper.{Refusal}
 use Rattle.bond_group.specs.declared.Bond.{Bond}
-use Rattle.bond_group.specs.declared.headers.Headers.{Headers}
 use Rattle.bond_places.specs.Walk.{most_frames}
 use Rattle.bond_group.specs.Group.{frames_in, said, carries, bonded_slot}
 use Rattle.bond_group.specs.Standing.{group_checks, plan_checks, group_refusal}
@@ -25,7 +26,19 @@ pub record Planned : Type 0 where
   pub refusal : Refusal
   pub plan : Plan
 
--- what a call answers of that
+-- what a call answers of that: refusal 0, whether one of the headers carries the stream, and how many bonded slots there are; or the refusal and zeros
+pub record Headers : Type 0 where
+  pub refusal : Refusal
+  pub is_carried : Bool
+  pub packets : ℕ
+
+-- those of a result
+abbrev pub headers_in : Result (Option ℕ) Refused → Headers
+headers_in (Ok (Some packets)) = record { refusal = record { number = 0; remainder = 0 }; is_carried = true; packets = packets }
+headers_in (Ok None) = record { refusal = record { number = 0; remainder = 0 }; is_carried = false; packets = 0 }
+headers_in (Err why) = record { refusal = record { number = number why.refusal; remainder = why.remainder }; is_carried = false; packets = 0 }
+
+-- those of a plan
 abbrev pub headers_of : Planned → Headers
 headers_of p = record { refusal = p.refusal; is_carried = p.plan.is_carried; packets = p.plan.packets }
 

@@ -7,7 +7,7 @@ use Rattle.counters.specs.Counters.{first_position, within, last_slot, last_carr
 use Rattle.setting.specs.Setting.{blank}
 use Rattle.setting.specs.Refusal.{Check, first_of}
 use Rattle.setting.specs.Rules.{pid_allowed}
-use Rattle.header_check.specs.declared.Refusal.{Refusal}
+use Rattle.header_check.specs.OnPaper.{Refusal}
 use Rattle.header_check.specs.Checking.{read_checks, refusal_by}
 use Rattle.packet.specs.Packets.{frame_length, slot}
 use Rattle.bond_group.specs.declared.Bond.{Bond}

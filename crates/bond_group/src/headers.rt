@@ -1,5 +1,5 @@
 // The headers of a group, each read once: whether they stand where they should, and what they say of the stream.
-ghost use Rattle.std.specs.Prelude.{◌≡◌, true, ◌≤◌, ◌%◌, length, set};
+ghost use Rattle.std.specs.Prelude.{◌≡◌, true, ◌≤◌, ◌%◌, length, set, Ok, is_some, unwrap_or};
 ghost use Rattle.std.specs.Int.Count.{ones};
 ghost use Rattle.counters.specs.Counters.{first_slot, last_slot, last_stream, last_position, last_carrier};
 ghost use Rattle.slices.specs.Slices.{copied};
@@ -10,17 +10,20 @@ ghost use Rattle.setting.specs.Refusal.{first_of};
 ghost use Rattle.setting.specs.Rules.{pid_allowed};
 ghost use Rattle.setting_pairs.specs.Identifiers.{ids_apart, ids_length};
 ghost use Rattle.header_layout.specs.Header.{header_length, reading};
+ghost use Rattle.refusals.specs.Refusals.{answer};
+ghost use Rattle.header_check.specs.OnPaper.{on_paper};
 ghost use Rattle.header_check.specs.Checking.{bare, parts_of};
 ghost use Rattle.packet.specs.Packets.{frame_length};
 ghost use Rattle.bond_places.specs.Order.{frame_packets};
 ghost use Rattle.bond_group.specs.Group.{has_number, number_of, carries};
 ghost use Rattle.bond_group.specs.Standing.{shown_by, is_last, is_end, next_carrier, next_position, standing_checks};
-ghost use Rattle.bond_group.specs.Plan.{passing, marks, nothing_seen, headers_of, no_plan, planned_by};
+ghost use Rattle.bond_group.specs.Plan.{passing, marks, nothing_seen, headers_in, headers_of, planned_by};
 
 use crate::Bond;
-use counters::{FramePosition, RelativeNumber, RelativeNumberAnswer, SLOTS, STREAMS};
-use header_check::{Checked, Refusal};
+use counters::{FramePosition, RelativeNumber, SLOTS, STREAMS};
+use header_check::{Refused, Said};
 use packet::{FRAME_BYTES, PACKET_BYTES};
+use refusals::Refusal;
 use setting::{Kind, limits};
 
 // The most carriers of a group, and the most frames.
@@ -38,25 +41,17 @@ pub struct Shown {
     pub frame_position: FramePosition,
 }
 
-// What the headers of a group say of a stream: refusal 0, whether one of them carries it, and how many bonded slots there are; or the
-// refusal and zeros.
-#[derive(Clone, Copy)]
-pub struct Headers {
-    pub refusal: Refusal,
-    pub is_carried: bool,
-    pub packets: usize,
-}
-
 // The stream's relative number in a header, or 0 if the header does not carry it. `ts` and `os` start at the first TS_id and at the first
-// original_network_id. The contract says so for every setting with these identifiers.
+// original_network_id. The contract says so for every setting with these identifiers. A number and no `Option`, since specs/ have the number, with
+// 0 for no stream.
 fn number_of(ts: &[u8], os: &[u8], availability: u16, b: Bond) -> u8
     requires { (ids_length 4 ≤ length ts.now) × (ids_length 4 ≤ length os.now) }
     ensures value { (s : Setting) → s.availability ≡ availability → s.ts_id ≡ ids_apart 4 last_stream ts.now → s.original_network_id ≡ ids_apart 4 last_stream os.now → result ≡ number_of b s }
     ensures upper_bound { result ≤ last_stream }
 {
     let mut number = 0u8;
-    let mut k = 0;
-    while k < STREAMS {
+    // By number, since a stream's two identifiers stand apart in two lists.
+    for k in 0..STREAMS {
         let at = header_layout::STREAM_BYTES as usize * k;
         let ts_id = bits::word(ts[at], ts[at + 1]);
         let network_id = bits::word(os[at], os[at + 1]);
@@ -68,7 +63,6 @@ fn number_of(ts: &[u8], os: &[u8], availability: u16, b: Bond) -> u8
                 }
             }
         }
-        k += 1;
     }
     number
 }
@@ -80,46 +74,30 @@ fn marks_of(numbers: &[u8], r: RelativeNumber) -> u64
     ensures { result ≡ slots_as_bits (passing (has_number numbers.now r.0) first_slot last_slot) }
 {
     let mut marks = [false; SLOTS];
-    let mut i = 0;
-    while i < SLOTS {
-        marks[i] = (r.0 != 0) & (numbers[i] == r.0);
-        i += 1;
+    for (i, mark) in marks.iter_mut().enumerate() {
+        *mark = (r.0 != 0) & (numbers[i] == r.0);
     }
     slot_bits::slots_as_bits(&marks)
 }
 
-// What a header says of the stream: whether it carries it, and in which slots, slot i in bit i.
-#[derive(Clone, Copy)]
-struct Bonded {
-    is_carried: bool,
-    marks: u64,
-}
-
-fn bonded_by(packet: &[u8], heard: Checked, b: Bond) -> Bonded
+// In which slots a header carries the stream, slot i in bit i; none if it does not carry it.
+fn bonded_by(packet: &[u8], said: Said, b: Bond) -> Option<u64>
     requires packet_len { length packet.now ≡ header_length }
-    requires heard_value { heard ≡ parts_of (bare 0) (reading Kind.Extended packet.now) }
-    ensures is_carried_value { (result.is_carried ≡ carries b (reading Kind.Extended packet.now)) × (result.marks ≡ marks b (reading Kind.Extended packet.now)) }
-    ensures marks_bound { ones result.marks ≤ frame_packets }
+    requires said_value { on_paper (Ok said) ≡ parts_of (bare 0) (reading Kind.Extended packet.now) }
+    ensures is_carried { is_some result ≡ carries b (reading Kind.Extended packet.now) }
+    ensures marks { unwrap_or result 0 ≡ marks b (reading Kind.Extended packet.now) }
+    ensures marks_bound { ones (unwrap_or result 0) ≤ frame_packets }
 {
     let number = number_of(
         &packet[header_layout::IDENTIFIERS..header_layout::CONTROL],
         &packet[header_layout::IDENTIFIERS + 2..header_layout::CONTROL],
-        heard.availability,
+        said.availability,
         b,
     );
-    let RelativeNumberAnswer::Is(r) = RelativeNumber::new(number) else {
-        return Bonded {
-            is_carried: false,
-            marks: 0,
-        };
-    };
+    let r = RelativeNumber::new(number).ok()?;
     let mut numbers = [0u8; SLOTS];
     header_check::read_numbers(&mut numbers, packet, Kind::Extended);
-    let marks = marks_of(&numbers, r);
-    Bonded {
-        is_carried: true,
-        marks,
-    }
+    Some(marks_of(&numbers, r))
 }
 
 // What is taken for the header before the first one.
@@ -135,16 +113,15 @@ fn nothing_shown() -> Shown
     }
 }
 
-fn shown_by(heard: Checked) -> Shown
-    ensures { (s : Setting) → heard ≡ parts_of (bare 0) s → result ≡ shown_by s }
+fn shown_by(said: Said) -> Shown
+    ensures { (s : Setting) → on_paper (Ok said) ≡ parts_of (bare 0) s → result ≡ shown_by s }
 {
-    let frame_position = heard.frame_position;
     Shown {
-        group_id: heard.group_id,
-        number_of_carriers: heard.number_of_carriers,
-        carrier_sequence: heard.carrier_sequence,
-        number_of_frames: heard.number_of_frames,
-        frame_position,
+        group_id: said.group_id,
+        number_of_carriers: said.number_of_carriers,
+        carrier_sequence: said.carrier_sequence,
+        number_of_frames: said.number_of_frames,
+        frame_position: said.frame_position,
     }
 }
 
@@ -190,87 +167,67 @@ fn next_position(h: Shown) -> FramePosition
 }
 
 // Refusal 14: whether a header follows the one before it, `behind`, and has the first header's group id.
-fn standing_refusal(h: Shown, behind: Shown, carriers: u8, group_id: u8) -> u8
+fn standing_refusal(h: Shown, behind: Shown, carriers: u8, group_id: u8) -> Result<(), Refusal>
     requires { (behind.carrier_sequence ≤ last_carrier) × (behind.frame_position.0 ≤ last_position) }
-    ensures { result ≡ first_of (standing_checks carriers group_id behind h) }
+    ensures { answer result ≡ first_of (standing_checks carriers group_id behind h) }
 {
     if is_end(behind, carriers) {
-        return 14;
+        return Err(Refusal::Group);
     }
     if h.carrier_sequence != next_carrier(behind) {
-        return 14;
+        return Err(Refusal::Group);
     }
     if h.group_id != group_id {
-        return 14;
+        return Err(Refusal::Group);
     }
     if h.number_of_carriers != carriers {
-        return 14;
+        return Err(Refusal::Group);
     }
     if !is_last(behind) {
         if h.number_of_frames != behind.number_of_frames {
-            return 14;
+            return Err(Refusal::Group);
         }
     }
     let position = h.frame_position;
     let next = next_position(behind);
     if position.0 != next.0 {
-        return 14;
+        return Err(Refusal::Group);
     }
-    0
+    Ok(())
 }
 
 // Sets number i to v, if there is room for it.
-fn set_frames(frames: &mut [u8], i: usize, v: u8)
-    ensures { frames.new ≡ set frames.old i v }
+fn set_number<T: Copy>(numbers: &mut [T], i: usize, v: T)
+    ensures { numbers.new ≡ set numbers.old i v }
 {
-    if i < frames.len() {
-        frames[i] = v;
+    if i < numbers.len() {
+        numbers[i] = v;
     }
 }
 
-fn set_slots(slots: &mut [u64], i: usize, v: u64)
-    ensures { slots.new ≡ set slots.old i v }
-{
-    if i < slots.len() {
-        slots[i] = v;
-    }
-}
-
-// Writes the numbers of the plan before the first header is read: zeros, as many as there is room for. What a longer list has behind them
+// Writes the numbers of the plan before the first header is read, and of a group that is refused: zeros, as many as there is room for. What a longer list has behind them
 // stays as it was.
-fn clear(frames: &mut [u8], slots: &mut [u64])
+pub(crate) fn clear(frames: &mut [u8], slots: &mut [u64])
     ensures frames_after { frames.new ≡ copied frames.old nothing_seen.frames }
     ensures slots_after { slots.new ≡ copied slots.old nothing_seen.slots }
 {
-    let zeros = [0u8; CARRIERS];
-    slices::copy(frames, &zeros);
-    let mut j = 0;
-    while j < FRAMES {
-        set_slots(slots, j, 0);
-        j += 1;
-    }
-}
-
-// A refusal leaves an empty plan, whatever was read before it.
-pub(crate) fn refused(refusal: Refusal, frames: &mut [u8], slots: &mut [u64]) -> Headers
-    ensures value { result ≡ headers_of (no_plan refusal) }
-    ensures frames_after { frames.new ≡ copied frames.old nothing_seen.frames }
-    ensures slots_after { slots.new ≡ copied slots.old nothing_seen.slots }
-{
-    clear(frames, slots);
-    Headers {
-        refusal,
-        is_carried: false,
-        packets: 0,
-    }
+    let carriers = frames.len().min(CARRIERS);
+    frames[..carriers].fill(0);
+    let places = slots.len().min(FRAMES);
+    slots[..places].fill(0);
 }
 
 // Checks the headers of the group, one after another: each as a header and then for 14, where its frame stands. At the end 14 again, for
-// missing frames. Writes each carrier's number of frames and the bonded slots of each frame, slot i in bit i, into what the caller lends.
-pub(crate) fn plan_of(group: &[u8], b: Bond, frames: &mut [u8], slots: &mut [u64]) -> Headers
+// missing frames. Answers how many bonded slots there are, or none if no header carries the stream. Writes each carrier's number of frames and the bonded slots of each frame, slot i in bit i, into what the caller lends.
+pub(crate) fn plan_of(
+    group: &[u8],
+    b: Bond,
+    frames: &mut [u8],
+    slots: &mut [u64],
+) -> Result<Option<usize>, Refused>
     requires last_slot_len { (length group.now % frame_length last_slot ≡ 0) × (pid_allowed b.pid ≡ true) }
     requires le_carriers { (1 ≤ b.carriers) × (b.carriers ≤ last_carrier) }
-    ensures value { result ≡ headers_of (planned_by b group.now) }
+    ensures value { headers_in result ≡ headers_of (planned_by b group.now) }
     ensures frames_after { frames.new ≡ copied frames.old (planned_by b group.now).plan.frames }
     ensures slots_after { slots.new ≡ copied slots.old (planned_by b group.now).plan.slots }
 {
@@ -280,38 +237,40 @@ pub(crate) fn plan_of(group: &[u8], b: Bond, frames: &mut [u8], slots: &mut [u64
     let mut packets = 0;
     let mut behind = nothing_shown();
     let mut group_id = 0u8;
-    let mut j = 0;
-    while j < count {
+    for j in 0..count {
         let at = FRAME_BYTES * j;
         let header = &group[at..at + PACKET_BYTES];
-        let heard = header_check::check(header, b.pid, Kind::Extended);
-        let refusal = heard.refusal;
-        if refusal.number != 0 {
-            return refused(refusal, frames, slots);
-        }
-        let shown = shown_by(heard);
+        let said = match header_check::check(header, b.pid, Kind::Extended) {
+            Ok(said) => said,
+            Err(why) => {
+                clear(frames, slots);
+                return Err(why);
+            }
+        };
+        let shown = shown_by(said);
         if j == 0 {
             group_id = shown.group_id;
         }
-        let standing = standing_refusal(shown, behind, b.carriers, group_id);
-        if standing != 0 {
-            return refused(Refusal::bare(standing), frames, slots);
+        if let Err(refusal) = standing_refusal(shown, behind, b.carriers, group_id) {
+            clear(frames, slots);
+            return Err(Refused::from(refusal));
         }
-        let bonded = bonded_by(header, heard, b);
+        let bonded = bonded_by(header, said, b);
+        let marks = bonded.unwrap_or(0);
         let carrier = shown.carrier_sequence as usize - 1;
-        set_frames(frames, carrier, shown.number_of_frames);
-        set_slots(slots, j, bonded.marks);
-        is_carried = is_carried | bonded.is_carried;
-        packets += u64::count_ones(bonded.marks) as usize;
+        set_number(frames, carrier, shown.number_of_frames);
+        set_number(slots, j, marks);
+        is_carried = is_carried | bonded.is_some();
+        packets += marks.count_ones() as usize;
         behind = shown;
-        j += 1;
     }
     if !is_end(behind, b.carriers) {
-        return refused(Refusal::bare(14), frames, slots);
+        clear(frames, slots);
+        return Err(Refused::from(Refusal::Group));
     }
-    Headers {
-        refusal: Refusal::bare(0),
-        is_carried,
-        packets,
+    if is_carried {
+        Ok(Some(packets))
+    } else {
+        Ok(None)
     }
 }

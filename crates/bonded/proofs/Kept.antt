@@ -14,7 +14,7 @@ use Rattle.packet.specs.Packets.{packet_length, slot, unfit}
 use Rattle.receiver.specs.declared.Stage.{Stage}
 use Rattle.receiver.specs.declared.Event.{Event}
 use Rattle.receiver.specs.declared.Row.{Row}
-use Rattle.receiver.specs.declared.Told.{Told}
+use Rattle.receiver.specs.Bytes.{Told}
 use Rattle.receiver.specs.Store.{store_length}
 use Rattle.receiver.specs.Table.{makes_ready, good, broken, other, row, open_row, row_of}
 use Rattle.receiver.specs.Receiving.{receive_of}

@@ -4,7 +4,7 @@ use mathlib.Core.Path.{◌≡◌, refl, ◌∙◌}
 use mathlib.Core.List.{List, [], ◌∷◌, ◌++◌, append_assoc}
 use native.Mathlib.Omega.{arith}
 use lib.ListN.{length, set, take}
-use Rattle.slices.proofs.Front.{Front, put, front_none, front_kept, front-part, front-more, front_length, front-all}
+use Rattle.slices.proofs.Front.{Front, put, front_none, front_kept, front-part, front-more, front-all}
 use Rattle.setting_bytes.specs.Settings.{setting_length}
 use Rattle.composer.specs.States.{composer_length, filled_at, open_at, setting_at}
 use Rattle.counters.specs.Counters.{last_slot}
@@ -20,16 +20,10 @@ module _ (b s : List ℕ) (long : length b ≡ composer_length) (ls : length s �
       let f₂ = front-more b (take open_at b) b open_at 1 f₁ (omega arith) in
       front-part b (take open_at b ++ (1 ∷ [])) (set b open_at 1) s setting_at setting_length f₂ ls
 
-  pub still_long : length (put setting_at setting_length (set b open_at 1) s) ≡ composer_length
-  still_long = front_length b _ _ filled_at before-marks (omega arith) ∙ long
-
   -- all of them
   module _ (m : List ℕ) (lm : length m ≡ last_slot) where
     all_parts : Front b (take open_at b ++ (1 ∷ []) ++ s ++ m) (put filled_at last_slot (put setting_at setting_length (set b open_at 1) s) m) composer_length
     all_parts = front-part b (take open_at b ++ (1 ∷ []) ++ s) (put setting_at setting_length (set b open_at 1) s) m filled_at last_slot before-marks lm
-
-    pub as_long : length (put filled_at last_slot (put setting_at setting_length (set b open_at 1) s) m) ≡ length b
-    as_long = front_length b _ _ composer_length all_parts (omega arith)
 
     pub opened_parts : put filled_at last_slot (put setting_at setting_length (set b open_at 1) s) m ≡ take open_at b ++ (1 ∷ (s ++ m))
     opened_parts = front-all b _ _ composer_length all_parts (omega arith) ∙ in_order (take open_at b) s m

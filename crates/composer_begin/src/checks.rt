@@ -1,5 +1,6 @@
 // What begin checks of its state and its other buffers, in the order of the table of refusals.
 ghost use Rattle.std.specs.Prelude.{◌≡◌, length};
+ghost use Rattle.refusals.specs.Refusals.{answer};
 ghost use Rattle.setting.specs.Refusal.{first_of};
 ghost use Rattle.setting.specs.Rules.{rule_checks};
 ghost use Rattle.setting_bytes.specs.Settings.{setting_length, setting_of};
@@ -7,46 +8,34 @@ ghost use Rattle.composer.specs.Composing.{open_rule_checks, in_turn, begin_refu
 ghost use Rattle.composer.specs.States.{composer_length, composer_of};
 
 use composer::KIND;
+use refusals::Refusal;
 
 // 8 to 11, of the open frame's setting, if a frame is open, and of the new one. The checks go number by number, so of two
 // refusals the smaller is the answer.
-fn both_rules_refusal(state: &[u8], setting: &[u8]) -> u8
+fn both_rules_refusal(state: &[u8], setting: &[u8]) -> Result<(), Refusal>
     requires { (length state.now ≡ composer_length) × (length setting.now ≡ setting_length) }
-    ensures { result ≡ first_of (in_turn (open_rule_checks (composer_of state.now)) (rule_checks (composer_of state.now).kind (setting_of setting.now))) }
+    ensures { answer result ≡ first_of (in_turn (open_rule_checks (composer_of state.now)) (rule_checks (composer_of state.now).kind (setting_of setting.now))) }
 {
-    let old = composer_checks::open_rule_refusal(state);
-    let new = setting_checks::rule_refusal(setting_bytes::kind_of(state[KIND]), setting);
-    if old == 0 {
-        return new;
+    let kind = setting_bytes::kind_of(state[KIND]);
+    let Err(first) = composer_checks::open_rule_refusal(state) else {
+        return setting_checks::rule_refusal(kind, setting);
+    };
+    match setting_checks::rule_refusal(kind, setting) {
+        Err(second) if second.number() < first.number() => Err(second),
+        _ => Err(first),
     }
-    if new == 0 {
-        return old;
-    }
-    if new < old {
-        return new;
-    }
-    old
 }
 
-pub(crate) fn begin_refusal(state: &[u8], setting: &[u8], lent: usize) -> u8
+pub(crate) fn begin_refusal(state: &[u8], setting: &[u8], lent: usize) -> Result<(), Refusal>
     requires { (length state.now ≡ composer_length) × (length setting.now ≡ setting_length) }
-    ensures { result ≡ begin_refusal (composer_of state.now) (setting_of setting.now) lent }
+    ensures { answer result ≡ begin_refusal (composer_of state.now) (setting_of setting.now) lent }
 {
     let kind = setting_bytes::kind_of(state[KIND]);
     if lent != packet::frame_bytes(kind) {
-        return 1;
+        return Err(Refusal::Length);
     }
-    let refused = composer_checks::state_refusal(state);
-    if refused != 0 {
-        return refused;
-    }
-    let width = setting_checks::width_refusal(kind, setting);
-    if width != 0 {
-        return width;
-    }
-    let rule = both_rules_refusal(state, setting);
-    if rule != 0 {
-        return rule;
-    }
+    composer_checks::state_refusal(state)?;
+    setting_checks::width_refusal(kind, setting)?;
+    both_rules_refusal(state, setting)?;
     composer_checks::mark_refusal(state)
 }

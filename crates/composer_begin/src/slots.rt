@@ -10,7 +10,7 @@ fn write_null(slot: &mut [u8])
     requires { length slot.old ≡ packet_length }
     ensures { slot.new ≡ null_packet }
 {
-    slices::fill(slot, 0xFF);
+    slot.fill(0xFF);
     slot[0] = 0x47;
     slot[1] = 0x1F;
     slot[3] = 0x10;
@@ -21,10 +21,9 @@ pub(crate) fn clear(frame: &mut [u8], slots: usize)
     requires { length frame.old ≡ frame_length slots }
     ensures { frame.new ≡ cleared slots frame.old }
 {
-    let mut i = 1;
-    while i <= slots {
+    // By number: behind `chunks_exact_mut` a proof does not know what was written.
+    for i in 1..slots + 1 {
         let at = PACKET_BYTES * i;
         write_null(&mut frame[at..at + PACKET_BYTES]);
-        i += 1;
     }
 }

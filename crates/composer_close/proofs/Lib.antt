@@ -5,3 +5,4 @@ mod Numbers
 pub mod Passed
 mod Pasted
 mod Saying
+mod Unlike

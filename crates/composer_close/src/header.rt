@@ -18,14 +18,13 @@ fn number(opened: &mut [u8])
     requires { length opened.old ≡ setting_length + last_slot }
     ensures { opened.new ≡ over numbers_at (numbers_of (part numbers_at last_slot opened.old) (marks_of (drop setting_length opened.old))) opened.old }
 {
-    let mut i = 0;
-    while i < SLOTS {
+    // By number, since the numbers and their marks stand in one slice.
+    for i in 0..SLOTS {
         let mut n = opened[NUMBERS + i];
         if opened[SETTING_BYTES + i] != 1 {
             n = 0;
         }
         opened[NUMBERS + i] = n;
-        i += 1;
     }
 }
 
@@ -47,7 +46,7 @@ pub(crate) fn next_version(state: &[u8]) -> u8
     ensures { result ≡ next_version (composer_of state.now) }
 {
     let version = state[VERSION];
-    if slices::differ(&state[SAID..PLAN], &state[LAST..OPEN]) {
+    if state[SAID..PLAN] != state[LAST..OPEN] {
         return (version + 1) % 8;
     }
     version

@@ -6,25 +6,24 @@ mod header;
 ghost use Rattle.std.specs.Prelude.{◌≡◌, ◌++◌, length, take, replicate};
 ghost use Rattle.slices.specs.Slices.{over};
 ghost use Rattle.setting_bytes.specs.Settings.{part, numbers_at};
+ghost use Rattle.refusals.specs.Refusals.{answer};
 ghost use Rattle.composer.specs.Composing.{close_refusal};
 ghost use Rattle.composer.specs.States.{counter_at, setting_at, open_length, composer_length, composer_of};
 ghost use Rattle.composer.specs.Calls.{close_refused, close_state, close_memory};
 
 use composer::{COMPOSER_BYTES, COUNTER, FILLED, KIND, OPEN, PID, PID_LOW, SETTING};
 use packet::PACKET_BYTES;
+use refusals::Refusal;
 use setting_bytes::NUMBERS;
 
-fn close_refusal(state: &[u8], lent: usize) -> u8
+fn close_refusal(state: &[u8], lent: usize) -> Result<(), Refusal>
     requires { length state.now ≡ composer_length }
-    ensures { result ≡ close_refusal (composer_of state.now) lent }
+    ensures { answer result ≡ close_refusal (composer_of state.now) lent }
 {
     if lent != packet::frame_bytes(setting_bytes::kind_of(state[KIND])) {
-        return 1;
+        return Err(Refusal::Length);
     }
-    let refused = composer_checks::state_refusal(state);
-    if refused != 0 {
-        return refused;
-    }
+    composer_checks::state_refusal(state)?;
     composer_checks::open_refusal(state)
 }
 
@@ -33,11 +32,7 @@ fn keep(state: &mut [u8])
     requires { length state.old ≡ composer_length }
     ensures { state.new ≡ over counter_at (part setting_at numbers_at state.old) state.old }
 {
-    let mut i = 0;
-    while i < NUMBERS {
-        state[COUNTER + i] = state[SETTING + i];
-        i += 1;
-    }
+    state.copy_within(SETTING..SETTING + NUMBERS, COUNTER);
 }
 
 // Ends the open frame in the state, once its setting is what the header says: that is now what the last header said, and zeros follow it.
@@ -46,23 +41,19 @@ fn end_frame(state: &mut [u8])
     ensures { state.new ≡ take counter_at state.old ++ (part setting_at numbers_at state.old ++ replicate open_length 0) }
 {
     keep(state);
-    slices::fill(&mut state[OPEN..COMPOSER_BYTES], 0);
+    state[OPEN..COMPOSER_BYTES].fill(0);
 }
 
 // Closes the open frame: writes its header into slot 0 and nothing else. Filled slots carry their number, empty ones 0.
-#[unsafe(no_mangle)]
-pub extern "C" fn niranbok_composer_close(state: &mut [u8], frame: &mut [u8]) -> u8
-    ensures value { result ≡ close_refused state.old frame.old }
+pub fn close(state: &mut [u8], frame: &mut [u8]) -> Result<(), Refusal>
+    ensures value { answer result ≡ close_refused state.old frame.old }
     ensures state_after { state.new ≡ close_state state.old frame.old }
     ensures frame_after { frame.new ≡ close_memory state.old frame.old }
 {
     if state.len() != COMPOSER_BYTES {
-        return 1;
+        return Err(Refusal::Length);
     }
-    let refusal = close_refusal(state, frame.len());
-    if refusal != 0 {
-        return refusal;
-    }
+    close_refusal(state, frame.len())?;
     slices::are_bytes(state);
     let pid = bits::word(state[PID], state[PID_LOW]);
     let kind = setting_bytes::kind_of(state[KIND]);
@@ -77,5 +68,15 @@ pub extern "C" fn niranbok_composer_close(state: &mut [u8], frame: &mut [u8]) ->
         &state[SETTING..FILLED],
     );
     end_frame(state);
-    0
+    Ok(())
+}
+
+// The same for C.
+#[unsafe(no_mangle)]
+pub extern "C" fn niranbok_composer_close(state: &mut [u8], frame: &mut [u8]) -> u8
+    ensures value { result ≡ close_refused state.old frame.old }
+    ensures state_after { state.new ≡ close_state state.old frame.old }
+    ensures frame_after { frame.new ≡ close_memory state.old frame.old }
+{
+    refusals::answer(close(state, frame))
 }

@@ -1,5 +1,5 @@
 mod Inside
 pub mod Passed
-mod Placed
+mod Counting
 mod Placing
 mod Streams

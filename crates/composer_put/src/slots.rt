@@ -19,10 +19,8 @@ pub(crate) fn empty_slots(plan: &[u8], filled: &[u8], r: RelativeNumber) -> u64
     ensures { result ≡ slots_as_bits (empty_for r.0 plan.now (marks_of filled.now)) }
 {
     let mut marks = [false; SLOTS];
-    let mut i = 0;
-    while i < SLOTS {
-        marks[i] = (plan[i] == r.0) & (filled[i] != 1);
-        i += 1;
+    for (i, mark) in marks.iter_mut().enumerate() {
+        *mark = (plan[i] == r.0) & (filled[i] != 1);
     }
     slot_bits::slots_as_bits(&marks)
 }
@@ -49,6 +47,7 @@ fn start_of(slot: Slot) -> usize
 // Copies the stream's packets into the slots, in rising order, until slots or packets run out; marks these slots filled, and hands
 // back the rest of the stream. The lowest bit that is set is the next slot's, and is cleared once the slot is filled. The contract
 // speaks of the set of slots that the bits stand for, all of which the frame has.
+// It stays a `while`: it goes along the set bits and the stream at once, and an iterator over both would be no plainer.
 pub(crate) fn place<'a>(
     frame: &mut [u8],
     stream: &'a [u8],

@@ -1,4 +1,2 @@
-mod Checked
 mod Streams
 pub mod Within
-pub mod Numbers

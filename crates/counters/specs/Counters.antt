@@ -1,8 +1,7 @@
 -- The three counters of J.183, their first and last values, what a checked constructor answers, and which streams are available.
-use Rattle.std.specs.Prelude.{ℕ, zero, suc, ◌+◌, ◌-◌, ◌/◌, ◌%◌, ◌^◌, Bool, cond, ◌&&◌, leb, eqb}
-use Rattle.counters.specs.declared.SlotAnswer.{SlotAnswer}
-use Rattle.counters.specs.declared.RelativeNumberAnswer.{RelativeNumberAnswer}
-use Rattle.counters.specs.declared.FramePositionAnswer.{FramePositionAnswer}
+use Rattle.std.specs.Prelude.{ℕ, zero, suc, ◌+◌, ◌-◌, ◌/◌, ◌%◌, ◌^◌, Bool, cond, ◌&&◌, leb, eqb, Result, Ok, Err}
+use Rattle.refusals.specs.declared.Refusal.{Refusal}
+use Rattle.refusals.specs.Refusals.{number}
 
 -- slots: slot 0 is the header, the others are counted from 1
 abbrev pub first_slot : ℕ
@@ -58,14 +57,7 @@ count_available availability = how_many last_stream (available availability)
 unfoldable pub checked : ℕ → ℕ → ℕ → ℕ × ℕ
 checked first last n = cond (within first last n) (0, n) (17, 0)
 
--- the paper's number and value as each answer has them
-unfoldable pub slot_answer : ℕ × ℕ → SlotAnswer
-slot_answer a = cond (eqb a.0 0) (SlotAnswer.Is (record { 0 = a.1 })) (SlotAnswer.Refused a.0)
-
-unfoldable pub relative_number_answer : ℕ × ℕ → RelativeNumberAnswer
-relative_number_answer a =
-    cond (eqb a.0 0) (RelativeNumberAnswer.Is (record { 0 = a.1 })) (RelativeNumberAnswer.Refused a.0)
-
-unfoldable pub frame_position_answer : ℕ × ℕ → FramePositionAnswer
-frame_position_answer a =
-    cond (eqb a.0 0) (FramePositionAnswer.Is (record { 0 = a.1 })) (FramePositionAnswer.Refused a.0)
+-- the paper's number and value of what a checked constructor answers
+abbrev pub answered : {T : Type 0} → (T → ℕ) → Result T Refusal → ℕ × ℕ
+answered value (Ok v) = (0, value v)
+answered value (Err refusal) = (number refusal, 0)

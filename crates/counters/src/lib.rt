@@ -3,37 +3,38 @@
 #![tactic(auto)]
 
 ghost use Rattle.std.specs.Prelude.{◌≡◌};
-ghost use Rattle.counters.specs.Counters.{first_slot, last_slot, first_stream, last_stream, first_position, last_position, checked, slot_answer, relative_number_answer, frame_position_answer, available, count_available};
+ghost use Rattle.counters.specs.Counters.{first_slot, last_slot, first_stream, last_stream, first_position, last_position, within, checked, answered, available, count_available};
+
+use refusals::Refusal;
 
 // A slot of a frame. Slot 0 is the header's and is no value of this type.
-#[derive(Clone, Copy)]
+#[derive(Clone, Copy, Debug, PartialEq, Eq)]
 pub struct Slot(pub u8);
 
 // The number by which a frame's header knows a stream.
-#[derive(Clone, Copy)]
+#[derive(Clone, Copy, Debug, PartialEq, Eq)]
 pub struct RelativeNumber(pub u8);
 
 // The place of a frame in its super frame: a count, and no offset.
-#[derive(Clone, Copy)]
+#[derive(Clone, Copy, Debug, PartialEq, Eq)]
 pub struct FramePosition(pub u8);
 
-// What a checked constructor answers: the value, or the refusal's number.
-#[derive(Clone, Copy)]
-pub enum SlotAnswer {
-    Is(Slot),
-    Refused(u8),
+// Whether n lies between the first and the last value, both of them included.
+pub fn is_within(first: u8, last: u8, n: u8) -> bool
+    ensures { result ≡ within first last n }
+{
+    first <= n && n <= last
 }
 
-#[derive(Clone, Copy)]
-pub enum RelativeNumberAnswer {
-    Is(RelativeNumber),
-    Refused(u8),
-}
-
-#[derive(Clone, Copy)]
-pub enum FramePositionAnswer {
-    Is(FramePosition),
-    Refused(u8),
+// The number itself, if it is within its range.
+fn checked(first: u8, last: u8, n: u8) -> Result<u8, Refusal>
+    ensures { answered (λ v. v) result ≡ checked first last n }
+{
+    if is_within(first, last, n) {
+        Ok(n)
+    } else {
+        Err(Refusal::OutOfRange)
+    }
 }
 
 impl Slot {
@@ -44,16 +45,10 @@ impl Slot {
     // The last one of a short frame.
     pub const LAST_SHORT: u8 = 40;
 
-    pub fn new(n: u8) -> SlotAnswer
-        ensures { result ≡ slot_answer (checked first_slot last_slot n) }
+    pub fn new(n: u8) -> Result<Slot, Refusal>
+        ensures { answered (λ v. v.0) result ≡ checked first_slot last_slot n }
     {
-        if n < Slot::FIRST {
-            return SlotAnswer::Refused(17);
-        }
-        if Slot::LAST < n {
-            return SlotAnswer::Refused(17);
-        }
-        SlotAnswer::Is(Slot(n))
+        Ok(Slot(checked(Slot::FIRST, Slot::LAST, n)?))
     }
 }
 
@@ -65,16 +60,10 @@ impl RelativeNumber {
     // The last one of a short frame.
     pub const LAST_SHORT: u8 = 7;
 
-    pub fn new(n: u8) -> RelativeNumberAnswer
-        ensures { result ≡ relative_number_answer (checked first_stream last_stream n) }
+    pub fn new(n: u8) -> Result<RelativeNumber, Refusal>
+        ensures { answered (λ v. v.0) result ≡ checked first_stream last_stream n }
     {
-        if n < RelativeNumber::FIRST {
-            return RelativeNumberAnswer::Refused(17);
-        }
-        if RelativeNumber::LAST < n {
-            return RelativeNumberAnswer::Refused(17);
-        }
-        RelativeNumberAnswer::Is(RelativeNumber(n))
+        Ok(RelativeNumber(checked(RelativeNumber::FIRST, RelativeNumber::LAST, n)?))
     }
 
     // Whether the stream is available by a setting's fifteen bits, of which stream 1 has the highest.
@@ -82,13 +71,8 @@ impl RelativeNumber {
         ensures { result ≡ available availability self.0 }
     {
         let n = self.0;
-        if n < RelativeNumber::FIRST {
-            return false;
-        }
-        if RelativeNumber::LAST < n {
-            return false;
-        }
-        (availability >> ((RelativeNumber::LAST - n) as u32)) % 2 == 1
+        is_within(RelativeNumber::FIRST, RelativeNumber::LAST, n)
+            && (availability >> u32::from(RelativeNumber::LAST - n)) % 2 == 1
     }
 }
 
@@ -97,16 +81,10 @@ impl FramePosition {
 
     pub const LAST: u8 = 4;
 
-    pub fn new(n: u8) -> FramePositionAnswer
-        ensures { result ≡ frame_position_answer (checked first_position last_position n) }
+    pub fn new(n: u8) -> Result<FramePosition, Refusal>
+        ensures { answered (λ v. v.0) result ≡ checked first_position last_position n }
     {
-        if n < FramePosition::FIRST {
-            return FramePositionAnswer::Refused(17);
-        }
-        if FramePosition::LAST < n {
-            return FramePositionAnswer::Refused(17);
-        }
-        FramePositionAnswer::Is(FramePosition(n))
+        Ok(FramePosition(checked(FramePosition::FIRST, FramePosition::LAST, n)?))
     }
 }
 
@@ -127,7 +105,7 @@ pub const AVAILABILITIES: u16 = 1 << RelativeNumber::LAST;
 pub fn count_available(availability: u16) -> u32
     ensures { result ≡ count_available availability }
 {
-    u16::count_ones(availability % AVAILABILITIES)
+    (availability % AVAILABILITIES).count_ones()
 }
 
 // Whether a number is a slot's.
@@ -135,10 +113,7 @@ pub fn count_available(availability: u16) -> u32
 pub extern "C" fn niranbok_slot(n: u8) -> u8
     ensures { result ≡ (checked first_slot last_slot n).0 }
 {
-    match Slot::new(n) {
-        SlotAnswer::Is(_) => 0,
-        SlotAnswer::Refused(refusal) => refusal,
-    }
+    refusals::answer(Slot::new(n))
 }
 
 // Whether a number is a stream's.
@@ -146,10 +121,7 @@ pub extern "C" fn niranbok_slot(n: u8) -> u8
 pub extern "C" fn niranbok_relative_number(n: u8) -> u8
     ensures { result ≡ (checked first_stream last_stream n).0 }
 {
-    match RelativeNumber::new(n) {
-        RelativeNumberAnswer::Is(_) => 0,
-        RelativeNumberAnswer::Refused(refusal) => refusal,
-    }
+    refusals::answer(RelativeNumber::new(n))
 }
 
 // Whether a number is a frame's position.
@@ -157,10 +129,7 @@ pub extern "C" fn niranbok_relative_number(n: u8) -> u8
 pub extern "C" fn niranbok_frame_position(n: u8) -> u8
     ensures { result ≡ (checked first_position last_position n).0 }
 {
-    match FramePosition::new(n) {
-        FramePositionAnswer::Is(_) => 0,
-        FramePositionAnswer::Refused(refusal) => refusal,
-    }
+    refusals::answer(FramePosition::new(n))
 }
 
 // Whether stream r is available.

@@ -14,14 +14,12 @@ fn shifted(x: u32, n: u32) -> u32
     ensures { result ≡ shifts n x }
 {
     let mut r = x;
-    let mut i: u32 = 0;
-    while i < n {
+    for _ in 0..n {
         if r >> 31 == 1 {
             r = (r << 1) ^ POLY;
         } else {
-            r = r << 1;
+            r <<= 1;
         }
-        i += 1;
     }
     r
 }
@@ -30,7 +28,7 @@ fn shifted(x: u32, n: u32) -> u32
 fn byte_in(s: u32, b: u8) -> u32
     ensures { result ≡ register_from s (bits_of 8 b) }
 {
-    shifted(s ^ ((b as u32) << 24), 8)
+    shifted(s ^ (u32::from(b) << 24), 8)
 }
 
 // The register `s` after `bytes`, one by one.
@@ -38,10 +36,8 @@ fn bytes_in(s: u32, bytes: &[u8]) -> u32
     ensures { result ≡ register_from s (run 8 bytes.now) }
 {
     let mut r = s;
-    let mut i = 0;
-    while i < bytes.len() {
-        r = byte_in(r, bytes[i]);
-        i += 1;
+    for &byte in bytes {
+        r = byte_in(r, byte);
     }
     r
 }
@@ -52,7 +48,7 @@ fn one(n: u32) -> u64
     ensures { Ahead n 1 1 result }
 {
     match n {
-        32 => POLY as u64,
+        32 => u64::from(POLY),
         64 => 0x490D_678D,
         96 => 0xF200_AA66,
         128 => 0xE8A4_5605,
@@ -61,23 +57,21 @@ fn one(n: u32) -> u64
 }
 
 // The lowest byte of `x`, `n` shifts on. The register has 64 bits, so that nothing falls out of it. The compiler makes a loop for each
-// number of `one`, and of each loop one look into a table. It does so only where `one` stands in the loop, `r` is shifted in one place and
-// `i` counts up. With the number as an argument there would be no table, and all would take five times as long.
+// number of `one`, and of each loop one look into a table. It does so only where `one` stands in the loop and `r` is shifted in one place.
+// With the number as an argument there would be no table, and all would take five times as long.
 fn byte_on(x: u64, n: u32) -> u64
     requires { Tabled n }
     ensures { Ahead n 8 x result }
 {
     let mut r: u64 = 0;
     let mut d = x << 56;
-    let mut i: u32 = 0;
-    while i < 8 {
+    for _ in 0..8u32 {
         let top = (r ^ d) >> 63;
-        r = r << 1;
+        r <<= 1;
         if top == 1 {
-            r = r ^ one(n);
+            r ^= one(n);
         }
-        d = d << 1;
-        i += 1;
+        d <<= 1;
     }
     r
 }
@@ -88,10 +82,8 @@ fn low_on(x: u64, n: u32) -> u64
     ensures { Ahead n 32 x result }
 {
     let mut r: u64 = 0;
-    let mut i: u32 = 0;
-    while i < 32 {
-        i += 8;
-        r = (r << 8) ^ byte_on(x >> (32 - i), n);
+    for i in 0..4u32 {
+        r = (r << 8) ^ byte_on(x >> (24 - 8 * i), n);
     }
     r
 }
@@ -121,12 +113,10 @@ fn longs_in(bytes: &[u8]) -> u32
 {
     let mut r = bits::long(&bytes[0..8]) ^ 0xFFFF_FFFF_0000_0000;
     let mut s = bits::long(&bytes[8..16]);
-    let mut i = 16;
-    while i < bytes.len() {
-        let t = long_on(r, 128) ^ bits::long(&bytes[i..i + 8]);
+    for k in 2..bytes.len() / 8 {
+        let t = long_on(r, 128) ^ bits::long(&bytes[8 * k..8 * k + 8]);
         r = s;
         s = t;
-        i += 8;
     }
     left_by(r, s)
 }

@@ -2,45 +2,28 @@
 // leave, as a line of eight hexadecimal digits.
 #![tactic(auto)]
 
-ghost use Rattle.std.specs.Prelude.{◌<◌};
+use std::io::{Read, Result};
 
-// Standard input and standard output.
-const STDIN_FILENO: i32 = 0;
+// The most bytes of a record, and one more.
+const MOST_BYTES: usize = 65536;
 
-const STDOUT_FILENO: i32 = 1;
-
-fn length(high: u8, low: u8) -> usize
-    ensures { result < 65536 }
-{
-    (high as usize) * 256 + (low as usize)
-}
-
-// Fills `bytes` from the input and writes their register; false where the input ends first.
-fn answer(bytes: &mut [u8]) -> bool {
-    let got = io::read_full(STDIN_FILENO, bytes);
-    if got < bytes.len() {
-        return false;
-    }
-    io::print_hex(STDOUT_FILENO, crc::register(bytes) as u64, 8);
-    io::write_all(STDOUT_FILENO, b"\n")
-}
-
-// One record; false where there is none left.
-fn record() -> bool {
+// One record and its line; an error where the input ends first, or where the line cannot be written.
+fn answer(rt: HostRuntime, bytes: &mut [u8; MOST_BYTES]) -> Result<()> {
+    let mut input = rt.stdin();
     let mut head = [0u8; 2];
-    let got = io::read_full(STDIN_FILENO, &mut head);
-    if got < 2 {
-        return false;
-    }
-    let n = length(head[0], head[1]);
-    let mut bytes = io::large_buffer();
-    answer(&mut bytes[0..n])
+    input.read_exact(&mut head)?;
+    let length = u16::from_be_bytes(head) as usize;
+    input.read_exact(&mut bytes[..length])?;
+    let register = crc::register(&bytes[..length]);
+    println!(rt; "{register:08x}")
 }
 
-// A loop that is proved has to end, and nothing says that the input does: `turns` is more than any input has.
-fn main() {
-    let mut turns = u64::MAX;
-    while turns > 0 && record() {
-        turns -= 1;
+// A loop that is proved has to end, and nothing says that the input does: its turns are more than any input has.
+fn main(rt: HostRuntime) {
+    let mut bytes = [0u8; MOST_BYTES];
+    for _ in 0..u64::MAX {
+        if answer(rt, &mut bytes).is_err() {
+            return;
+        }
     }
 }

@@ -7,7 +7,7 @@ use Rattle.setting.specs.Refusal.{leaves}
 use Rattle.header_layout.specs.Header.{header_length, header}
 use Rattle.header_layout.proofs.Whole.{length-header}
 use Rattle.header_write.specs.Writing.{written}
-use Rattle.header_read.specs.declared.Reading.{Reading}
+use Rattle.header_read.specs.Reader.{Reading}
 use Rattle.header_read.proofs.Calls.{number_is}
 use Rattle.header_codec.proofs.RoundTrip.{written_and_read_back}
 use Rattle.setting_bytes.specs.Kinds.{kind_of}

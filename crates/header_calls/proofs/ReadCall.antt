@@ -9,7 +9,7 @@ use Rattle.setting.specs.Refusal.{leaves}
 use Rattle.setting.proofs.Refusals.{never_first}
 use Rattle.setting_bytes.specs.Kinds.{kind_of}
 use Rattle.setting_bytes.specs.Settings.{setting_length}
-use Rattle.header_check.specs.declared.Refusal.{Refusal}
+use Rattle.header_check.specs.OnPaper.{Refusal}
 use Rattle.header_check.specs.Checking.{refusal_by}
 use Rattle.header_read.specs.Reader.{into_refused, into_memory}
 use Rattle.header_read.proofs.Calls.{refusal_into}

@@ -1,6 +1,7 @@
 -- What a packet says in the parts that a check asks for, as byte-wise code reads them, and what is answered of them by the refusal.
 -- Assumes nothing.
 use Prim.Native.Nat.{ℕ, ◌+◌, ◌-◌, ◌*◌, ◌/◌, ◌%◌, ◌^◌, ◌≤◌, ◌<◌}
+use Rattle.std.specs.Prelude.{Ok, Err}
 use mathlib.Core.Path.{◌≡◌, refl, sym, ap, ◌∙◌, subst}
 use mathlib.Core.List.{List, ◌++◌}
 use borrow.Author.Tests.{ne_eqb}
@@ -19,8 +20,12 @@ use Rattle.setting.proofs.Sizes.{sized, resized_same, resized_longer}
 use Rattle.header_layout.specs.Header.{header_length, reading}
 use Rattle.header_layout.proofs.Cut.{word_at, length_part}
 use Rattle.header_layout.proofs.Said.{fields_are, streams_are, numbers_are}
-use Rattle.header_check.specs.declared.Refusal.{Refusal}
-use Rattle.header_check.specs.declared.Checked.{Checked}
+use Rattle.refusals.specs.declared.Refusal.{Refusal as Why}
+use Rattle.refusals.specs.Refusals.{number}
+use Rattle.header_check.specs.declared.Refused.{Refused}
+use Rattle.header_check.specs.declared.Said.{Said}
+use Rattle.header_check.specs.OnPaper.{Refusal}
+use Rattle.header_check.specs.OnPaper.{Checked, on_paper}
 use Rattle.header_check.specs.Checking.{read_refusal, bare, refusal_by, parts_of, parts_beside, checked_of}
 
 -- the counter and the frame type, which stand in the same place in every kind
@@ -69,16 +74,6 @@ module _ (p : List ℕ) (f : Fit 8 p) (h : length p ≡ header_length) where
   unfolding size_of
   short_numbers = over_zeros last_slot 40 _ (length_cut 3 40 (run 8 (take 15 (drop 38 p)))) (omega arith) ∙ numbers_are p f h Kind.Short
 
--- the answer's parts are those of what the packet says
-pub record Answers (kind : Kind) (p : List ℕ) (r : Checked) : Type 0 where
-  pub counter : r.continuity_counter ≡ (reading kind p).continuity_counter
-  pub streams : r.availability ≡ (reading kind p).availability
-  pub group : r.group_id ≡ (reading kind p).group_id
-  pub carriers : r.number_of_carriers ≡ (reading kind p).number_of_carriers
-  pub sequence : r.carrier_sequence ≡ (reading kind p).carrier_sequence
-  pub frames : r.number_of_frames ≡ (reading kind p).number_of_frames
-  pub position : r.frame_position.0 ≡ (reading kind p).frame_position.0
-
 -- what is answered tells the refusal, and beside 0 what the packet says
 module _ (kind : Kind) (pid : ℕ) (p : List ℕ) (r : Checked) (e : r ≡ checked_of kind pid p) where
   pub refusal-shown : r.refusal ≡ refusal_by (read_refusal kind pid p) p
@@ -101,26 +96,15 @@ bare_is n p h = rw (ne_eqb n 7 h) refl
 pub refused_bare : (n : ℕ) {m : ℕ} (p : List ℕ) {r : Refusal} → r ≡ bare n → (n ≡ 7 → ⊥) → n ≡ m → r ≡ refusal_by m p
 refused_bare n p e h s = e ∙ bare_is n p h ∙ ap (λ (k : ℕ). refusal_by k p) s
 
+pub refused_from : (refusal : Why) {m : ℕ} (p : List ℕ) {why : Refused} → why ≡ record { refusal = refusal; remainder = 0 } → (number refusal ≡ 7 → ⊥) → number refusal ≡ m → record { number = number why.refusal; remainder = why.remainder } ≡ refusal_by m p
+refused_from refusal p e h s = refused_bare (number refusal) p (ap (λ (w : Refused). record { number = number w.refusal; remainder = w.remainder }) e) h s
+
 -- n is the refusal's number, and m what the code found it to be
-module _ (kind : Kind) (p : List ℕ) {m n : ℕ} (e : n ≡ m) (r : Checked) where
-  pub refused_with_lem : (m ≡ 0 → ⊥) → {f : Refusal} → f ≡ refusal_by m p → r ≡ parts_of f blank → r ≡ parts_beside n kind p
-  unfolding parts_beside
-  refused_with_lem h f s = rw (e, ne_eqb m 0 h) (s ∙ ap (λ (x : Refusal). parts_of x blank) f)
+module _ (kind : Kind) (p : List ℕ) {m n : ℕ} (e : n ≡ m) where
+  pub refused : (m ≡ 0 → ⊥) → (why : Refused) → record { number = number why.refusal; remainder = why.remainder } ≡ refusal_by m p → on_paper (Err why) ≡ parts_beside n kind p
+  unfolding parts_beside parts_of blank
+  refused h why f = rw (e, ne_eqb m 0 h) (ap (λ (x : Refusal). parts_of x blank) f)
 
-  pub refused : (m ≡ 0 → ⊥) → (m ≡ 7 → ⊥) → r ≡ parts_of (bare m) blank → r ≡ parts_beside n kind p
-  refused h seven s = refused_with_lem h (bare_is m p seven) s
-
-  pub accepted : m ≡ 0 → r.refusal ≡ bare 0 → Answers kind p r → r ≡ parts_beside n kind p
-  unfolding parts_beside parts_of refusal_by reading
-  accepted z s a =
-      rw (e ∙ z)
-      (λ i. record {
-        refusal = s i;
-        continuity_counter = a.counter i;
-        availability = a.streams i;
-        group_id = a.group i;
-        number_of_carriers = a.carriers i;
-        carrier_sequence = a.sequence i;
-        number_of_frames = a.frames i;
-        frame_position = record { 0 = a.position i };
-      })
+  pub accepted : m ≡ 0 → (said : Said) → on_paper (Ok said) ≡ parts_of (bare 0) (reading kind p) → on_paper (Ok said) ≡ parts_beside n kind p
+  unfolding parts_beside refusal_by
+  accepted z said s = rw (e ∙ z) s

@@ -38,8 +38,8 @@ rules_idle kind s = bonding_idle kind s
 pub not_of_reserved : (kind : Kind) (p : List ℕ) → first_of (reserved_checks kind p) ≡ 7 → ⊥
 not_of_reserved kind p = never_first 7 (reserved_checks kind p) (omega arith) (reserved_idle kind p)
 
-pub not_of_bonding : (kind : Kind) (s : Setting) → first_of (bonding_of kind s) ≡ 7 → ⊥
-not_of_bonding kind s = never_first 7 (bonding_of kind s) (omega arith) (bonding_idle kind s)
+pub not_of_rules : (kind : Kind) (s : Setting) → first_of (rule_checks kind s) ≡ 7 → ⊥
+not_of_rules kind s = never_first 7 (rule_checks kind s) (omega arith) (rules_idle kind s)
 
 -- nor any other check of a read, where the remainder is 0
 pub read_idle : (kind : Kind) (pid : ℕ) (p : List ℕ) → remainder_of p ≡ 0 → idle 7 (read_checks kind pid p) ≡ true

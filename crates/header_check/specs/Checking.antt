@@ -7,8 +7,8 @@ use Rattle.setting.specs.Setting.{blank}
 use Rattle.setting.specs.Refusal.{Check, first_of}
 use Rattle.setting.specs.Rules.{rule_checks}
 use Rattle.header_layout.specs.Header.{header_length, reading, call_checks, remainder_of, packet_checks, reserved_checks}
-use Rattle.header_check.specs.declared.Refusal.{Refusal}
-use Rattle.header_check.specs.declared.Checked.{Checked}
+use Rattle.header_check.specs.OnPaper.{Refusal}
+use Rattle.header_check.specs.OnPaper.{Checked}
 
 -- 3 to 7, then 20, then 8 to 11: what is checked of a packet of 188 bytes
 unfoldable pub read_checks : Kind → ℕ → List ℕ → List Check

@@ -3,41 +3,57 @@
 #![tactic(auto)]
 
 ghost use Rattle.std.specs.Prelude.{◌≡◌};
-ghost use Rattle.header_check.specs.Checking.{bare, checked_of, numbers_into};
+ghost use Rattle.header_check.specs.OnPaper.{refusal_in, on_paper};
+ghost use Rattle.header_check.specs.Checking.{checked_of, numbers_into};
 ghost use Rattle.header_check.specs.Cutting.{cut_into};
 
 use counters::{FramePosition, SLOTS};
+use refusals::Refusal;
 use setting::Kind;
 
 mod packed;
 mod parts;
 mod reserved;
 
-// Why a header is refused: the refusal's number, or 0 if it is not refused. Beside 7 stands the remainder, which is what bytes 4 to 187 leave in
-// the CRC register. Beside any other number it is 0. Callers pass it up as it is.
-#[derive(Clone, Copy)]
-pub struct Refusal {
-    pub number: u8,
+// Why a header is refused. Beside a wrong CRC stands the remainder, which is what bytes 4 to 187 leave in the CRC register. Beside any other
+// refusal it is 0. Callers pass it up as it is.
+#[derive(Clone, Copy, Debug, PartialEq, Eq)]
+pub struct Refused {
+    pub refusal: Refusal,
     pub remainder: u32,
 }
 
-impl Refusal {
-    // A number with no remainder beside it.
-    pub fn bare(number: u8) -> Refusal
-        ensures { result ≡ bare number }
-    {
-        Refusal {
-            number,
+impl From<Refusal> for Refused {
+    ghost from_gives = { λ refusal why. why ≡ record { refusal = refusal; remainder = 0 } };
+
+    fn from(refusal: Refusal) -> Refused {
+        Refused {
+            refusal,
             remainder: 0,
         }
     }
 }
 
-// Refusal 0 and the fields that receiving and gathering use, or the refusal and zeros. The slots' numbers are read apart, by
-// `read_numbers`.
+// What a call for C answers: 0, or the refusal's number. Beside it the remainder is written.
+pub fn answer<T: Drop>(checked: Result<T, Refused>, remainder: &mut u32) -> u8
+    ensures value { result ≡ (refusal_in checked).number }
+    ensures remainder_after { remainder.new ≡ (refusal_in checked).remainder }
+{
+    match checked {
+        Ok(_) => {
+            *remainder = 0;
+            0
+        }
+        Err(why) => {
+            *remainder = why.remainder;
+            why.refusal.number()
+        }
+    }
+}
+
+// What a good header says, as far as receiving and gathering use it. The slots' numbers are read apart, by `read_numbers`.
 #[derive(Clone, Copy)]
-pub struct Checked {
-    pub refusal: Refusal,
+pub struct Said {
     pub continuity_counter: u8,
     pub availability: u16,
     pub group_id: u8,
@@ -48,24 +64,18 @@ pub struct Checked {
 }
 
 // Checks the packet as a header, for refusals 1 to 7, then 20, then 8 to 11.
-pub fn check(packet: &[u8], pid: u16, kind: Kind) -> Checked
-    ensures { result ≡ checked_of kind pid packet.now }
+pub fn check(packet: &[u8], pid: u16, kind: Kind) -> Result<Said, Refused>
+    ensures { on_paper result ≡ checked_of kind pid packet.now }
 {
     if packet.len() != header_layout::HEADER_LENGTH {
-        return parts::refused(1);
+        return Err(Refused::from(Refusal::Length));
     }
     if !setting::pid_allowed(pid) {
-        return parts::refused(2);
+        return Err(Refused::from(Refusal::HeaderPid));
     }
-    let shown = parts::packet_refusal(packet, pid);
-    if shown.number != 0 {
-        return parts::refused_with(shown);
-    }
-    let number = reserved::refusal(packet, kind);
-    if number != 0 {
-        return parts::refused(number);
-    }
-    parts::said_by(packet, kind)
+    parts::packet_refusal(packet, pid)?;
+    reserved::refusal(packet, kind)?;
+    Ok(parts::said_by(packet, kind)?)
 }
 
 // Reads the numbers of the slots from a packet into 52 bytes, with zeros behind the kind's last slot. A packet or bytes of any other length change
@@ -97,8 +107,8 @@ pub fn cut_run(values: &mut [u8], part: &[u8], width: u8)
     if MOST_VALUES < values.len() {
         return;
     }
-    if part.len() < (values.len() * width as usize + 7) / 8 {
+    if part.len() < (values.len() * usize::from(width) + 7) / 8 {
         return;
     }
-    packed::read_run(values, part, width as u32);
+    packed::read_run(values, part, u32::from(width));
 }

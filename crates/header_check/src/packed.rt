@@ -12,15 +12,13 @@ pub(crate) fn read_run(values: &mut [u8], part: &[u8], width: u32)
     let mut held: u32 = 0;
     let mut bits: u32 = 0;
     let mut at = 0;
-    let mut i = 0;
-    while i < values.len() {
+    for value in values.iter_mut() {
         if bits < width {
-            held = (held % 256) * 256 + part[at] as u32;
+            held = (held % 256) * 256 + u32::from(part[at]);
             bits += 8;
             at += 1;
         }
         bits -= width;
-        values[i] = ((held >> bits) % limit) as u8;
-        i += 1;
+        *value = ((held >> bits) % limit) as u8;
     }
 }

@@ -1,15 +1,17 @@
 // The parts of the check: what a packet of 188 bytes shows and says, as far as the check needs it.
-ghost use Rattle.std.specs.Prelude.{◌≡◌, ◌+◌, ◌*◌, ◌/◌, ◌<◌, length, get_or, replicate};
+ghost use Rattle.std.specs.Prelude.{◌≡◌, ◌+◌, ◌*◌, ◌/◌, ◌<◌, length, get_or, replicate, IfOk, Ok};
 ghost use Rattle.bits.specs.Fields.{run, cut};
-ghost use Rattle.setting.specs.Setting.{blank};
 ghost use Rattle.setting.specs.Refusal.{first_of};
 ghost use Rattle.counters.specs.Counters.{last_slot};
 ghost use Rattle.setting.specs.Rules.{some_unavailable, pair_twice, bonding_checks, rule_checks};
 ghost use Rattle.header_layout.specs.Header.{header_length, remainder_of, packet_checks, reading};
-ghost use Rattle.header_check.specs.Checking.{bare, refusal_by, parts_of, parts_beside};
+ghost use Rattle.refusals.specs.Refusals.{answer};
+ghost use Rattle.header_check.specs.OnPaper.{refusal_in, on_paper};
+ghost use Rattle.header_check.specs.Checking.{bare, refusal_by, parts_of};
 
-use crate::{Checked, Refusal, packed};
+use crate::{Refused, Said, packed};
 use counters::{FramePosition, RelativeNumber, SHORT_SLOTS, SLOTS, STREAMS};
+use refusals::Refusal;
 use setting::Kind;
 
 // The number of 16 bits that starts at byte `at`.
@@ -29,45 +31,46 @@ fn remainder_of(packet: &[u8]) -> u32
 }
 
 // 3 to 7: what the packet itself shows.
-pub(crate) fn packet_refusal(packet: &[u8], pid: u16) -> Refusal
+pub(crate) fn packet_refusal(packet: &[u8], pid: u16) -> Result<(), Refused>
     requires { length packet.now ≡ header_length }
-    ensures { result ≡ refusal_by (first_of (packet_checks pid packet.now)) packet.now }
+    ensures { refusal_in result ≡ refusal_by (first_of (packet_checks pid packet.now)) packet.now }
 {
     if packet[0] != 0x47 {
-        return Refusal::bare(3);
+        return Err(Refused::from(Refusal::SyncByte));
     }
     if word_at(packet, 1) % 8192 != pid {
-        return Refusal::bare(4);
+        return Err(Refused::from(Refusal::OtherPid));
     }
     if packet[1] / 32 != 0 {
-        return Refusal::bare(5);
+        return Err(Refused::from(Refusal::FixedBits));
     }
     if packet[3] / 16 != 1 {
-        return Refusal::bare(5);
+        return Err(Refused::from(Refusal::FixedBits));
     }
     if word_at(packet, 4) % 8192 != 0x1A86 {
-        return Refusal::bare(6);
+        return Err(Refused::from(Refusal::SyncBits));
     }
     let remainder = remainder_of(packet);
     if remainder != 0 {
-        return Refusal {
-            number: 7,
+        return Err(Refused {
+            refusal: Refusal::Crc,
             remainder,
-        };
+        });
     }
-    Refusal::bare(0)
+    Ok(())
 }
 
+// The bytes of the slots' numbers in a header with fifteen streams.
+const NUMBERS_BYTES: usize = header_layout::PRIVATE - header_layout::NUMBERS;
+
 // The number of each slot: values of 4 bits, two from a byte.
-fn read_halves(values: &mut [u8], part: &[u8])
+fn read_halves(values: &mut [u8], part: &[u8; NUMBERS_BYTES])
     requires { length values.old ≡ 2 * length part.now }
     ensures { values.new ≡ cut 4 (length values.old) (run 8 part.now) }
 {
-    let mut k = 0;
-    while k < part.len() {
-        values[2 * k] = part[k] / 16;
-        values[2 * k + 1] = part[k] % 16;
-        k += 1;
+    for (k, &byte) in part.iter().enumerate() {
+        values[2 * k] = byte / 16;
+        values[2 * k + 1] = byte % 16;
     }
 }
 
@@ -77,25 +80,8 @@ fn availability_of(packet: &[u8], kind: Kind) -> u16
     ensures { result ≡ (reading kind packet.now).availability }
 {
     let size = setting::size_of(kind);
-    let own = word_at(packet, header_layout::AVAILABILITY) >> ((16 - size.streams) as u32);
-    own << ((RelativeNumber::LAST - size.streams) as u32)
-}
-
-// The bytes of the slots' numbers in a header with fifteen streams.
-const NUMBERS_BYTES: usize = header_layout::PRIVATE - header_layout::NUMBERS;
-
-// These bytes, copied one by one.
-fn hold(part: &[u8]) -> [u8; NUMBERS_BYTES]
-    requires { length part.now ≡ last_slot / 2 }
-    ensures { result ≡ part.now }
-{
-    let mut held = [0u8; NUMBERS_BYTES];
-    let mut i = 0;
-    while i < NUMBERS_BYTES {
-        held[i] = part[i];
-        i += 1;
-    }
-    held
+    let own = word_at(packet, header_layout::AVAILABILITY) >> u32::from(16 - size.streams);
+    own << u32::from(RelativeNumber::LAST - size.streams)
 }
 
 // The numbers of a header with fifteen streams. They are read by way of an array of their bytes, since the compiler then need not ask whether
@@ -105,8 +91,10 @@ fn read_long(numbers: &mut [u8], packet: &[u8])
     ensures numbers_after { numbers.new ≡ (reading Kind.Plain packet.now).relative_ts_number }
     ensures numbers_after_2 { numbers.new ≡ (reading Kind.Extended packet.now).relative_ts_number }
 {
-    let held = hold(&packet[header_layout::NUMBERS..header_layout::PRIVATE]);
-    read_halves(numbers, &held);
+    let part = &packet[header_layout::NUMBERS..header_layout::PRIVATE];
+    if let Some(&held) = part.first_chunk::<NUMBERS_BYTES>() {
+        read_halves(numbers, &held);
+    }
 }
 
 // The number of each slot that the kind has; those behind stay zeros.
@@ -115,8 +103,7 @@ pub(crate) fn read_numbers(numbers: &mut [u8], packet: &[u8], kind: Kind)
     ensures { numbers.new ≡ (reading kind packet.now).relative_ts_number }
 {
     match kind {
-        Kind::Plain => read_long(numbers, packet),
-        Kind::Extended => read_long(numbers, packet),
+        Kind::Plain | Kind::Extended => read_long(numbers, packet),
         Kind::Short => {
             packed::read_run(
                 &mut numbers[0..SHORT_SLOTS],
@@ -133,11 +120,7 @@ fn has_unavailable(packet: &[u8], kind: Kind, availability: u16) -> bool
     ensures { result ≡ some_unavailable availability (reading kind packet.now).relative_ts_number }
 {
     match kind {
-        Kind::Plain => setting_slots::has_unavailable_half(
-            availability,
-            &packet[header_layout::NUMBERS..header_layout::PRIVATE],
-        ),
-        Kind::Extended => setting_slots::has_unavailable_half(
+        Kind::Plain | Kind::Extended => setting_slots::has_unavailable_half(
             availability,
             &packet[header_layout::NUMBERS..header_layout::PRIVATE],
         ),
@@ -200,8 +183,7 @@ fn bonding_of(packet: &[u8], kind: Kind) -> Bonding
     ensures frame_position_value { result.frame_position ≡ (reading kind packet.now).frame_position.0 }
 {
     match kind {
-        Kind::Plain => no_bonding(),
-        Kind::Short => no_bonding(),
+        Kind::Plain | Kind::Short => no_bonding(),
         Kind::Extended => {
             let frames = packet[header_layout::BONDING + 3];
             Bonding {
@@ -216,8 +198,8 @@ fn bonding_of(packet: &[u8], kind: Kind) -> Bonding
 }
 
 // 11: the bonding fields of an extended header.
-fn bonding_refusal(bonding: Bonding, kind: Kind) -> u8
-    ensures { result ≡ first_of (bonding_checks kind bonding.number_of_carriers bonding.carrier_sequence bonding.number_of_frames bonding.frame_position) }
+fn bonding_refusal(bonding: Bonding, kind: Kind) -> Result<(), Refusal>
+    ensures { answer result ≡ first_of (bonding_checks kind bonding.number_of_carriers bonding.carrier_sequence bonding.number_of_frames bonding.frame_position) }
 {
     setting_rules::bonding_refusal(
         kind,
@@ -229,27 +211,24 @@ fn bonding_refusal(bonding: Bonding, kind: Kind) -> u8
 }
 
 // 8 to 11, and what the packet says if none of them applies. Each part is read when it is first needed.
-pub(crate) fn said_by(packet: &[u8], kind: Kind) -> Checked
+pub(crate) fn said_by(packet: &[u8], kind: Kind) -> Result<Said, Refusal>
     requires { length packet.now ≡ header_length }
-    ensures { result ≡ parts_beside (first_of (rule_checks kind (reading kind packet.now))) kind packet.now }
+    ensures value { answer result ≡ first_of (rule_checks kind (reading kind packet.now)) }
+    ensures said { IfOk result (λ said. on_paper (Ok said) ≡ parts_of (bare 0) (reading kind packet.now)) }
 {
     if !setting_rules::frame_type_allowed(kind, packet[6] % 16) {
-        return refused(8);
+        return Err(Refusal::FrameType);
     }
     let availability = availability_of(packet, kind);
     if has_unavailable(packet, kind, availability) {
-        return refused(9);
+        return Err(Refusal::UnavailableNumber);
     }
     if has_pair_twice(packet, kind, availability) {
-        return refused(10);
+        return Err(Refusal::EqualIdentifiers);
     }
     let bonding = bonding_of(packet, kind);
-    let number = bonding_refusal(bonding, kind);
-    if number != 0 {
-        return refused(number);
-    }
-    Checked {
-        refusal: Refusal::bare(0),
+    bonding_refusal(bonding, kind)?;
+    Ok(Said {
         continuity_counter: packet[3] % 16,
         availability,
         group_id: bonding.group_id,
@@ -257,28 +236,5 @@ pub(crate) fn said_by(packet: &[u8], kind: Kind) -> Checked
         carrier_sequence: bonding.carrier_sequence,
         number_of_frames: bonding.number_of_frames,
         frame_position: FramePosition(bonding.frame_position),
-    }
-}
-
-// A refusal by any number but 7: zeros in every other part.
-pub(crate) fn refused(number: u8) -> Checked
-    ensures { result ≡ parts_of (bare number) blank }
-{
-    refused_with(Refusal::bare(number))
-}
-
-// A refusal, with zeros in the parts of a setting.
-pub(crate) fn refused_with(refusal: Refusal) -> Checked
-    ensures { result ≡ parts_of refusal blank }
-{
-    Checked {
-        refusal,
-        continuity_counter: 0,
-        availability: 0,
-        group_id: 0,
-        number_of_carriers: 0,
-        carrier_sequence: 0,
-        number_of_frames: 0,
-        frame_position: FramePosition(0),
-    }
+    })
 }

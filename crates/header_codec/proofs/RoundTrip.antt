@@ -24,7 +24,7 @@ use Rattle.setting.specs.Rules.{width_checks, absent_checks, rule_checks}
 use Rattle.setting.proofs.Fields.{fit_some, Narrow, narrow as narrow-of}
 use Rattle.setting.proofs.Sizes.{sized, length-resized, resized_back}
 use Rattle.setting.proofs.Refusals.{first_none, none_at, none_append, none_before, none_behind}
-use Rattle.header_read.specs.declared.Reading.{Reading}
+use Rattle.header_read.specs.Reader.{Reading}
 use Rattle.header_layout.specs.Rows.{place, row_at}
 use Rattle.header_layout.specs.Layout.{Field, table, layout, row_with, reserved_from}
 use Rattle.header_layout.specs.Header.{paired, firsts, seconds, all_ones, streams_beyond, content, header_length, header, values, value, reading, packet_checks, zero_check, reserved_checks}

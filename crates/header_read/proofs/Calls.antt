@@ -12,7 +12,7 @@ use Rattle.setting.specs.Refusal.{of_length, leaves}
 use Rattle.setting_bytes.specs.Settings.{setting_length, setting_bytes, setting_of}
 use Rattle.setting_bytes.proofs.Back.{back}
 use Rattle.header_layout.specs.Header.{reading}
-use Rattle.header_read.specs.declared.Reading.{Reading}
+use Rattle.header_read.specs.Reader.{Reading}
 use Rattle.header_check.specs.Checking.{read_refusal, bare, refusal_by}
 use Rattle.header_read.specs.Reader.{read_of, into_refused, into_memory}
 use Rattle.header_read.proofs.Coded.{reading-long}

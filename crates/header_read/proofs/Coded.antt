@@ -1,9 +1,9 @@
 -- What a packet says, as the bytes of a setting: how long its lists are, and its bytes written part by part. Assumes nothing.
 use Prim.Native.Nat.{ℕ, ◌+◌, ◌-◌, ◌*◌, ◌/◌, ◌%◌}
-use mathlib.Core.Path.{◌≡◌, refl, sym, ap, ap₂, ◌∙◌}
+use mathlib.Core.Path.{◌≡◌, sym, ap, ap₂, ◌∙◌}
 use mathlib.Core.List.{List, [], ◌∷◌, ◌++◌, append_assoc}
 use native.Mathlib.Omega.{arith}
-use lib.ListN.{length, get_or, take, drop, set, replicate, length-append, length-replicate}
+use lib.ListN.{length, get_or, take, drop, set, length-append, length-replicate}
 use lib.Seq.{drop_at, drop-drop, length-take-le, sets, sets-eq}
 use Rattle.bits.specs.Fields.{Fit, run, cut}
 use Rattle.bits.proofs.Laws.{length_cut}

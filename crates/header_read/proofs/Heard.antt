@@ -4,7 +4,7 @@ use mathlib.Core.Path.{◌≡◌, ap}
 use mathlib.Core.List.{List, [], ◌∷◌}
 use Rattle.setting.specs.declared.Kind.{Kind}
 use Rattle.header_layout.specs.Header.{reading}
-use Rattle.header_check.specs.declared.Checked.{Checked}
+use Rattle.header_check.specs.OnPaper.{Checked}
 use Rattle.header_check.specs.Checking.{bare, parts_of}
 
 module _ (kind : Kind) (p : List ℕ) (h : Checked) (e : h ≡ parts_of (bare 0) (reading kind p)) where

@@ -1,13 +1,25 @@
 -- What reading a header answers.
-use Rattle.std.specs.Prelude.{ℕ, cond, List, eqb, length}
+use Rattle.std.specs.Prelude.{ℕ, cond, List, eqb, length, Result, Ok, Err}
 use Rattle.setting.specs.declared.Kind.{Kind}
+use Rattle.setting.specs.declared.Setting.{Setting}
 use Rattle.setting.specs.Setting.{blank}
 use Rattle.setting.specs.Refusal.{of_length, leaves}
 use Rattle.setting_bytes.specs.Settings.{setting_length, setting_bytes}
 use Rattle.header_layout.specs.Header.{reading}
-use Rattle.header_check.specs.declared.Refusal.{Refusal}
+use Rattle.refusals.specs.Refusals.{number}
+use Rattle.header_check.specs.declared.Refused.{Refused}
+use Rattle.header_check.specs.OnPaper.{Refusal}
 use Rattle.header_check.specs.Checking.{read_refusal, refusal_by}
-use Rattle.header_read.specs.declared.Reading.{Reading}
+
+-- what a read answers on paper: refusal 0 and the setting, or the refusal and zeros
+pub record Reading : Type 0 where
+  pub refusal : Refusal
+  pub setting : Setting
+
+-- those of a result
+abbrev pub reading_in : Result Setting Refused → Reading
+reading_in (Ok setting) = record { refusal = record { number = 0; remainder = 0 }; setting = setting }
+reading_in (Err why) = record { refusal = record { number = number why.refusal; remainder = why.remainder }; setting = blank }
 
 -- what a read answers
 unfoldable pub read_of : Kind → ℕ → List ℕ → Reading

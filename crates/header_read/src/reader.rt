@@ -1,5 +1,5 @@
 // The parts of the reader: each writes the bytes of its part of a setting straight from the packet.
-ghost use Rattle.std.specs.Prelude.{◌≡◌, ◌+◌, ◌*◌, ◌≤◌, length};
+ghost use Rattle.std.specs.Prelude.{◌≡◌, ◌+◌, ◌*◌, ◌≤◌, length, Ok};
 ghost use Rattle.counters.specs.Counters.{last_stream};
 ghost use Rattle.setting.specs.Setting.{private_bytes, auxiliary_bytes};
 ghost use Rattle.setting.specs.Announcing.{announced};
@@ -9,10 +9,11 @@ ghost use Rattle.setting_bytes.specs.Words.{word_bytes};
 ghost use Rattle.setting_bytes.specs.Settings.{announced_length, announced_bytes, setting_length, setting_bytes};
 ghost use Rattle.setting_pairs.specs.Identifiers.{ids_apart};
 ghost use Rattle.header_layout.specs.Header.{header_length, reading};
+ghost use Rattle.header_check.specs.OnPaper.{on_paper};
 ghost use Rattle.header_check.specs.Checking.{bare, parts_of};
 
 use counters::STREAMS;
-use header_check::Checked;
+use header_check::Said;
 use setting::{Kind, PRIVATE_BYTES};
 use setting_bytes::{
     ANNOUNCED, AUXILIARY, AVAILABILITY, AVAILABILITY_LOW, BONDING, CARRIERS, COUNTER, EMERGENCY,
@@ -25,11 +26,9 @@ fn read_words(part: &mut [u8], ids: &[u8], streams: usize)
     requires { (length part.old ≡ 2 * streams) × (4 * streams ≤ length ids.now + 2) }
     ensures { part.new ≡ word_bytes (ids_apart 4 streams ids.now) }
 {
-    let mut k = 0;
-    while k < streams {
+    for k in 0..streams {
         part[2 * k] = ids[4 * k];
         part[2 * k + 1] = ids[4 * k + 1];
-        k += 1;
     }
 }
 
@@ -71,7 +70,7 @@ fn read_announced(part: &mut [u8], packet: &[u8], kind: Kind, availability: u16)
     ensures { part.new ≡ announced_bytes (announced (reading kind packet.now)) }
 {
     let size = setting::size_of(kind);
-    let streams = size.streams as usize;
+    let streams = usize::from(size.streams);
     let at = header_layout::places_of(kind);
     let identifiers = at.identifiers;
     let control = at.control;
@@ -105,7 +104,7 @@ fn read_private(part: &mut [u8], packet: &[u8], kind: Kind)
     ensures { part.new ≡ (reading kind packet.now).private_data }
 {
     let size = setting::size_of(kind);
-    let own = size.private_bytes as usize;
+    let own = usize::from(size.private_bytes);
     let at = header_layout::places_of(kind);
     let start = at.private;
     slices::copy(&mut part[0..own], &packet[start..start + own]);
@@ -118,8 +117,7 @@ fn read_auxiliary(part: &mut [u8], packet: &[u8], kind: Kind)
     ensures { part.new ≡ (reading kind packet.now).auxiliary }
 {
     match kind {
-        Kind::Plain => slices::fill(part, 0),
-        Kind::Short => slices::fill(part, 0),
+        Kind::Plain | Kind::Short => slices::fill(part, 0),
         Kind::Extended => slices::copy(
             part,
             &packet[header_layout::PRIVATE..header_layout::BONDING],
@@ -127,27 +125,27 @@ fn read_auxiliary(part: &mut [u8], packet: &[u8], kind: Kind)
     }
 }
 
-// What the packet says, field by field, as the bytes of a setting. `heard` has the parts that the check has already read.
-pub(crate) fn read_setting(setting: &mut [u8], packet: &[u8], kind: Kind, heard: Checked)
+// What the packet says, field by field, as the bytes of a setting. `said` has the parts that the check has already read.
+pub(crate) fn read_setting(setting: &mut [u8], packet: &[u8], kind: Kind, said: Said)
     requires setting_len { length setting.old ≡ setting_length }
-    requires packet_len { (length packet.now ≡ header_length) × (heard ≡ parts_of (bare 0) (reading kind packet.now)) }
+    requires packet_len { (length packet.now ≡ header_length) × (on_paper (Ok said) ≡ parts_of (bare 0) (reading kind packet.now)) }
     ensures { setting.new ≡ setting_bytes (reading kind packet.now) }
 {
     read_announced(
         &mut setting[ANNOUNCED..NUMBERS],
         packet,
         kind,
-        heard.availability,
+        said.availability,
     );
     header_check::read_numbers(&mut setting[NUMBERS..PRIVATE], packet, kind);
     read_private(&mut setting[PRIVATE..AUXILIARY], packet, kind);
     read_auxiliary(&mut setting[AUXILIARY..BONDING], packet, kind);
-    let position = heard.frame_position;
-    setting[BONDING] = heard.group_id;
-    setting[CARRIERS] = heard.number_of_carriers;
-    setting[SEQUENCE] = heard.carrier_sequence;
-    setting[FRAMES] = heard.number_of_frames;
+    let position = said.frame_position;
+    setting[BONDING] = said.group_id;
+    setting[CARRIERS] = said.number_of_carriers;
+    setting[SEQUENCE] = said.carrier_sequence;
+    setting[FRAMES] = said.number_of_frames;
     setting[POSITION] = position.0;
-    setting[COUNTER] = heard.continuity_counter;
+    setting[COUNTER] = said.continuity_counter;
     setting[VERSION] = packet[6] / 32;
 }

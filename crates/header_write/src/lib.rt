@@ -2,11 +2,13 @@
 #![tactic(auto)]
 
 ghost use Rattle.std.specs.Prelude.{◌≡◌, cond, ◌&&◌, eqb, length};
+ghost use Rattle.refusals.specs.Refusals.{answer};
 ghost use Rattle.setting.specs.Refusal.{of_length};
 ghost use Rattle.setting_bytes.specs.Settings.{setting_length, setting_of};
 ghost use Rattle.header_layout.specs.Header.{header_length, header};
 ghost use Rattle.header_write.specs.Writing.{write_refusal, written};
 
+use refusals::Refusal;
 use setting::Kind;
 use setting_bytes::SETTING_BYTES;
 
@@ -32,29 +34,22 @@ pub fn write_header(buffer: &mut [u8], pid: u16, kind: Kind, setting: &[u8])
     );
 }
 
-// Writes the setting's header into a buffer of 188 bytes. Answers 0; or answers the refusal's number, and leaves the buffer as it was: 1
-// also where the setting is not 298 bytes.
-pub fn write(buffer: &mut [u8], pid: u16, kind: Kind, setting: &[u8]) -> u8
-    ensures value { result ≡ of_length setting_length (length setting.now) (write_refusal kind pid (setting_of setting.now) (length buffer.old)) }
+// Writes the setting's header into a buffer of 188 bytes. A refusal leaves the buffer as it was: a 1 also where the setting is not 298 bytes.
+pub fn write(buffer: &mut [u8], pid: u16, kind: Kind, setting: &[u8]) -> Result<(), Refusal>
+    ensures value { answer result ≡ of_length setting_length (length setting.now) (write_refusal kind pid (setting_of setting.now) (length buffer.old)) }
     ensures buffer_after { buffer.new ≡ cond (eqb (length setting.now) setting_length) (written kind pid (setting_of setting.now) buffer.old) buffer.old }
 {
     if setting.len() != SETTING_BYTES {
-        return 1;
+        return Err(Refusal::Length);
     }
     if buffer.len() != header_layout::HEADER_LENGTH {
-        return 1;
+        return Err(Refusal::Length);
     }
     if !setting::pid_allowed(pid) {
-        return 2;
+        return Err(Refusal::HeaderPid);
     }
-    let width = setting_checks::width_refusal(kind, setting);
-    if width != 0 {
-        return width;
-    }
-    let rule = setting_checks::rule_refusal(kind, setting);
-    if rule != 0 {
-        return rule;
-    }
+    setting_checks::width_refusal(kind, setting)?;
+    setting_checks::rule_refusal(kind, setting)?;
     write_header(buffer, pid, kind, setting);
-    0
+    Ok(())
 }

@@ -21,16 +21,14 @@ pub(crate) fn write_run(part: &mut [u8], values: &[u8], width: u32) -> u32
     let mut held: u32 = 0;
     let mut bits: u32 = 0;
     let mut at = 0;
-    let mut i = 0;
-    while i < values.len() {
-        held = ((held % 256) << width) + values[i] as u32 % limit;
+    for &value in values {
+        held = ((held % 256) << width) + u32::from(value) % limit;
         bits += width;
         if 8 <= bits {
             bits -= 8;
             part[at] = ((held >> bits) % 256) as u8;
             at += 1;
         }
-        i += 1;
     }
     held
 }

@@ -1,7 +1,7 @@
 // The parts of the writer: each fills its own bytes of the buffer, straight from the setting's bytes. Of each field the low bits are written.
 ghost use Rattle.std.specs.Prelude.{◌≡◌, ℕ, ◌+◌, ◌-◌, ◌*◌, ◌/◌, ◌≤◌, length};
 ghost use Rattle.bits.specs.Fields.{bits_of, run};
-ghost use Rattle.counters.specs.Counters.{last_slot, last_stream, last_short_stream};
+ghost use Rattle.counters.specs.Counters.{last_slot, last_stream};
 ghost use Rattle.setting_bytes.specs.Words.{words_of};
 ghost use Rattle.setting_bytes.specs.Settings.{setting_length, setting_of};
 ghost use Rattle.setting.specs.declared.Size.{Size};
@@ -53,9 +53,10 @@ fn write_start(part: &mut [u8], pid: u16, setting: &[u8])
     requires { (length part.old ≡ streams_start) × (length setting.now ≡ setting_length) }
     ensures { (z : Size) → run 8 part.new ≡ line_bits z pid (setting_of setting.now) start_table }
 {
+    let [pid_high, pid_low] = pid.to_be_bytes();
     part[0] = 0x47;
-    part[1] = (pid / 256 % 32) as u8;
-    part[2] = (pid % 256) as u8;
+    part[1] = pid_high % 32;
+    part[2] = pid_low;
     part[3] = 16 + setting[COUNTER] % 16;
     part[4] = 0xFA;
     part[5] = 0x86;
@@ -64,34 +65,19 @@ fn write_start(part: &mut [u8], pid: u16, setting: &[u8])
         + setting[FRAME_TYPE] % 16;
 }
 
-// The availability of fifteen streams and a reserved bit: two bytes.
-fn write_fifteen(part: &mut [u8], setting: &[u8])
-    requires { (length part.old ≡ 2) × (length setting.now ≡ setting_length) }
-    ensures { (z : Size) (pid : ℕ) → z.streams ≡ last_stream → run 8 part.new ≡ line_bits z pid (setting_of setting.now) (stream_table z) }
-{
-    let availability = bits::word(setting[AVAILABILITY], setting[AVAILABILITY_LOW]);
-    part[0] = (availability / 128 % 256) as u8;
-    part[1] = (availability % 128 * 2 + 1) as u8;
-}
-
-// The availability of seven streams, which stand in the setting's highest bits, and a reserved bit: one byte.
-fn write_seven(part: &mut [u8], setting: &[u8])
-    requires { (length part.old ≡ 1) × (length setting.now ≡ setting_length) }
-    ensures { (z : Size) (pid : ℕ) → z.streams ≡ last_short_stream → run 8 part.new ≡ line_bits z pid (setting_of setting.now) (stream_table z) }
-{
-    let availability = bits::word(setting[AVAILABILITY], setting[AVAILABILITY_LOW]);
-    part[0] = (availability / 256 % 128 * 2 + 1) as u8;
-}
-
-// The availability of each stream of the kind.
+// The availability of each stream of the kind, and a reserved bit: two bytes for fifteen streams, and one for seven, which stand in the setting's
+// highest bits.
 fn write_streams(part: &mut [u8], kind: Kind, setting: &[u8])
     requires { (length part.old ≡ (streams_of kind + 1) / 8) × (length setting.now ≡ setting_length) }
     ensures { (pid : ℕ) → run 8 part.new ≡ line_bits (size_of kind) pid (setting_of setting.now) (stream_table (size_of kind)) }
 {
+    let availability = bits::word(setting[AVAILABILITY], setting[AVAILABILITY_LOW]);
     match kind {
-        Kind::Plain => write_fifteen(part, setting),
-        Kind::Extended => write_fifteen(part, setting),
-        Kind::Short => write_seven(part, setting),
+        Kind::Plain | Kind::Extended => {
+            part[0] = (availability / 128 % 256) as u8;
+            part[1] = (availability % 128 * 2 + 1) as u8;
+        }
+        Kind::Short => part[0] = (availability / 256 % 128 * 2 + 1) as u8,
     }
 }
 
@@ -101,13 +87,11 @@ fn write_identifiers(part: &mut [u8], ts: &[u8], os: &[u8], streams: usize)
     requires ts_len { (length ts.now ≡ 2 * last_stream) × (length os.now ≡ 2 * last_stream) }
     ensures { run 8 part.new ≡ run 16 (paired (resized streams (words_of ts.now)) (resized streams (words_of os.now))) }
 {
-    let mut k = 0;
-    while k < streams {
+    for k in 0..streams {
         part[4 * k] = ts[2 * k];
         part[4 * k + 1] = ts[2 * k + 1];
         part[4 * k + 2] = os[2 * k];
         part[4 * k + 3] = os[2 * k + 1];
-        k += 1;
     }
 }
 
@@ -119,11 +103,9 @@ fn write_control(part: &mut [u8], setting: &[u8])
 {
     let r = &setting[STATUSES..EMERGENCY];
     let last = part.len() - 1;
-    let mut k = 0;
-    while k < last {
+    for k in 0..last {
         let at = 4 * k;
         part[k] = packed::four(r[at], r[at + 1], r[at + 2], r[at + 3]);
-        k += 1;
     }
     // The last value is the reserved bit, a one, and the emergency bit.
     let at = 4 * last;
@@ -136,8 +118,9 @@ fn write_numbers(part: &mut [u8], kind: Kind, numbers: &[u8])
     ensures { run 8 part.new ≡ run (size_of kind).number_bits (resized (slots_of kind) numbers.now) }
 {
     match kind {
-        Kind::Plain => bits::pack_halves(&mut part[0..LONG_NUMBERS_BYTES], numbers),
-        Kind::Extended => bits::pack_halves(&mut part[0..LONG_NUMBERS_BYTES], numbers),
+        Kind::Plain | Kind::Extended => {
+            bits::pack_halves(&mut part[0..LONG_NUMBERS_BYTES], numbers)
+        }
         Kind::Short => {
             packed::write_run(
                 &mut part[0..SHORT_NUMBERS_BYTES],
@@ -196,7 +179,7 @@ pub(crate) fn write_body(part: &mut [u8], pid: u16, kind: Kind, setting: &[u8])
     ensures { run 8 part.new ≡ body kind pid (setting_of setting.now) }
 {
     let size = setting::size_of(kind);
-    let streams = size.streams as usize;
+    let streams = usize::from(size.streams);
     let at = header_layout::places_of(kind);
     let identifiers = at.identifiers;
     let control = at.control;
@@ -228,8 +211,5 @@ pub(crate) fn write_word(part: &mut [u8], word: u32)
     requires { length part.old ≡ 4 }
     ensures { run 8 part.new ≡ bits_of 32 word }
 {
-    part[0] = (word / 16777216) as u8;
-    part[1] = (word / 65536 % 256) as u8;
-    part[2] = (word / 256 % 256) as u8;
-    part[3] = (word % 256) as u8;
+    part.copy_from_slice(&word.to_be_bytes());
 }

@@ -22,18 +22,12 @@ fn error_of(why: FillError) -> Error {
 pub fn argument(rt: HostRuntime, i: usize, buffer: &mut [u8]) -> Result<usize>
     ensures { ReadsAtMost result buffer.new }
 {
-    match rt.arg(i, buffer) {
-        Ok(n) => Ok(io::count(n as isize, buffer)),
-        Err(why) => Err(error_of(why)),
-    }
+    rt.arg(i, buffer).map_err(error_of)
 }
 
 fn is_there(rt: HostRuntime, i: usize) -> bool {
     let mut first = [0u8; 1];
-    match rt.arg(i, &mut first) {
-        Err(FillError::NotPresent) => false,
-        _ => true,
-    }
+    !matches!(rt.arg(i, &mut first), Err(FillError::NotPresent))
 }
 
 // How many arguments the program was started with, its own name among them.

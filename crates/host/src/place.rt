@@ -43,14 +43,6 @@ fn standard_end(rt: HostRuntime, about: &Metadata) -> Result<u64> {
     file.seek(SeekFrom::End(0))
 }
 
-// A place in a file as a count of bytes; 0 if it is none.
-fn place(found: Result<u64>) -> u64 {
-    match found {
-        Ok(n) => n,
-        Err(_) => 0,
-    }
-}
-
 fn left_of_standard(rt: HostRuntime) -> Option<u64> {
     let about = fs::metadata(&rt, STANDARD).ok()?;
     if !has_end(&about) {
@@ -64,7 +56,7 @@ fn left_of_standard(rt: HostRuntime) -> Option<u64> {
 fn left_of_file(file: &File) -> Option<u64> {
     let mut at = file;
     let here = at.seek(SeekFrom::Current(0)).ok()?;
-    let end = place(at.seek(SeekFrom::End(0)));
+    let end = at.seek(SeekFrom::End(0)).unwrap_or(0);
     let _ = at.seek(SeekFrom::Start(here));
     Some(end.wrapping_sub(here))
 }
@@ -74,7 +66,6 @@ pub fn left(rt: HostRuntime, input: &Input) -> Option<u64> {
     match input {
         Input::Standard(_) => left_of_standard(rt),
         Input::Named(file) => left_of_file(file),
-        Input::None => None,
     }
 }
 

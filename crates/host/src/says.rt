@@ -12,8 +12,8 @@ const TEXT_BYTES: usize = 256;
 fn text_end(text: &[u8]) -> usize
     ensures { result ≤ length text.now }
 {
-    for i in 0..text.len() {
-        if text[i] == 0 || text[i..].starts_with(b" (os error ") {
+    for (i, byte) in text.iter().enumerate() {
+        if *byte == 0 || text[i..].starts_with(b" (os error ") {
             return i;
         }
     }
@@ -27,7 +27,8 @@ fn text_of(error: Error) -> [u8; TEXT_BYTES] {
     to.into_inner()
 }
 
-// Writes a line: what failed, a colon and why.
+// Writes a line: what failed, a colon and why. By `io::write_all`: the library's standard error is had of a runtime, and a caller that only
+// reads, as the lister does, has none at hand.
 pub fn fail(what: &[u8], error: Error) {
     let text = text_of(error);
     let end = text_end(&text);

@@ -10,23 +10,29 @@
 
 mod fields;
 mod layout;
-mod refusals;
+mod table;
 
-// Standard output.
-pub(crate) const STDOUT_FILENO: i32 = 1;
+use std::fmt::Display;
 
-fn main() {
-    fields::print_header_fields();
-    fields::print_stream_fields();
-    fields::print_bonding_fields();
-    fields::print_numbers();
-    refusals::print_lent_refusals();
-    refusals::print_header_refusals();
-    refusals::print_setting_refusals();
-    refusals::print_call_refusals();
-    layout::print_lengths();
-    layout::print_private_lengths();
-    layout::print_places();
-    layout::print_stream_places();
-    layout::print_extended_places();
+// Prints a line for each. A write that fails is not reported: what was not written is missing in the table.
+fn print<T: Display>(rt: HostRuntime, lines: &[T]) {
+    for line in lines {
+        let _ = println!(rt; "{line}");
+    }
+}
+
+fn main(rt: HostRuntime) {
+    print(rt, &fields::header_fields());
+    print(rt, &fields::stream_fields());
+    print(rt, &fields::bonding_fields());
+    print(rt, &fields::numbers());
+    print(rt, &table::lent());
+    print(rt, &table::header());
+    print(rt, &table::setting());
+    print(rt, &table::call());
+    print(rt, &layout::lengths());
+    print(rt, &layout::private_lengths());
+    print(rt, &layout::places());
+    print(rt, &layout::stream_places());
+    print(rt, &layout::extended_places());
 }

@@ -28,7 +28,8 @@ fn read_once(input: &Input, name: &[u8], place: &mut [u8]) -> usize
     }
 }
 
-// Reads until the block is full or a read brings nothing. A read that brings less than was asked for is not the end.
+// Reads until the block is full or a read brings nothing. A read that brings less than was asked for is not the end. It stays a `while`, since
+// how far a turn comes is what the read brings.
 fn read_block(input: &Input, name: &[u8], block: &mut [u8]) -> usize
     ensures { IsPrefixLen result block.new }
 {
@@ -51,8 +52,7 @@ fn put_block(out: &mut [u8], block: &[u8], first: u64) -> usize
     ensures out_after { out.new ≡ over_front (listing first block.now) out.old }
     ensures prefix_len { IsPrefixLen result out.new }
 {
-    let listed = listing::list(out, block, first);
-    listed.length
+    listing::list(out, block, first).unwrap_or(0)
 }
 
 // Lists one block, whose first packet has this number. Answers whether more may follow.
@@ -73,14 +73,15 @@ fn list_block(rt: HostRuntime, input: &Input, name: &[u8], first: u64) -> bool
 // Lists the open file. A proved loop has to end: this one does, at the latest, when the numbers of packets run out.
 fn list_open(rt: HostRuntime, input: &Input, name: &[u8]) {
     let step = BLOCK_PACKETS as u64;
-    let mut number: u64 = 0;
-    while number <= u64::MAX - step && list_block(rt, input, name, number) {
-        number += step;
+    for block in 0..u64::MAX / step {
+        if !list_block(rt, input, name, step * block) {
+            return;
+        }
     }
 }
 
 fn list_named(rt: HostRuntime, name: &[u8]) {
-    if name.len() == 1 && name[0] == b'-' {
+    if name == b"-".as_slice() {
         list_open(rt, &Input::Standard(rt.stdin()), name);
         return;
     }
@@ -103,9 +104,7 @@ fn main(rt: HostRuntime) {
     if count < 2 {
         list_open(rt, &Input::Standard(rt.stdin()), b"-");
     }
-    let mut i = 1;
-    while i < count {
+    for i in 1..count {
         list_argument(rt, i);
-        i += 1;
     }
 }

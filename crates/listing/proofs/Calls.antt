@@ -12,9 +12,8 @@ use Rattle.io.specs.Counts.{IsPrefixLen}
 use Rattle.io.proofs.Counting.{prefix_len_of_le}
 use Rattle.setting.specs.Refusal.{first_of}
 use Rattle.setting.proofs.Refusals.{none_first, none_at}
-use Rattle.listing.specs.declared.Listed.{Listed}
 use Rattle.listing.specs.Text.{Puts}
-use Rattle.listing.specs.Listing.{packets_in, room_for, listing, list_checks, list_refusal, listed, over_front, listed_over}
+use Rattle.listing.specs.Listing.{Listed, packets_in, room_for, listing, list_checks, list_refusal, listed, over_front, listed_over}
 
 module _ (first lent room : ℕ) where
   -- 17

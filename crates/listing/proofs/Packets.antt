@@ -1,10 +1,11 @@
 -- Laws of the lines of a recording: none yet, one more, all. Assumes nothing.
 use Prim.Native.Nat.{ℕ, ◌+◌, ◌-◌, ◌*◌, ◌%◌, ◌≤◌, ◌<◌}
-use mathlib.Core.Path.{◌≡◌, refl}
+use mathlib.Core.Path.{◌≡◌, refl, sym, ap, ◌∙◌}
 use mathlib.Core.List.{List, [], ◌++◌}
 use native.Mathlib.Numerals.{add-one}
 use native.Mathlib.Omega.{arith}
-use lib.ListN.{length, take, drop}
+use lib.ListN.{length, take, drop, length-append, length-drop}
+use lib.Seq.{take_at, drop_at, drop-drop}
 use Rattle.listing.specs.Listing.{packets_in, line, lines, tail_line, listing}
 
 module _ (first : ℕ) (bytes : List ℕ) where
@@ -12,19 +13,26 @@ module _ (first : ℕ) (bytes : List ℕ) where
   unfolding lines
   lines_none = refl
 
-  -- the line of packet k, which stands at this place
-  pub lines_more :
-      (k from n : ℕ) → from ≡ 188 * k → n ≡ 188
-      → lines first bytes k ++ line (first + k) (take n (drop from bytes)) ≡ lines first bytes (k + 1)
+  -- the line of packet n
+  pub lines_more : (n : ℕ) (packet : List ℕ) → take 188 (drop (188 * n) bytes) ≡ packet → lines first bytes n ++ line (first + n) packet ≡ lines first bytes (n + 1)
   unfolding lines
-  lines_more k from n at long = rw (add-one, at, long)
+  lines_more n packet e = rw (add-one, e)
+
+  -- packet n, in front of what is left of the recording
+  pub next_packet : (n : ℕ) (packet rest : List ℕ) → drop (188 * n) bytes ≡ packet ++ rest → length packet ≡ 188
+      → (take 188 (drop (188 * n) bytes) ≡ packet) × (rest ≡ drop (188 * (n + 1)) bytes) × (188 * (n + 1) ≤ length bytes)
+  next_packet n packet rest e long =
+      let next : 188 * n + 188 ≡ 188 * (n + 1) = omega arith in
+      let whole : length bytes - 188 * n ≡ 188 + length rest = sym (length-drop (188 * n) bytes) ∙ ap length e ∙ length-append packet rest ∙ ap (λ (k : ℕ). k + length rest) long in (
+        ap (take 188) e ∙ take_at packet rest 188 long,
+        sym (drop_at packet rest 188 long) ∙ ap (drop 188) (sym e) ∙ drop-drop 188 (188 * n) bytes ∙ ap (λ (k : ℕ). drop k bytes) next,
+        omega arith,
+      )
 
   -- the lines of all packets, and what is left over
   pub lines-all :
-      (k from : ℕ) → from ≤ length bytes → from ≡ 188 * k → length bytes - from < 188
-      → lines first bytes k ++ tail_line (length bytes - from) ≡ listing first bytes
+      (n : ℕ) → 188 * n ≤ length bytes → length bytes - 188 * n < 188 → lines first bytes n ++ tail_line (length bytes % 188) ≡ listing first bytes
   unfolding listing
-  lines-all k from h at last =
-      let packets : packets_in (length bytes) ≡ k = omega arith in
-      let left : length bytes % 188 ≡ length bytes - from = omega arith in
-      rw (packets, left)
+  lines-all n h last =
+      let packets : packets_in (length bytes) ≡ n = omega arith in
+      rw packets

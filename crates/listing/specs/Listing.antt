@@ -1,13 +1,13 @@
 -- The listing of a recording: a line for each packet, and one for left-over bytes.
-use Rattle.std.specs.Prelude.{ℕ, zero, suc, ◌+◌, ◌*◌, ◌/◌, ◌%◌, ◌^◌, ◌≡◌, cond, List, [], ◌∷◌, ◌++◌, eqb, ltb, length, take, drop}
+use Rattle.std.specs.Prelude.{Result, Ok, Err, ℕ, zero, suc, ◌+◌, ◌*◌, ◌/◌, ◌%◌, ◌^◌, ◌≡◌, cond, List, [], ◌∷◌, ◌++◌, eqb, ltb, length, take, drop}
 use Rattle.setting.specs.declared.Kind.{Kind}
+use Rattle.refusals.specs.Refusals.{number}
 use Rattle.setting.specs.Refusal.{Check, first_of}
 use Rattle.counters.specs.Counters.{count_available}
-use Rattle.header_check.specs.declared.Refusal.{Refusal}
-use Rattle.header_read.specs.declared.Reading.{Reading}
+use Rattle.header_check.specs.OnPaper.{Refusal}
+use Rattle.header_read.specs.Reader.{Reading}
 use Rattle.header_read.specs.Reader.{read_of}
 use Rattle.packet.specs.Packets.{packet_length}
-use Rattle.listing.specs.declared.Listed.{Listed}
 use Rattle.listing.specs.Text.{space, line_feed, decimal, hexadecimal, field}
 
 -- the header PID of a recording that is listed
@@ -84,7 +84,17 @@ list_checks first lent room = (17, ltb (2 ^ 64) (first + packets_in lent)) ∷ (
 unfoldable pub list_refusal : ℕ → ℕ → ℕ → ℕ
 list_refusal first lent room = first_of (list_checks first lent room)
 
--- what a call answers: the refusal, and the listing's length or 0
+-- a refusal and length 0, or refusal 0 and the listing's length
+pub record Listed : Type 0 where
+  pub refusal : ℕ
+  pub length : ℕ
+
+-- those of a result
+abbrev pub listed_in : Result ℕ Rattle.refusals.specs.declared.Refusal.Refusal → Listed
+listed_in (Ok n) = record { refusal = 0; length = n }
+listed_in (Err why) = record { refusal = number why; length = 0 }
+
+-- what a call answers
 unfoldable pub listed : ℕ → List ℕ → ℕ → Listed
 listed first bytes room =
     record {

@@ -1,30 +1,31 @@
 // The lines of a listing, put into a lent buffer.
 ghost use Rattle.std.specs.Prelude.{◌+◌, ◌≤◌, ◌^◌, length};
+ghost use Rattle.refusals.specs.Refusals.{number};
 ghost use Rattle.listing.specs.Text.{Puts};
 ghost use Rattle.listing.specs.Listing.{line_room, room_for, packets_in, refused_fields, header_fields, line, tail_line, listing};
 
 use crate::text::{put_field, put_hex, put_number};
-use header_check::Refusal;
+use header_check::Refused;
 use packet::PACKET_BYTES;
+use refusals::Refusal;
 use setting::Kind;
 
 // The header PID of a recording that is listed.
 const PID: u16 = 0x1FF0;
 
-// The number of the only refusal that has a remainder.
-const WRONG_CRC: u8 = 7;
-
-fn put_refused(out: &mut [u8], at: usize, refusal: Refusal) -> usize
+// The refusal's number, and behind 7 the remainder.
+fn put_refused(out: &mut [u8], at: usize, why: Refused) -> usize
     requires { at + 38 ≤ length out.old }
-    ensures puts { Puts out.old at (refused_fields refusal) out.new result }
+    ensures puts { Puts out.old at (refused_fields (record { number = number why.refusal; remainder = why.remainder })) out.new result }
     ensures upper_bound { result ≤ at + 38 }
 {
     let second = put_field(out, at, b"refused", b' ');
-    if refusal.number == WRONG_CRC {
-        let third = put_number(out, second, WRONG_CRC as u64, b' ');
-        return put_hex(out, third, refusal.remainder, b'\n');
+    let number = why.refusal.number() as u64;
+    if let Refusal::Crc = why.refusal {
+        let third = put_number(out, second, number, b' ');
+        return put_hex(out, third, why.remainder, b'\n');
     }
-    put_number(out, second, refusal.number as u64, b'\n')
+    put_number(out, second, number, b'\n')
 }
 
 fn put_header(out: &mut [u8], at: usize, counter: u8, version: u8, available: u32) -> usize
@@ -44,21 +45,17 @@ fn put_line(out: &mut [u8], at: usize, number: u64, packet: &[u8]) -> usize
     ensures puts { Puts out.old at (line number packet.now) out.new result }
     ensures upper_bound { result ≤ at + line_room }
 {
-    let reading = header_read::read(packet, PID, Kind::Plain);
     let next = put_number(out, at, number, b' ');
-    let refusal = reading.refusal;
-    if refusal.number != 0 {
-        return put_refused(out, next, refusal);
+    match header_read::read(packet, PID, Kind::Plain) {
+        Ok(setting) => put_header(
+            out,
+            next,
+            setting.continuity_counter,
+            setting.version_number,
+            counters::count_available(setting.availability),
+        ),
+        Err(why) => put_refused(out, next, why),
     }
-    let setting = reading.setting;
-    let available = counters::count_available(setting.availability);
-    put_header(
-        out,
-        next,
-        setting.continuity_counter,
-        setting.version_number,
-        available,
-    )
 }
 
 // The line for left-over bytes, if there are any.
@@ -82,13 +79,8 @@ pub(crate) fn put_listing(out: &mut [u8], bytes: &[u8], first: u64) -> usize
     ensures upper_bound { result ≤ length out.new }
 {
     let mut at = 0;
-    let mut from = 0;
-    let mut passed: u64 = 0;
-    while PACKET_BYTES <= bytes.len() - from {
-        let end = from + PACKET_BYTES;
-        at = put_line(out, at, first + passed, &bytes[from..end]);
-        from = end;
-        passed += 1;
+    for (k, packet) in bytes.chunks_exact(PACKET_BYTES).enumerate() {
+        at = put_line(out, at, first + k as u64, packet);
     }
-    put_tail(out, at, bytes.len() - from)
+    put_tail(out, at, bytes.len() % PACKET_BYTES)
 }

@@ -1,7 +1,7 @@
 -- A packet of 188 bytes may stand in a slot, or is unfit; a stream's packets are so one by one. Assumes nothing.
-use Prim.Native.Nat.{ℕ, zero, suc, ◌+◌, ◌*◌, ◌/◌}
+use Prim.Native.Nat.{ℕ, suc, ◌+◌, ◌*◌, ◌/◌}
 use mathlib.Core.Path.{◌≡◌, refl, sym, ap, ap₂, fun_ext, ◌∙◌}
-use mathlib.Core.Bool.{Bool, true, false, not, ◌||◌, or_assoc, or-false, false-or}
+use mathlib.Core.Bool.{Bool, true, false, not, ◌||◌}
 use mathlib.Core.List.{List, [], ◌∷◌, ◌++◌}
 use native.Mathlib.Omega.{arith}
 use borrow.Author.Tests.{eq-eqb}
@@ -9,6 +9,7 @@ use lib.Dec.{eqb}
 use lib.ListN.{length, take, drop, length-append}
 use lib.Seq.{take_at, drop_at, drop-drop}
 use Rattle.slices.specs.Slices.{any_below}
+use Rattle.slices.proofs.Any.{any_first}
 use Rattle.setting.specs.Refusal.{none, more}
 use Rattle.setting.proofs.Refusals.{first_none, none_first, none_at}
 use Rattle.packet.specs.Packets.{packet_length, slot, unfit, place_refusal, some_unfit_in}
@@ -24,13 +25,6 @@ may_not_stand pid p l h = unless_fit (unfit pid p) (λ e. h (first_none (more (a
     unless_fit : (b : Bool) → (b ≡ false → ⊥) → b ≡ true
     unless_fit true fit = refl
     unless_fit false fit = absurd (fit refl)
-
--- a test of numbers below n, the first of them first
-any_first : (n : ℕ) (test : ℕ → Bool) → any_below (suc n) test ≡ test 0 || any_below n (λ k. test (suc k))
-unfolding any_below
-any_first zero test = false-or (test 0) ∙ sym (or-false (test 0))
-any_first (suc n) test =
-    ap (λ (b : Bool). b || test (suc n)) (any_first n test) ∙ or_assoc (test 0) (any_below n (λ k. test (suc k))) (test (suc n))
 
 -- a stream's first packet, and those behind it
 pub unfit-first : (pid : ℕ) (p rest : List ℕ) → length p ≡ packet_length → some_unfit_in pid (p ++ rest) ≡ unfit pid p || some_unfit_in pid rest

@@ -2,11 +2,13 @@
 #![tactic(auto)]
 
 ghost use Rattle.std.specs.Prelude.{◌≡◌, length};
+ghost use Rattle.refusals.specs.Refusals.{answer};
 ghost use Rattle.setting.specs.Size.{slots_of};
 ghost use Rattle.packet.specs.Packets.{frame_length, place_refusal, some_unfit_in, rest_of};
 
 use counters::SLOTS;
 use header_layout::HEADER_LENGTH;
+use refusals::Refusal;
 use setting::Kind;
 
 // A header is a packet.
@@ -20,43 +22,39 @@ pub fn frame_bytes(kind: Kind) -> usize
     ensures { result ≡ frame_length (slots_of kind) }
 {
     let size = setting::size_of(kind);
-    PACKET_BYTES * (size.slots as usize + 1)
+    PACKET_BYTES * (usize::from(size.slots) + 1)
 }
 
-// 1: not 188 bytes; 12: lacks 0x47 or bears the header PID; 0: may stand in a slot.
-pub fn place_refusal(packet: &[u8], pid: u16) -> u8
-    ensures { result ≡ place_refusal pid packet.now }
+// Whether a packet may stand in a slot: it is 188 bytes (else 1), begins with 0x47 and does not bear the header PID (else 12).
+pub fn place_refusal(packet: &[u8], pid: u16) -> Result<(), Refusal>
+    ensures { answer result ≡ place_refusal pid packet.now }
 {
     if packet.len() != PACKET_BYTES {
-        return 1;
+        return Err(Refusal::Length);
     }
     if packet[0] != 0x47 {
-        return 12;
+        return Err(Refusal::UnfitPacket);
     }
-    if ((packet[1] % 32) as u16) * 256 + packet[2] as u16 == pid {
-        return 12;
+    if u16::from(packet[1] % 32) * 256 + u16::from(packet[2]) == pid {
+        return Err(Refusal::UnfitPacket);
     }
-    0
+    Ok(())
 }
 
 // Whether any whole packet of a stream lacks 0x47 or bears the header PID.
 pub fn has_unfit(stream: &[u8], pid: u16) -> bool
     ensures { result ≡ some_unfit_in pid stream.now }
 {
-    let count = stream.len() / PACKET_BYTES;
-    let mut k = 0;
-    while k < count {
-        let at = PACKET_BYTES * k;
-        if place_refusal(&stream[at..at + PACKET_BYTES], pid) != 0 {
+    for packet in stream.chunks_exact(PACKET_BYTES) {
+        if place_refusal(packet, pid).is_err() {
             return true;
         }
-        k += 1;
     }
     false
 }
 
 // The rest of a stream from which so many packets were placed.
-pub fn rest<'a>(stream: &'a [u8], placed: usize) -> &'a [u8]
+pub fn rest(stream: &[u8], placed: usize) -> &[u8]
     ensures { result.now ≡ rest_of stream.now placed }
 {
     let end = stream.len();
@@ -71,7 +69,7 @@ pub fn rest<'a>(stream: &'a [u8], placed: usize) -> &'a [u8]
 pub extern "C" fn niranbok_place_refusal(packet: &[u8], pid: u16) -> u8
     ensures { result ≡ place_refusal pid packet.now }
 {
-    place_refusal(packet, pid)
+    refusals::answer(place_refusal(packet, pid))
 }
 
 // How many bytes of a stream are left after so many packets were placed.

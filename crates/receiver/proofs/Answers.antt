@@ -14,9 +14,9 @@ use Rattle.setting.proofs.Refusals.{answers, passed, first_none, kept, written}
 use Rattle.setting_bytes.specs.Kinds.{kinds, is_kind, kind_of}
 use Rattle.setting_bytes.specs.Words.{word_bytes}
 use Rattle.setting_bytes.proofs.KindsBack.{kind_same}
-use Rattle.receiver.specs.declared.HandedOut.{HandedOut}
+use Rattle.receiver.specs.Receiving.{HandedOut}
 use Rattle.receiver.specs.declared.Event.{Event}
-use Rattle.receiver.specs.declared.Told.{Told}
+use Rattle.receiver.specs.Bytes.{Told}
 use Rattle.receiver.specs.Receiving.{waiting, receive_refusal, receive_of, receive_store, hand_out_refusal, hand_out_of, hand_out_buffer}
 use Rattle.receiver.specs.Bytes.{receiver_length, stage_bytes, receiver_bytes, receiver_of, told}
 use Rattle.receiver.specs.Calls.{lent_refusal, start_refused, start_state, receive_refused, receive_told, receive_event, receive_remainder, receive_state, receive_memory, hand_out_refused, hand_out_packets, hand_out_memory}

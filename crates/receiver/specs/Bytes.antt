@@ -6,7 +6,6 @@ use Rattle.setting_bytes.specs.Settings.{part}
 use Rattle.counters.specs.Counters.{last_slot}
 use Rattle.setting.specs.Setting.{Array}
 use Rattle.receiver.specs.declared.Event.{Event}
-use Rattle.receiver.specs.declared.Told.{Told}
 use Rattle.receiver.specs.declared.Stage.{Stage}
 use Rattle.receiver.specs.Packed.{packed_length, packed, unpacked}
 use Rattle.receiver.specs.Receiving.{Receiver}
@@ -93,6 +92,11 @@ is_stage tag from k = leb tag 2 && ((not (eqb tag 0) || (eqb from 0 && eqb k 0))
 -- whether bytes code a state: the kind's byte is a kind, and the stage's bytes code a stage
 unfoldable pub is_coded : List ℕ → Bool
 is_coded b = is_kind (get_or b kind_at 0) && is_stage (get_or b stage_at 0) (get_or b counter_at 0) (get_or b stored_at 0)
+
+-- an event on paper: its number, and the remainder beside it
+pub record Told : Type 0 where
+  pub event : ℕ
+  pub remainder : ℕ
 
 -- what a packet did, as a call answers it: the event's number, and the remainder, which is 0 beside any event but 'broken'
 unfoldable pub told : Event → Told

@@ -4,7 +4,7 @@ use Rattle.setting.specs.Refusal.{first_of, of_length, leaves}
 use Rattle.setting.specs.Rules.{pid_allowed}
 use Rattle.setting_bytes.specs.Kinds.{is_kind, kind_of}
 use Rattle.receiver.specs.declared.Event.{Event}
-use Rattle.receiver.specs.declared.Told.{Told}
+use Rattle.receiver.specs.Bytes.{Told}
 use Rattle.receiver.specs.Receiving.{waiting, receiver_checks, receive_of, receive_store, hand_out_of, hand_out_buffer}
 use Rattle.receiver.specs.Bytes.{receiver_length, receiver_bytes, receiver_of, told}
 

@@ -11,7 +11,6 @@ use Rattle.packet.specs.Packets.{packet_length}
 use Rattle.receiver.specs.declared.Stage.{Stage}
 use Rattle.receiver.specs.declared.Event.{Event}
 use Rattle.receiver.specs.declared.Row.{Row}
-use Rattle.receiver.specs.declared.HandedOut.{HandedOut}
 use Rattle.receiver.specs.Store.{store_length, numbered, slots_for}
 use Rattle.receiver.specs.Table.{Sort, good, broken, other, row_of, stage_checks, is_ready}
 use Rattle.receiver.specs.Arriving.{sort_of, store_after}
@@ -103,6 +102,11 @@ receive_of c p store =
 unfoldable pub receive_store : Receiver → List ℕ → List ℕ → List ℕ
 receive_store c p store =
     leaves (receive_refusal c (length p) (length store)) (store_after (slots_of c.kind) c.stage (sort_of c.kind c.pid p) p store) store
+
+-- what a hand out answers on paper: refusal 0 and how many packets, or the refusal's number and 0
+pub record HandedOut : Type 0 where
+  pub refusal : ℕ
+  pub packets : ℕ
 
 -- how many packets of the ready frame have number r
 unfoldable pub hand_out_of : Receiver → ℕ → ℕ → ℕ → HandedOut

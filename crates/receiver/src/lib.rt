@@ -2,10 +2,11 @@
 // from Rattle as from C; the packets stand in a lent store, slot i at 188 × (i − 1). What each call answers and leaves is said in specs/.
 #![tactic(auto)]
 
+ghost use Rattle.std.specs.Prelude.{◌≡◌};
+ghost use Rattle.receiver.specs.Bytes.{told};
+
 use counters::SLOTS;
 use packet::PACKET_BYTES;
-
-pub mod events;
 
 // Where a receiver stands.
 #[derive(Clone, Copy)]
@@ -19,7 +20,7 @@ pub enum Stage {
 }
 
 // What a packet did, by the receiver's table.
-#[derive(Clone, Copy)]
+#[derive(Clone, Copy, Debug, PartialEq, Eq)]
 pub enum Event {
     // Nothing: the receiver waits, or the call was refused.
     Nothing,
@@ -36,11 +37,34 @@ pub enum Event {
     Broken(u32),
 }
 
-// What a packet did, as a call answers it: the event's number, and the remainder.
-#[derive(Clone, Copy)]
-pub struct Told {
-    pub event: u8,
-    pub remainder: u32,
+impl Event {
+    // The number by which C knows the event.
+    #[tactic(auto, unfolding(crate::specs::Bytes::told))]
+    pub fn number(self) -> u8
+        ensures { result ≡ (told self).event }
+    {
+        match self {
+            Event::Nothing => 0,
+            Event::Opened => 1,
+            Event::Stored => 2,
+            Event::Ready => 3,
+            Event::Short => 4,
+            Event::Jump => 5,
+            Event::Long => 6,
+            Event::Broken(_) => 7,
+        }
+    }
+
+    // The remainder that stands beside it.
+    #[tactic(auto, unfolding(crate::specs::Bytes::told))]
+    pub fn remainder(self) -> u32
+        ensures { result ≡ (told self).remainder }
+    {
+        match self {
+            Event::Broken(remainder) => remainder,
+            _ => 0,
+        }
+    }
 }
 
 // A row of the receiver's table: what happened, and where the receiver stands then.
@@ -48,13 +72,6 @@ pub struct Told {
 pub struct Row {
     pub event: Event,
     pub stage: Stage,
-}
-
-// What a hand out answers: refusal 0 and how many packets, or the refusal's number and 0.
-#[derive(Clone, Copy)]
-pub struct HandedOut {
-    pub refusal: u8,
-    pub packets: usize,
 }
 
 // The most bytes that a store has: a packet for each of 52 slots.

@@ -18,7 +18,7 @@ use Rattle.setting.proofs.Refusals.{none_first, none_at, none_before as none-fro
 use Rattle.setting.proofs.Fields.{at_most}
 use Rattle.packet.specs.Packets.{packet_length}
 use Rattle.receiver.specs.Table.{stage_checks, is_ready}
-use Rattle.receiver.specs.declared.HandedOut.{HandedOut}
+use Rattle.receiver.specs.Receiving.{HandedOut}
 use Rattle.receiver.specs.Store.{store_length, numbered, slots_for, HasPackets}
 use Rattle.receiver.proofs.Store.{has_packets}
 use Rattle.receiver.specs.Receiving.{Receiver, receiver_checks, hand_out_refusal, hand_out_of, hand_out_buffer}

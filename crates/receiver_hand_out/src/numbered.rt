@@ -4,11 +4,12 @@ ghost use Rattle.packet.specs.Packets.{packet_length};
 ghost use Rattle.slices.specs.Slices.{over};
 ghost use Rattle.receiver.specs.Packed.{packed_length, unpacked};
 ghost use Rattle.receiver.specs.Store.{numbered, slots_for, HasPackets};
+ghost use Rattle.receiver_hand_out.specs.Handing.{handed};
 ghost use Rattle.receiver_hand_out.specs.Halves.{halves_of, marked};
 
 use counters::RelativeNumber;
 use packet::PACKET_BYTES;
-use receiver::HandedOut;
+use refusals::Refusal;
 
 // Marks each half byte of `word` that is r, by the highest bit of that half. In x such a half is 0. In y the highest bit of a half is set
 // unless that half of x is 0; the sum carries nothing from one half to the next.
@@ -48,7 +49,7 @@ fn count(a: u64, b: u64, c: u64, d: u64) -> usize
 }
 
 // Copies the packets of the marked slots to `out`, from place `from` on. The marks are for the sixteen slots behind slot `first`. Answers
-// where the copies end.
+// where the copies end. It stays a `while`: an iterator over the set bits would be no plainer.
 fn copy_marked(out: &mut [u8], from: usize, store: &[u8], first: usize, marks: u64) -> usize
     requires { (marked 8 (halves_of marks) ≡ halves_of marks) × (HasPackets 8 (halves_of marks) (drop (packet_length * first) store.now)) × (from + packet_length * slots_for 8 (halves_of marks) ≤ length out.old) }
     ensures value { result ≡ from + packet_length * slots_for 8 (halves_of marks) }
@@ -70,10 +71,15 @@ fn copy_marked(out: &mut [u8], from: usize, store: &[u8], first: usize, marks: u
 }
 
 // Copies the packets with number r, in slot order, to the front of `out`; 15 if it has no room for them. The marks of the last four slots
-// are the end of those for the last sixteen.
-pub(crate) fn hand_out(out: &mut [u8], store: &[u8], numbers: &[u8], r: RelativeNumber) -> HandedOut
+// are the end of those for the last sixteen. The four words stand apart, since a table of them with their first slots would be no plainer.
+pub(crate) fn hand_out(
+    out: &mut [u8],
+    store: &[u8],
+    numbers: &[u8],
+    r: RelativeNumber,
+) -> Result<usize, Refusal>
     requires { (length numbers.now ≡ packed_length) × (HasPackets r.0 (unpacked numbers.now) store.now) × (r.0 ≤ 15) }
-    ensures value { result ≡ cond (ltb (length out.old) (packet_length * slots_for r.0 (unpacked numbers.now))) (record { refusal = 15; packets = 0 }) (record { refusal = 0; packets = slots_for r.0 (unpacked numbers.now) }) }
+    ensures value { handed result ≡ cond (ltb (length out.old) (packet_length * slots_for r.0 (unpacked numbers.now))) (record { refusal = 15; packets = 0 }) (record { refusal = 0; packets = slots_for r.0 (unpacked numbers.now) }) }
     ensures out_after { out.new ≡ cond (ltb (length out.old) (packet_length * slots_for r.0 (unpacked numbers.now))) out.old (over 0 (numbered r.0 (unpacked numbers.now) store.now) out.old) }
 {
     let a = marks_at(numbers, 0, r);
@@ -82,17 +88,11 @@ pub(crate) fn hand_out(out: &mut [u8], store: &[u8], numbers: &[u8], r: Relative
     let d = last_marks(numbers, r);
     let packets = count(a, b, c, d);
     if out.len() < PACKET_BYTES * packets {
-        return HandedOut {
-            refusal: 15,
-            packets: 0,
-        };
+        return Err(Refusal::Room);
     }
     let at = copy_marked(out, 0, store, 0, a);
     let at = copy_marked(out, at, store, 16, b);
     let at = copy_marked(out, at, store, 32, c);
     copy_marked(out, at, store, 36, d);
-    HandedOut {
-        refusal: 0,
-        packets,
-    }
+    Ok(packets)
 }

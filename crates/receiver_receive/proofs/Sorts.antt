@@ -6,9 +6,9 @@ use mathlib.Core.List.{List}
 use borrow.Author.Tests.{eq-eqb, ne_eqb}
 use lib.Dec.{eqb}
 use Rattle.setting.specs.declared.Kind.{Kind}
-use Rattle.header_check.specs.declared.Checked.{Checked}
+use Rattle.header_check.specs.OnPaper.{Checked}
 use Rattle.header_layout.specs.Header.{reading}
-use Rattle.header_check.specs.declared.Refusal.{Refusal}
+use Rattle.header_check.specs.OnPaper.{Refusal}
 use Rattle.header_check.specs.Checking.{read_refusal, parts_of, parts_beside, checked_of}
 use Rattle.header_check.proofs.Asked.{refusal-shown, refusal_is}
 use Rattle.packet.specs.Packets.{unfit}

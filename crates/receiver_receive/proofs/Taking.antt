@@ -17,7 +17,7 @@ use Rattle.packet.specs.Packets.{packet_length, unfit}
 use Rattle.receiver.specs.declared.Stage.{Stage}
 use Rattle.receiver.specs.declared.Event.{Event}
 use Rattle.receiver.specs.declared.Row.{Row}
-use Rattle.receiver.specs.declared.Told.{Told}
+use Rattle.receiver.specs.Bytes.{Told}
 use Rattle.receiver.specs.Table.{other, row, row_of, open_row, stored_of}
 use Rattle.receiver.proofs.Rows.{kept, long}
 use Rattle.receiver.specs.Packed.{packed_length, packed}

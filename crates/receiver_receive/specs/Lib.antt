@@ -1,1 +1,2 @@
 pub mod Usual
+pub mod Receive

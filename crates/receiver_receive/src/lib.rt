@@ -12,59 +12,33 @@ ghost use Rattle.receiver.specs.Packed.{packed_length, packed};
 ghost use Rattle.receiver.specs.Store.{store_length};
 ghost use Rattle.receiver.specs.Receiving.{receive_refusal, receive_of, receive_store};
 ghost use Rattle.receiver.specs.Bytes.{stage_at, stored_at, receiver_length, stage_bytes, receiver_of, receiver_bytes, told};
+ghost use Rattle.refusals.specs.Refusals.{answer};
 ghost use Rattle.receiver_receive.specs.Usual.{Usual};
+ghost use Rattle.receiver_receive.specs.Receive.{told_in};
 ghost use Rattle.receiver.specs.Calls.{lent_refusal, receive_refused, receive_event, receive_remainder, receive_state, receive_memory};
 
 use counters::{SLOTS, Slot};
 use packet::PACKET_BYTES;
 use receiver::{
     COUNTER, Event, KIND, NUMBERS, PACKED_BYTES, PID, PID_LOW, RECEIVER_BYTES, Row, STAGE,
-    STORE_BYTES, STORED, Told, events,
+    STORE_BYTES, STORED,
 };
+use refusals::Refusal;
 use setting::{Kind, limits};
 use setting_bytes::LAST_KIND;
 
-// An event's number, with remainder 0.
-fn quiet(event: u8) -> Told
-    ensures { result ≡ record { event = event; remainder = 0 } }
-{
-    Told {
-        event,
-        remainder: 0,
-    }
-}
-
-// What a packet did, as the call answers it.
-fn told(event: Event) -> Told
-    ensures { result ≡ told event }
-{
-    match event {
-        Event::Nothing => quiet(events::NOTHING),
-        Event::Opened => quiet(events::OPENED),
-        Event::Stored => quiet(events::STORED),
-        Event::Ready => quiet(events::READY),
-        Event::Short => quiet(events::SHORT),
-        Event::Jump => quiet(events::JUMP),
-        Event::Long => quiet(events::LONG),
-        Event::Broken(remainder) => Told {
-            event: events::BROKEN,
-            remainder,
-        },
-    }
-}
-
 // 1, 2 and 17: the lengths of what is lent, then what the state is refused for.
-fn receive_refusal(state: &[u8], packet: usize, store: usize) -> u8
-    ensures { result ≡ lent_refusal state.now (receive_refusal (receiver_of state.now) packet store) }
+fn receive_refusal(state: &[u8], packet: usize, store: usize) -> Result<(), Refusal>
+    ensures { answer result ≡ lent_refusal state.now (receive_refusal (receiver_of state.now) packet store) }
 {
     if packet != PACKET_BYTES {
-        return 1;
+        return Err(Refusal::Length);
     }
     if state.len() != RECEIVER_BYTES {
-        return 1;
+        return Err(Refusal::Length);
     }
     if store != receiver_stage::store_bytes(setting_bytes::kind_of(state[KIND])) {
-        return 1;
+        return Err(Refusal::Length);
     }
     receiver_stage::state_refusal(state)
 }
@@ -114,28 +88,27 @@ fn is_usual(state: &[u8], packet: &[u8], store: usize) -> bool
     if Slot::LAST <= state[STORED] {
         return false;
     }
-    packet::place_refusal(packet, pid) == 0
+    packet::place_refusal(packet, pid).is_ok()
 }
 
-// Takes a packet that may stand in a slot: stores it if a frame is open and has room. Answers what it did, as a number: no remainder stands
-// beside it.
-fn take_packet(state: &mut [u8], packet: &[u8], store: &mut [u8]) -> u8
+// Takes a packet that may stand in a slot: stores it if a frame is open and has room. Answers what it did.
+fn take_packet(state: &mut [u8], packet: &[u8], store: &mut [u8]) -> Event
     requires state_len { (length state.old ≡ receiver_length) × (some_at_least (2 ^ 8) state.old ≡ false) }
     requires packet_value { (unfit (receiver_of state.old).pid packet.now ≡ false) × (receive_refusal (receiver_of state.old) (length packet.now) (length store.old) ≡ 0) }
-    ensures store_value { told (receive_of (receiver_of state.old) packet.now (length store.old)).event ≡ record { event = result; remainder = 0 } }
+    ensures value { told result ≡ told (receive_of (receiver_of state.old) packet.now (length store.old)).event }
     ensures state_after { state.new ≡ receiver_bytes (receive_of (receiver_of state.old) packet.now (length store.old)).state }
     ensures store_after { store.new ≡ receive_store (receiver_of state.old) packet.now store.old }
 {
     if state[STAGE] == 0 {
-        return events::NOTHING;
+        return Event::Nothing;
     }
     let size = setting::size_of(setting_bytes::kind_of(state[KIND]));
     if size.slots <= state[STORED] {
         slices::fill(&mut state[STAGE..NUMBERS], 0);
-        return events::LONG;
+        return Event::Long;
     }
     store_next(state, packet, store);
-    events::STORED
+    Event::Stored
 }
 
 // Writes the slots' numbers after a good header: first its own, then those of the frame that was open until now. `are_bytes` tells the proof
@@ -145,14 +118,11 @@ fn renew(numbers: &mut [u8], own: &[u8])
     ensures numbers_after { numbers.new ≡ own.now ++ take packed_length numbers.old }
     ensures own_value { some_at_least (2 ^ 8) own.now ≡ false }
 {
-    let mut before = [0u8; PACKED_BYTES];
-    slices::copy(&mut before, &numbers[0..PACKED_BYTES]);
     slices::are_bytes(own);
-    slices::copy(&mut numbers[0..PACKED_BYTES], own);
-    slices::copy(
-        &mut numbers[PACKED_BYTES..PACKED_BYTES + PACKED_BYTES],
-        &before,
-    );
+    let (current, before) = numbers.split_at_mut(PACKED_BYTES);
+    // By `slices::copy`: with `copy_from_slice` a frame is received 3 % slower.
+    slices::copy(before, current);
+    slices::copy(current, own);
 }
 
 // Writes the slots' numbers after a good header of this kind, which says `said`. A plain or an extended header has them in the state's form;
@@ -162,13 +132,7 @@ fn renumber(numbers: &mut [u8], packet: &[u8], kind: Kind)
     ensures { numbers.new ≡ packed (reading kind packet.now).relative_ts_number ++ take packed_length numbers.old }
 {
     match kind {
-        Kind::Plain => {
-            renew(
-                numbers,
-                &packet[header_layout::NUMBERS..header_layout::PRIVATE],
-            );
-        }
-        Kind::Extended => {
+        Kind::Plain | Kind::Extended => {
             renew(
                 numbers,
                 &packet[header_layout::NUMBERS..header_layout::PRIVATE],
@@ -185,43 +149,60 @@ fn renumber(numbers: &mut [u8], packet: &[u8], kind: Kind)
 }
 
 // Writes the stage that a row of the table gives. Answers what happened.
-fn move_on(state: &mut [u8], row: Row) -> Told
+fn move_on(state: &mut [u8], row: Row) -> Event
     requires { length state.old ≡ receiver_length }
-    ensures value { result ≡ told row.event }
+    ensures value { result ≡ row.event }
     ensures state_after { state.new ≡ over stage_at (stage_bytes row.stage) state.old }
 {
-    let event = row.event;
-    let stage = row.stage;
-    receiver_stage::write_stage(&mut state[STAGE..NUMBERS], stage);
-    told(event)
+    receiver_stage::write_stage(&mut state[STAGE..NUMBERS], row.stage);
+    row.event
 }
 
 // Takes a packet that may not stand in a slot: a good header, which opens a frame, or a broken packet. Answers what it did.
-fn take_header(state: &mut [u8], packet: &[u8]) -> Told
+fn take_header(state: &mut [u8], packet: &[u8]) -> Event
     requires state_len { (length state.old ≡ receiver_length) × (some_at_least (2 ^ 8) state.old ≡ false) }
     requires packet_value { (unfit (receiver_of state.old).pid packet.now ≡ true) × (receive_refusal (receiver_of state.old) (length packet.now) (store_length (slots_of (receiver_of state.old).kind)) ≡ 0) }
-    ensures value { result ≡ told (receive_of (receiver_of state.old) packet.now (store_length (slots_of (receiver_of state.old).kind))).event }
+    ensures value { told result ≡ told (receive_of (receiver_of state.old) packet.now (store_length (slots_of (receiver_of state.old).kind))).event }
     ensures state_after { state.new ≡ receiver_bytes (receive_of (receiver_of state.old) packet.now (store_length (slots_of (receiver_of state.old).kind))).state }
 {
     let pid = bits::word(state[PID], state[PID_LOW]);
     let kind = setting_bytes::kind_of(state[KIND]);
     let stage = receiver_stage::stage_in(state);
-    let said = header_check::check(packet, pid, kind);
-    let refusal = said.refusal;
-    if refusal.number != 0 {
-        return move_on(state, receiver_table::broken_row(stage, refusal.remainder));
+    match header_check::check(packet, pid, kind) {
+        Err(why) => move_on(state, receiver_table::broken_row(stage, why.remainder)),
+        Ok(said) => {
+            let size = setting::size_of(kind);
+            renumber(&mut state[NUMBERS..RECEIVER_BYTES], packet, kind);
+            move_on(
+                state,
+                receiver_table::header_row(size.slots, stage, said.continuity_counter),
+            )
+        }
     }
-    let size = setting::size_of(kind);
-    renumber(&mut state[NUMBERS..RECEIVER_BYTES], packet, kind);
-    move_on(
-        state,
-        receiver_table::header_row(size.slots, stage, said.continuity_counter),
-    )
 }
 
-// Takes one packet. The remainder is 0, unless a header with a wrong CRC broke the open frame; it is written first, since most packets are
-// stored and it costs them the least so. `are_bytes` tells the proof that the state holds bytes; with that, those that this call leaves
-// alone are the new state's.
+// Takes one packet, and answers what it did. A refusal leaves state and store as they were. `are_bytes` tells the proof that the state holds
+// bytes; with that, those that this call leaves alone are the new state's.
+pub fn receive(state: &mut [u8], packet: &[u8], store: &mut [u8]) -> Result<Event, Refusal>
+    ensures value { answer result ≡ receive_refused state.old packet.now store.old }
+    ensures event { (told_in result).event ≡ receive_event state.old packet.now store.old }
+    ensures remainder { (told_in result).remainder ≡ receive_remainder state.old packet.now store.old }
+    ensures state_after { state.new ≡ receive_state state.old packet.now store.old }
+    ensures store_after { store.new ≡ receive_memory state.old packet.now store.old }
+{
+    slices::are_bytes(state);
+    if is_usual(state, packet, store.len()) {
+        store_next(state, packet, store);
+        return Ok(Event::Stored);
+    }
+    receive_refusal(state, packet.len(), store.len())?;
+    if packet::place_refusal(packet, bits::word(state[PID], state[PID_LOW])).is_ok() {
+        return Ok(take_packet(state, packet, store));
+    }
+    Ok(take_header(state, packet))
+}
+
+// The same for C: the event as a number, and the remainder, which is 0 unless a header with a wrong CRC broke the open frame.
 #[unsafe(no_mangle)]
 pub extern "C" fn niranbok_receiver_receive(
     state: &mut [u8],
@@ -236,24 +217,16 @@ pub extern "C" fn niranbok_receiver_receive(
     ensures state_after { state.new ≡ receive_state state.old packet.now store.old }
     ensures store_after { store.new ≡ receive_memory state.old packet.now store.old }
 {
-    *remainder = 0;
-    slices::are_bytes(state);
-    if is_usual(state, packet, store.len()) {
-        store_next(state, packet, store);
-        *event = events::STORED;
-        return 0;
+    match receive(state, packet, store) {
+        Ok(happened) => {
+            *event = happened.number();
+            *remainder = happened.remainder();
+            0
+        }
+        Err(refusal) => {
+            *event = Event::Nothing.number();
+            *remainder = 0;
+            refusal.number()
+        }
     }
-    let refusal = receive_refusal(state, packet.len(), store.len());
-    if refusal != 0 {
-        *event = events::NOTHING;
-        return refusal;
-    }
-    if packet::place_refusal(packet, bits::word(state[PID], state[PID_LOW])) == 0 {
-        *event = take_packet(state, packet, store);
-        return 0;
-    }
-    let told = take_header(state, packet);
-    *event = told.event;
-    *remainder = told.remainder;
-    0
 }

@@ -4,6 +4,7 @@
 ghost use Rattle.std.specs.Prelude.{◌≡◌, cond, ◌++◌, ◌*◌, eqb, length};
 ghost use Rattle.bits.specs.Fields.{run, cut};
 ghost use Rattle.slices.specs.Slices.{copied, some_at_least};
+ghost use Rattle.refusals.specs.Refusals.{answer};
 ghost use Rattle.setting.specs.Refusal.{first_of};
 ghost use Rattle.setting.specs.Rules.{number_checks};
 ghost use Rattle.setting.specs.Size.{size_of, slots_of};
@@ -19,6 +20,7 @@ use receiver::{
     BEFORE, COUNTER, KIND, NUMBERS, PACKED_BYTES, PID, PID_LOW, RECEIVER_BYTES, STAGE, STORED,
     Stage,
 };
+use refusals::Refusal;
 use setting::{Kind, limits};
 use setting_bytes::LAST_KIND;
 
@@ -82,34 +84,34 @@ pub fn write_stage(bytes: &mut [u8], stage: Stage)
 }
 
 // 17: three bytes that code no stage, a counter that no header has, or more packets stored than there are slots.
-fn stage_refusal(slots: u8, tag: u8, counter: u8, stored: u8) -> u8
-    ensures { result ≡ first_of (stage_checks slots (stage_of tag counter stored)) }
+fn stage_refusal(slots: u8, tag: u8, counter: u8, stored: u8) -> Result<(), Refusal>
+    ensures { answer result ≡ first_of (stage_checks slots (stage_of tag counter stored)) }
 {
     if tag == 1 {
         if limits::COUNTERS <= counter {
-            return 17;
+            return Err(Refusal::OutOfRange);
         }
         if slots < stored {
-            return 17;
+            return Err(Refusal::OutOfRange);
         }
-        return 0;
+        return Ok(());
     }
     if stored != 0 {
-        return 17;
+        return Err(Refusal::OutOfRange);
     }
     if tag == 2 {
         if limits::COUNTERS <= counter {
-            return 17;
+            return Err(Refusal::OutOfRange);
         }
-        return 0;
+        return Ok(());
     }
     if counter != 0 {
-        return 17;
+        return Err(Refusal::OutOfRange);
     }
     if tag != 0 {
-        return 17;
+        return Err(Refusal::OutOfRange);
     }
-    0
+    Ok(())
 }
 
 // The bytes of a store: a packet for each slot of the kind.
@@ -125,66 +127,57 @@ fn some_half_at_least(bytes: &[u8], limit: u8) -> bool
     ensures { result ≡ some_at_least limit (cut 4 (2 * length bytes.now) (run 8 bytes.now)) }
 {
     let mut found = false;
-    let mut i = 0;
-    while i < bytes.len() {
-        found = found | (limit <= bytes[i] / 16) | (limit <= bytes[i] % 16);
-        i += 1;
+    for byte in bytes {
+        found |= (limit <= *byte / 16) | (limit <= *byte % 16);
     }
     found
 }
 
 // 17: one list of numbers in a short receiver's state: a slot has a number that a short frame does not have, or there is a number behind its last
 // slot. No byte is asked by both tests: the compiler would load it by itself, and not many at a time.
-fn list_refusal(list: &[u8]) -> u8
+fn list_refusal(list: &[u8]) -> Result<(), Refusal>
     requires { length list.now ≡ packed_length }
-    ensures { result ≡ first_of (number_checks (size_of Kind.Short) (unpacked list.now)) }
+    ensures { answer result ≡ first_of (number_checks (size_of Kind.Short) (unpacked list.now)) }
 {
     if some_half_at_least(&list[0..SHORT_SLOTS / 2], RelativeNumber::LAST_SHORT + 1) {
-        return 17;
+        return Err(Refusal::OutOfRange);
     }
     if some_half_at_least(&list[SHORT_SLOTS / 2..PACKED_BYTES], 1) {
-        return 17;
+        return Err(Refusal::OutOfRange);
     }
-    0
+    Ok(())
 }
 
 // 17: the slots' numbers, by the open frame's header and by the header before it. Those of a plain or an extended frame are not looked at,
 // since every number of four bits is in range.
-fn numbers_refusal(kind: Kind, state: &[u8]) -> u8
+fn numbers_refusal(kind: Kind, state: &[u8]) -> Result<(), Refusal>
     requires { length state.now ≡ receiver_length }
-    ensures { result ≡ first_of (number_checks (size_of kind) (receiver_of state.now).numbers ++ number_checks (size_of kind) (receiver_of state.now).before) }
+    ensures { answer result ≡ first_of (number_checks (size_of kind) (receiver_of state.now).numbers ++ number_checks (size_of kind) (receiver_of state.now).before) }
 {
     match kind {
-        Kind::Plain => 0,
-        Kind::Extended => 0,
+        Kind::Plain | Kind::Extended => Ok(()),
         Kind::Short => {
-            let refusal = list_refusal(&state[NUMBERS..BEFORE]);
-            if refusal != 0 {
-                return refusal;
-            }
+            list_refusal(&state[NUMBERS..BEFORE])?;
             list_refusal(&state[BEFORE..RECEIVER_BYTES])
         }
     }
 }
 
 // 1, 2 and 17, which every call checks of a state: its length, its PID, its kind, its stage and its slots' numbers.
-pub fn state_refusal(state: &[u8]) -> u8
-    ensures { result ≡ state_refused state.now }
+pub fn state_refusal(state: &[u8]) -> Result<(), Refusal>
+    ensures { answer result ≡ state_refused state.now }
 {
     if state.len() != RECEIVER_BYTES {
-        return 1;
+        return Err(Refusal::Length);
     }
     if !setting::pid_allowed(bits::word(state[PID], state[PID_LOW])) {
-        return 2;
+        return Err(Refusal::HeaderPid);
     }
     if LAST_KIND < state[KIND] {
-        return 17;
+        return Err(Refusal::OutOfRange);
     }
     let kind = setting_bytes::kind_of(state[KIND]);
     let size = setting::size_of(kind);
-    let refusal = stage_refusal(size.slots, state[STAGE], state[COUNTER], state[STORED]);
-    if refusal != 0 {
-        return refusal;
-    }
+    stage_refusal(size.slots, state[STAGE], state[COUNTER], state[STORED])?;
     numbers_refusal(kind, state)
 }

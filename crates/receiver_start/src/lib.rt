@@ -2,19 +2,22 @@
 #![tactic(auto)]
 
 ghost use Rattle.std.specs.Prelude.{◌≡◌, ◌<◌, length};
+ghost use Rattle.refusals.specs.Refusals.{answer};
 ghost use Rattle.setting_bytes.specs.Kinds.{kinds, kind_of};
 ghost use Rattle.receiver.specs.Receiving.{waiting, start_of};
 ghost use Rattle.receiver.specs.Bytes.{receiver_length, receiver_bytes};
 ghost use Rattle.receiver.specs.Calls.{start_refused, start_state};
 
 use receiver::RECEIVER_BYTES;
+use refusals::Refusal;
 use setting::Kind;
 use setting_bytes::LAST_KIND;
 
-// What a start by value answers: refusal 0 and the state, or the refusal's number and the fresh plain state of PID 0.
+// What a start by value answers. A refused start has a state too, the fresh plain one of PID 0, so this is no Result: the scope document
+// promises it, and the wrong program `refused_start_that_keeps_the_pid` breaks it.
 #[derive(Clone, Copy)]
 pub struct Started {
-    pub refusal: u8,
+    pub checked: Result<(), Refusal>,
     pub state: [u8; RECEIVER_BYTES],
 }
 
@@ -32,16 +35,39 @@ fn write_fresh(state: &mut [u8], pid: u16, kind: u8)
 
 // Starts a receiver for this header PID and kind. Answers the state as a value.
 pub fn start(pid: u16, kind: Kind) -> Started
-    ensures refusal_value { result.refusal ≡ (start_of kind pid).refusal }
+    ensures refusal_value { answer result.checked ≡ (start_of kind pid).refusal }
     ensures state_value { result.state ≡ receiver_bytes (start_of kind pid).state }
 {
     let mut state = [0u8; RECEIVER_BYTES];
     if !setting::pid_allowed(pid) {
         write_fresh(&mut state, 0, 0);
-        return Started { refusal: 2, state };
+        return Started {
+            checked: Err(Refusal::HeaderPid),
+            state,
+        };
     }
     write_fresh(&mut state, pid, setting_bytes::kind_number(kind));
-    Started { refusal: 0, state }
+    Started {
+        checked: Ok(()),
+        state,
+    }
+}
+
+fn write_start(state: &mut [u8], pid: u16, kind: u8) -> Result<(), Refusal>
+    ensures value { answer result ≡ start_refused state.old pid kind }
+    ensures state_after { state.new ≡ start_state state.old pid kind }
+{
+    if state.len() != RECEIVER_BYTES {
+        return Err(Refusal::Length);
+    }
+    if !setting::pid_allowed(pid) {
+        return Err(Refusal::HeaderPid);
+    }
+    if LAST_KIND < kind {
+        return Err(Refusal::OutOfRange);
+    }
+    write_fresh(state, pid, kind);
+    Ok(())
 }
 
 // The same, written into the caller's bytes. A refusal leaves them as they were.
@@ -50,15 +76,5 @@ pub extern "C" fn niranbok_receiver_start(state: &mut [u8], pid: u16, kind: u8) 
     ensures value { result ≡ start_refused state.old pid kind }
     ensures state_after { state.new ≡ start_state state.old pid kind }
 {
-    if state.len() != RECEIVER_BYTES {
-        return 1;
-    }
-    if !setting::pid_allowed(pid) {
-        return 2;
-    }
-    if LAST_KIND < kind {
-        return 17;
-    }
-    write_fresh(state, pid, kind);
-    0
+    refusals::answer(write_start(state, pid, kind))
 }

@@ -10,7 +10,7 @@ use lib.ListN.{length, take, drop, length-drop, drop_of_length-le, take-append-d
 use lib.Seq.{length-take-le, drop-drop}
 use Rattle.setting.specs.declared.Kind.{Kind}
 use Rattle.setting.specs.Size.{slots_of}
-use Rattle.header_read.specs.declared.Reading.{Reading}
+use Rattle.header_read.specs.Reader.{Reading}
 use Rattle.packet.specs.Packets.{packet_length, slot, unfit}
 use Rattle.receiver.specs.declared.Stage.{Stage}
 use Rattle.receiver.specs.Store.{store_length, numbered}

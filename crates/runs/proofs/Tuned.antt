@@ -24,7 +24,7 @@ use Rattle.packet.specs.Packets.{packet_length}
 use Rattle.receiver.specs.declared.Stage.{Stage}
 use Rattle.receiver.specs.declared.Event.{Event}
 use Rattle.receiver.specs.declared.Row.{Row}
-use Rattle.receiver.specs.declared.Told.{Told}
+use Rattle.receiver.specs.Bytes.{Told}
 use Rattle.receiver.specs.Store.{store_length, slots_for}
 use Rattle.receiver.specs.Table.{Sort, good, broken, other, row, open_row, row_of, counter_step, is_ready, makes_ready}
 use Rattle.receiver.specs.Arriving.{sort_of}

@@ -19,7 +19,7 @@ use Rattle.setting.specs.Refusal.{NoneHolds, none as no-check, more as one-check
 use Rattle.setting.specs.Size.{size_of, slots_of, resized}
 use Rattle.setting.proofs.Fields.{some_fit, narrow}
 use Rattle.setting.proofs.Sizes.{fit_four}
-use Rattle.header_read.specs.declared.Reading.{Reading}
+use Rattle.header_read.specs.Reader.{Reading}
 use Rattle.header_layout.specs.Header.{header}
 use Rattle.header_layout.proofs.Whole.{length-header}
 use Rattle.setting.specs.declared.Announced.{Announced}

@@ -17,7 +17,7 @@ use Rattle.setting.specs.Refusal.{NoneHolds, none, more, leaves}
 use Rattle.setting.specs.Rules.{number_checks}
 use Rattle.setting.specs.Size.{size_of, slots_of, streams_of}
 use Rattle.setting.proofs.Refusals.{first_none, none_append, none_at}
-use Rattle.header_read.specs.declared.Reading.{Reading}
+use Rattle.header_read.specs.Reader.{Reading}
 use Rattle.header_layout.specs.Header.{reading}
 use Rattle.header_check.specs.Checking.{read_refusal, bare, refusal_by}
 use Rattle.header_read.specs.Reader.{read_of}

@@ -1,5 +1,5 @@
 -- What of a header decides on the next header's version.
-use Rattle.std.specs.Prelude.{ℕ, Bool, not, ◌||◌, List, ◌++◌, eqb}
+use Rattle.std.specs.Prelude.{Bool, not, ◌||◌, List, ◌++◌, eqb}
 use Rattle.slices.specs.Slices.{some_differ}
 use Rattle.setting.specs.declared.Setting.{Setting}
 use Rattle.setting.specs.Refusal.{Check}

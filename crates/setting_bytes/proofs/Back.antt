@@ -7,7 +7,6 @@ use borrow.Author.Tests.{eq-eqb}
 use lib.ListN.{length, get_or, take, drop, length-append}
 use lib.Seq.{take_at, drop_at, drop-drop, get_or-drop}
 use Rattle.counters.specs.Counters.{last_stream, last_slot}
-use Rattle.setting.specs.declared.Kind.{Kind}
 use Rattle.setting.specs.declared.Setting.{Setting}
 use Rattle.setting.specs.Setting.{private_bytes, auxiliary_bytes, OfItsTypes}
 use Rattle.setting.specs.declared.Announced.{Announced}

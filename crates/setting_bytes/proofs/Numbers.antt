@@ -25,15 +25,15 @@ bytes-more zero (w ∷ ws) h = refl
 bytes-more (suc k) (w ∷ ws) h = ap (λ (l : List ℕ). w / 256 ∷ w % 256 ∷ l) (bytes-more k ws (omega arith))
 
 -- a turn of the loop that writes
-pub word_written : (part ws : List ℕ) (k : ℕ) → k < length ws → length part ≡ 2 * length ws
+pub word_written : (part ws : List ℕ) (k : ℕ) {high low : ℕ} → k < length ws → length part ≡ 2 * length ws
+    → high ≡ get_or ws k 0 / 256 → low ≡ get_or ws k 0 % 256
     → take (2 * k) part ≡ word_bytes (take k ws)
-    → take (2 * (k + 1)) (set (set part (2 * k) (get_or ws k 0 / 256)) (2 * k + 1) (get_or ws k 0 % 256)) ≡ word_bytes (take (k + 1) ws)
-word_written part ws k h long e =
-    let w = get_or ws k 0 in
+    → take (2 * (k + 1)) (set (set part (2 * k) high) (2 * k + 1) low) ≡ word_bytes (take (k + 1) ws)
+word_written part ws k {high} {low} h long first second e =
     let next : 2 * (k + 1) ≡ 2 * k + 2 = omega arith in
-    ap (λ (n : ℕ). take n (set (set part (2 * k) (w / 256)) (2 * k + 1) (w % 256))) next
-    ∙ two_stored part (2 * k) (w / 256) (w % 256) (omega arith)
-    ∙ ap (λ (l : List ℕ). l ++ (w / 256 ∷ w % 256 ∷ [])) e
+    ap (λ (n : ℕ). take n (set (set part (2 * k) high) (2 * k + 1) low)) next
+    ∙ two_stored part (2 * k) high low (omega arith)
+    ∙ ap₂ (λ (l both : List ℕ). l ++ both) e (ap₂ (λ (x y : ℕ). x ∷ y ∷ []) first second)
     ∙ sym (bytes-more k ws h)
     ∙ ap (λ (n : ℕ). word_bytes (take n ws)) (sym (add-one k))
 
@@ -50,14 +50,14 @@ words_more (suc k) (x ∷ y ∷ b) h =
     rw (behind, second, first) (ap (λ (l : List ℕ). (x * 256 + y) ∷ l) (words_more k b (omega arith)))
 
 -- a turn of the loop that reads
-pub word_read : (words b : List ℕ) (k : ℕ) → k < length words → length b ≡ 2 * length words
+pub word_read : (words b : List ℕ) (k : ℕ) {v : ℕ} → k < length words → length b ≡ 2 * length words → v ≡ word_at (2 * k) b
     → take k words ≡ words_of (take (2 * k) b)
-    → take (k + 1) (set words k (word_at (2 * k) b)) ≡ words_of (take (2 * (k + 1)) b)
-word_read words b k h long e =
+    → take (k + 1) (set words k v) ≡ words_of (take (2 * (k + 1)) b)
+word_read words b k {v} h long same e =
     let next : 2 * (k + 1) ≡ 2 * k + 2 = omega arith in
-    ap (λ (n : ℕ). take n (set words k (word_at (2 * k) b))) (add-one k)
-    ∙ take-suc-set words k (word_at (2 * k) b) h
-    ∙ ap (λ (l : List ℕ). l ++ (word_at (2 * k) b ∷ [])) e
+    ap (λ (n : ℕ). take n (set words k v)) (add-one k)
+    ∙ take-suc-set words k v h
+    ∙ ap₂ (λ (l : List ℕ) (x : ℕ). l ++ (x ∷ [])) e same
     ∙ sym (words_more k b (omega arith))
     ∙ ap (λ (n : ℕ). words_of (take n b)) (sym next)
 

@@ -16,29 +16,28 @@ pub fn read_words(words: &mut [u16], part: &[u8])
     if part.len() != 2 * words.len() {
         return;
     }
-    let mut k = 0;
-    while k < words.len() {
-        words[k] = bits::word(part[2 * k], part[2 * k + 1]);
-        k += 1;
+    for (k, word) in words.iter_mut().enumerate() {
+        *word = bits::word(part[2 * k], part[2 * k + 1]);
     }
 }
 
 // The largest number of a kind. Calls refuse any above it.
 pub const LAST_KIND: u8 = 2;
 
-// The kind of a number: 1 is extended, 2 is short; any other number counts as plain.
+// The kind of a number: 1 is extended, 2 is short; any other number counts as plain. It is no `From<u8>`, which would read as if every number
+// were a kind, and no `TryFrom`, since lengths are asked before the number is.
+#[tactic(auto, unfolding(crate::specs::Kinds::kind_of))]
 pub fn kind_of(n: u8) -> Kind
     ensures { result ≡ kind_of n }
 {
-    if n == 1 {
-        return Kind::Extended;
+    match n {
+        1 => Kind::Extended,
+        2 => Kind::Short,
+        _ => Kind::Plain,
     }
-    if n == 2 {
-        return Kind::Short;
-    }
-    Kind::Plain
 }
 
+#[tactic(auto, unfolding(crate::specs::Kinds::kind_number))]
 pub fn kind_number(kind: Kind) -> u8
     ensures { result ≡ kind_number kind }
 {

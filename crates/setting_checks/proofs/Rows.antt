@@ -9,7 +9,7 @@ use lib.Dec.{leb, eqb}
 use lib.ListN.{length, get_or, drop, length-drop}
 use Rattle.bits.specs.Fields.{Fit, none, more}
 use Rattle.slices.specs.Slices.{some_at_least}
-use Rattle.counters.specs.Counters.{last_slot, last_stream, within}
+use Rattle.counters.specs.Counters.{last_slot, last_stream}
 use Rattle.setting.specs.declared.Kind.{Kind}
 use Rattle.setting.specs.Setting.{private_bytes, auxiliary_bytes}
 use Rattle.setting.specs.Size.{size_of, streams_of}

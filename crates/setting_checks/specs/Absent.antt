@@ -1,10 +1,9 @@
 -- The rows of 17 for what a kind does not have, on the last bytes of a setting: private data, auxiliary information and bonding fields.
-use Rattle.std.specs.Prelude.{ℕ, ◌+◌, List, ◌∷◌, get_or, take}
+use Rattle.std.specs.Prelude.{ℕ, ◌+◌, List, get_or, take}
 use Rattle.setting.specs.declared.Kind.{Kind}
 use Rattle.setting.specs.Setting.{private_bytes, auxiliary_bytes}
-use Rattle.setting.specs.Size.{size_of}
 use Rattle.setting.specs.Refusal.{Check}
-use Rattle.setting.specs.Rules.{some_behind, bonding_absent, absent_checks}
+use Rattle.setting.specs.Rules.{bonding_absent, absent_checks}
 use Rattle.setting_bytes.specs.Settings.{part}
 
 -- of the auxiliary information and the five bonding fields behind it, in a header that has none of them

@@ -1,7 +1,8 @@
 // The checks of a setting's widths and rules, made on its bytes as they lie.
 #![tactic(auto)]
 
-ghost use Rattle.std.specs.Prelude.{◌≤◌, ◌≡◌, length};
+ghost use Rattle.std.specs.Prelude.{◌≤◌, ◌≡◌, cond, length};
+ghost use Rattle.refusals.specs.Refusals.{answer};
 ghost use Rattle.setting.specs.Refusal.{first_of, of_length};
 ghost use Rattle.setting.specs.Rules.{some_behind, behind_checks, width_checks, rule_checks};
 ghost use Rattle.setting.specs.Announcing.{announced_checks};
@@ -10,6 +11,7 @@ ghost use Rattle.setting_bytes.specs.Settings.{private_at, auxiliary_at, announc
 ghost use Rattle.setting_checks.specs.Absent.{bonding_absent_in, absent_in};
 
 use counters::{FramePosition, RelativeNumber};
+use refusals::Refusal;
 use setting::{Kind, PRIVATE_BYTES, limits};
 use setting_bytes::{
     ANNOUNCED, ANNOUNCED_BYTES, CARRIERS, COUNTER, EMERGENCY, FRAMES, NUMBERS, ORIGINAL_NETWORK_ID,
@@ -34,40 +36,45 @@ const ID_BYTES: u8 = 2;
 
 // 17 of what a header announced, and 1 where it is not 80 bytes. The statuses and the emergency bit behind them are sixteen bytes, which the
 // compiler compares at once: an emergency bit that is too large for a status is too large for itself too.
-pub fn announced_refusal(kind: Kind, bytes: &[u8]) -> u8
-    ensures { result ≡ of_length announced_length (length bytes.now) (first_of (announced_checks kind (announced_of bytes.now))) }
+// Put into its callers, as what it calls: a call more would take stack that the composer's calls do not have.
+#[inline(always)]
+pub fn announced_refusal(kind: Kind, bytes: &[u8]) -> Result<(), Refusal>
+    ensures { answer result ≡ of_length announced_length (length bytes.now) (first_of (announced_checks kind (announced_of bytes.now))) }
 {
     if bytes.len() != ANNOUNCED_BYTES {
-        return 1;
+        return Err(Refusal::Length);
     }
     if limits::SLOT_ALLOCATION_TYPES <= bytes[setting_bytes::SLOT_ALLOCATION_TYPE] {
-        return 17;
+        return Err(Refusal::OutOfRange);
     }
     if limits::FRAME_TYPES <= bytes[setting_bytes::FRAME_TYPE] {
-        return 17;
+        return Err(Refusal::OutOfRange);
     }
     let availability = bits::word(
         bytes[setting_bytes::AVAILABILITY],
         bytes[setting_bytes::AVAILABILITY_LOW],
     );
     if limits::AVAILABILITIES <= availability {
-        return 17;
+        return Err(Refusal::OutOfRange);
     }
     if slices::some_at_least(
         &bytes[RECEIVE_STATUS..ANNOUNCED_BYTES],
         limits::RECEIVE_STATUSES,
     ) {
-        return 17;
+        return Err(Refusal::OutOfRange);
     }
     if limits::EMERGENCY_INDICATORS <= bytes[EMERGENCY] {
-        return 17;
+        return Err(Refusal::OutOfRange);
     }
     // A header with fifteen streams has none behind the last one.
     let size = setting::size_of(kind);
     if size.streams == RelativeNumber::LAST {
-        return 0;
+        return Ok(());
     }
-    behind_refusal(size.streams, bytes)
+    if has_more_streams(size.streams, bytes) {
+        return Err(Refusal::OutOfRange);
+    }
+    Ok(())
 }
 
 // Whether a part has more than zeros behind its first n bytes.
@@ -80,98 +87,95 @@ fn some_behind(part: &[u8], n: usize) -> bool
     slices::some_at_least(&part[n..], 1)
 }
 
-// 17 of streams behind the last one that the header knows: their bits, identifiers and statuses are zeros.
-fn behind_refusal(streams: u8, bytes: &[u8]) -> u8
+// 17: whether streams stand behind the last one that the header knows: in their bits, identifiers or statuses is something other than 0. Put into
+// its callers.
+#[inline(always)]
+fn has_more_streams(streams: u8, bytes: &[u8]) -> bool
     requires { (length bytes.now ≡ announced_length) × (streams ≤ last_stream) }
-    ensures { result ≡ first_of (behind_checks streams (announced_of bytes.now).availability (announced_of bytes.now).ts_id (announced_of bytes.now).original_network_id (announced_of bytes.now).receive_status) }
+    ensures { cond result 17 0 ≡ first_of (behind_checks streams (announced_of bytes.now).availability (announced_of bytes.now).ts_id (announced_of bytes.now).original_network_id (announced_of bytes.now).receive_status) }
 {
     let availability = bits::word(
         bytes[setting_bytes::AVAILABILITY],
         bytes[setting_bytes::AVAILABILITY_LOW],
     );
     if availability % (1u16 << ((RelativeNumber::LAST - streams) as u32)) != 0 {
-        return 17;
+        return true;
     }
     let known = streams as usize;
     if some_behind(&bytes[TS_ID..ORIGINAL_NETWORK_ID], 2 * known) {
-        return 17;
+        return true;
     }
     if some_behind(&bytes[ORIGINAL_NETWORK_ID..RECEIVE_STATUS], 2 * known) {
-        return 17;
+        return true;
     }
-    if some_behind(&bytes[RECEIVE_STATUS..EMERGENCY], known) {
-        return 17;
-    }
-    0
+    some_behind(&bytes[RECEIVE_STATUS..EMERGENCY], known)
 }
 
 // 17: what only an extended header has, from the auxiliary information to the frame's position, is zeros in any other.
-fn bonding_absent_refusal(bonding: &[u8]) -> u8
+fn bonding_absent_refusal(bonding: &[u8]) -> Result<(), Refusal>
     requires { length bonding.now ≡ setting_from auxiliary_at }
-    ensures { result ≡ first_of (bonding_absent_in bonding.now) }
+    ensures { answer result ≡ first_of (bonding_absent_in bonding.now) }
 {
     if slices::some_at_least(bonding, 1) {
-        return 17;
+        return Err(Refusal::OutOfRange);
     }
-    0
+    Ok(())
 }
 
 // 17: a part that the kind does not have holds zeros alone. Private data behind its last byte, and what only an extended header has.
-fn absent_refusal(kind: Kind, rest: &[u8]) -> u8
+fn absent_refusal(kind: Kind, rest: &[u8]) -> Result<(), Refusal>
     requires { length rest.now ≡ setting_from private_at }
-    ensures { result ≡ first_of (absent_in kind rest.now) }
+    ensures { answer result ≡ first_of (absent_in kind rest.now) }
 {
     let size = setting::size_of(kind);
     if some_behind(&rest[0..PRIVATE_BYTES], size.private_bytes as usize) {
-        return 17;
+        return Err(Refusal::OutOfRange);
     }
     match kind {
-        Kind::Plain => bonding_absent_refusal(&rest[PRIVATE_BYTES..SETTING_BYTES - PRIVATE]),
-        Kind::Short => bonding_absent_refusal(&rest[PRIVATE_BYTES..SETTING_BYTES - PRIVATE]),
-        Kind::Extended => 0,
+        Kind::Plain | Kind::Short => {
+            bonding_absent_refusal(&rest[PRIVATE_BYTES..SETTING_BYTES - PRIVATE])
+        }
+        Kind::Extended => Ok(()),
     }
 }
 
 // 17 of a setting, and 1 where it is not 298 bytes.
-pub fn width_refusal(kind: Kind, bytes: &[u8]) -> u8
-    ensures { result ≡ of_length setting_length (length bytes.now) (first_of (width_checks kind (setting_of bytes.now))) }
+pub fn width_refusal(kind: Kind, bytes: &[u8]) -> Result<(), Refusal>
+    ensures { answer result ≡ of_length setting_length (length bytes.now) (first_of (width_checks kind (setting_of bytes.now))) }
 {
     if bytes.len() != SETTING_BYTES {
-        return 1;
+        return Err(Refusal::Length);
     }
     if limits::COUNTERS <= bytes[COUNTER] {
-        return 17;
+        return Err(Refusal::OutOfRange);
     }
     if limits::VERSIONS <= bytes[VERSION] {
-        return 17;
+        return Err(Refusal::OutOfRange);
     }
-    let announced = announced_refusal(kind, &bytes[ANNOUNCED..NUMBERS]);
-    if announced != 0 {
-        return announced;
-    }
+    announced_refusal(kind, &bytes[ANNOUNCED..NUMBERS])?;
     let size = setting::size_of(kind);
     if slices::some_at_least(&bytes[NUMBERS..PRIVATE], size.streams + 1) {
-        return 17;
+        return Err(Refusal::OutOfRange);
     }
     if some_behind(&bytes[NUMBERS..PRIVATE], size.slots as usize) {
-        return 17;
+        return Err(Refusal::OutOfRange);
     }
     absent_refusal(kind, &bytes[PRIVATE..SETTING_BYTES])
 }
 
 // 8 to 11 of a setting, and 1 where it is not 298 bytes.
-pub fn rule_refusal(kind: Kind, bytes: &[u8]) -> u8
-    ensures { result ≡ of_length setting_length (length bytes.now) (first_of (rule_checks kind (setting_of bytes.now))) }
+pub fn rule_refusal(kind: Kind, bytes: &[u8]) -> Result<(), Refusal>
+    ensures { answer result ≡ of_length setting_length (length bytes.now) (first_of (rule_checks kind (setting_of bytes.now))) }
 {
     if bytes.len() != SETTING_BYTES {
-        return 1;
+        return Err(Refusal::Length);
     }
     if !setting_rules::frame_type_allowed(kind, bytes[FRAME_TYPE]) {
-        return 8;
+        return Err(Refusal::FrameType);
     }
     let availability = bits::word(bytes[AVAILABILITY], bytes[AVAILABILITY_LOW]);
     if setting_slots::has_unavailable(availability, &bytes[NUMBERS..PRIVATE]) {
-        return 9;
+        return Err(Refusal::UnavailableNumber);
     }
     if setting_pairs::has_pair_twice(
         availability,
@@ -179,7 +183,7 @@ pub fn rule_refusal(kind: Kind, bytes: &[u8]) -> u8
         &bytes[NETWORK_IDS..STATUSES],
         ID_BYTES,
     ) {
-        return 10;
+        return Err(Refusal::EqualIdentifiers);
     }
     setting_rules::bonding_refusal(
         kind,

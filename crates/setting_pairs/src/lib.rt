@@ -37,18 +37,17 @@ fn is_same_pair(availability: u16, ts: &[u8], os: &[u8], step: usize, i: usize, 
     RelativeNumber((j + 1) as u8).is_available(availability)
 }
 
-// Whether a stream before stream j + 1 makes such a pair with it.
+// Whether a stream before stream j + 1 makes such a pair with it. Here and below loops stand in place of `any`: with its closures the check took 32
+// bytes more of stack, and composer_begin does not have them.
 fn has_pair_before(availability: u16, ts: &[u8], os: &[u8], step: usize, j: usize) -> bool
     requires j_lt_last_stream { j < last_stream }
     requires step_in_bounds { (ids_length step ≤ length ts.now) × (ids_length step ≤ length os.now) }
     ensures { result ≡ any_below j (λ i. same_pair availability (ids_apart step last_stream ts.now) (ids_apart step last_stream os.now) i j) }
 {
-    let mut i = 0;
-    while i < j {
+    for i in 0..j {
         if is_same_pair(availability, ts, os, step, i, j) {
             return true;
         }
-        i += 1;
     }
     false
 }
@@ -61,14 +60,12 @@ fn some_alike(availability: u16, ts: &[u8], step: usize) -> bool
 {
     let mut met = 0u64;
     let mut alike = false;
-    let mut j = 0;
-    while j < STREAMS {
+    for j in 0..STREAMS {
         if RelativeNumber((j + 1) as u8).is_available(availability) {
-            let k = (id(ts, step, j) % 64) as u32;
-            alike = alike | ((met >> k) % 2 == 1);
-            met = met | (1u64 << k);
+            let k = u32::from(id(ts, step, j) % 64);
+            alike |= (met >> k) % 2 == 1;
+            met |= 1u64 << k;
         }
-        j += 1;
     }
     alike
 }
@@ -78,12 +75,10 @@ fn has_pair(availability: u16, ts: &[u8], os: &[u8], step: usize) -> bool
     requires { (ids_length step ≤ length ts.now) × (ids_length step ≤ length os.now) }
     ensures { result ≡ pair_twice availability (ids_apart step last_stream ts.now) (ids_apart step last_stream os.now) }
 {
-    let mut j = 0;
-    while j < STREAMS {
+    for j in 0..STREAMS {
         if has_pair_before(availability, ts, os, step, j) {
             return true;
         }
-        j += 1;
     }
     false
 }
@@ -93,7 +88,7 @@ fn has_pair(availability: u16, ts: &[u8], os: &[u8], step: usize) -> bool
 pub fn has_pair_twice(availability: u16, ts: &[u8], os: &[u8], step: u8) -> bool
     ensures { result ≡ holds_ids step (length ts.now) && (holds_ids step (length os.now) && pair_twice availability (ids_apart step last_stream ts.now) (ids_apart step last_stream os.now)) }
 {
-    let step = step as usize;
+    let step = usize::from(step);
     let needed = step * (STREAMS - 1) + 2;
     if ts.len() < needed {
         return false;

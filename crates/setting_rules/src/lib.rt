@@ -2,11 +2,12 @@
 #![tactic(auto)]
 
 ghost use Rattle.std.specs.Prelude.{◌≡◌};
-ghost use Rattle.counters.specs.Counters.{within};
+ghost use Rattle.refusals.specs.Refusals.{answer};
 ghost use Rattle.setting.specs.Refusal.{first_of};
 ghost use Rattle.setting.specs.Rules.{type_allowed, bonding_checks};
 
-use counters::FramePosition;
+use counters::{FramePosition, is_within};
+use refusals::Refusal;
 use setting::{Kind, limits};
 
 // 11: the bonding fields of an extended header.
@@ -16,41 +17,26 @@ pub fn bonding_refusal(
     carrier_sequence: u8,
     number_of_frames: u8,
     frame_position: FramePosition,
-) -> u8
-    ensures { result ≡ first_of (bonding_checks kind number_of_carriers carrier_sequence number_of_frames frame_position.0) }
+) -> Result<(), Refusal>
+    ensures { answer result ≡ first_of (bonding_checks kind number_of_carriers carrier_sequence number_of_frames frame_position.0) }
 {
     match kind {
-        Kind::Plain => 0,
-        Kind::Short => 0,
+        Kind::Plain | Kind::Short => Ok(()),
         Kind::Extended => {
-            if !is_within(
+            if is_within(
                 limits::FIRST_CARRIER,
                 limits::LAST_CARRIER,
                 number_of_carriers,
-            ) {
-                return 11;
+            ) && is_within(limits::FIRST_CARRIER, number_of_carriers, carrier_sequence)
+                && is_within(limits::FEWEST_FRAMES, limits::MOST_FRAMES, number_of_frames)
+                && is_within(FramePosition::FIRST, number_of_frames, frame_position.0)
+            {
+                Ok(())
+            } else {
+                Err(Refusal::BondingFields)
             }
-            if !is_within(limits::FIRST_CARRIER, number_of_carriers, carrier_sequence) {
-                return 11;
-            }
-            if !is_within(limits::FEWEST_FRAMES, limits::MOST_FRAMES, number_of_frames) {
-                return 11;
-            }
-            if !is_within(FramePosition::FIRST, number_of_frames, frame_position.0) {
-                return 11;
-            }
-            0
         }
     }
-}
-
-fn is_within(first: u8, last: u8, n: u8) -> bool
-    ensures { result ≡ within first last n }
-{
-    if n < first {
-        return false;
-    }
-    n <= last
 }
 
 // 8: whether a header of this kind may have the frame type.

@@ -21,7 +21,7 @@ fn is_barred(allowed: u16, number: u8) -> bool
     requires { number ≤ last_stream }
     ensures { result ≡ eqb (allowed / 2 ^ (last_stream - number) % 2) 0 }
 {
-    (allowed >> ((RelativeNumber::LAST - number) as u32)) % 2 == 0
+    (allowed >> u32::from(RelativeNumber::LAST - number)) % 2 == 0
 }
 
 // Whether a slot has the number of an unavailable stream. A number above 15 is no stream's. The loop goes
@@ -34,24 +34,21 @@ pub fn has_unavailable(availability: u16, numbers: &[u8]) -> bool
     }
     let allowed = allowed_by(availability);
     let mut found = false;
-    let mut i = 0;
-    while i < numbers.len() {
-        found = found | is_barred(allowed, numbers[i]);
-        i += 1;
+    for &number in numbers {
+        found |= is_barred(allowed, number);
     }
     found
 }
 
-// The same of numbers that stand two to a byte, as in a header with fifteen streams, where none is above 15.
+// The same of numbers that stand two to a byte, as in a header with fifteen streams, where none is above 15. A function of its own, since the
+// numbers lie differently: a byte each there, two in a byte here.
 pub fn has_unavailable_half(availability: u16, bytes: &[u8]) -> bool
     ensures { result ≡ some_unavailable availability (cut 4 (2 * length bytes.now) (run 8 bytes.now)) }
 {
     let allowed = allowed_by(availability);
     let mut found = false;
-    let mut i = 0;
-    while i < bytes.len() {
-        found = found | is_barred(allowed, bytes[i] / 16) | is_barred(allowed, bytes[i] % 16);
-        i += 1;
+    for &byte in bytes {
+        found |= is_barred(allowed, byte / 16) | is_barred(allowed, byte % 16);
     }
     found
 }

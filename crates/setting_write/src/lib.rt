@@ -18,12 +18,10 @@ fn write_words(part: &mut [u8], words: &[u16])
     requires { length part.old ≡ 2 * length words.now }
     ensures { part.new ≡ word_bytes words.now }
 {
-    let mut k = 0;
-    while k < words.len() {
-        let n = words[k];
-        part[2 * k] = (n / 256) as u8;
-        part[2 * k + 1] = (n % 256) as u8;
-        k += 1;
+    for (k, word) in words.iter().enumerate() {
+        let [high, low] = word.to_be_bytes();
+        part[2 * k] = high;
+        part[2 * k + 1] = low;
     }
 }
 
@@ -32,10 +30,11 @@ fn write_information(part: &mut [u8], a: Announced)
     requires { length part.old ≡ ts_id_at }
     ensures { part.new ≡ a.slot_allocation_type ∷ a.frame_type ∷ word_bytes (a.availability ∷ []) }
 {
+    let [high, low] = a.availability.to_be_bytes();
     part[SLOT_ALLOCATION_TYPE] = a.slot_allocation_type;
     part[FRAME_TYPE] = a.frame_type;
-    part[AVAILABILITY] = (a.availability / 256) as u8;
-    part[AVAILABILITY_LOW] = (a.availability % 256) as u8;
+    part[AVAILABILITY] = high;
+    part[AVAILABILITY_LOW] = low;
 }
 
 // Writes what a header announces into the lent 80 bytes; bytes of any other length stay.

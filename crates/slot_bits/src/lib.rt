@@ -26,10 +26,8 @@ fn byte_of(bits: &[u8]) -> u64
     ensures upper_bound { result ≤ 255 * 8 }
 {
     let mut sum = 0u64;
-    let mut i = 0;
-    while i < bits.len() {
-        sum += bits::wide(bits[i]);
-        i += 1;
+    for &bit in bits {
+        sum += u64::from(bit);
     }
     sum
 }
@@ -39,13 +37,10 @@ fn number_of(bits: &[u8; 8 * BYTES]) -> u64
     ensures value { result ≡ in_bytes 0 bits.now }
     ensures upper_bound { result < 2 ^ 60 }
 {
-    let bits: &[u8] = bits;
     let mut number = 0u64;
-    let mut byte = 0;
-    while byte < BYTES {
+    for byte in 0..BYTES {
         let at = 8 * byte;
         number += byte_of(&bits[at..at + 8]) << (at as u32);
-        byte += 1;
     }
     number
 }
@@ -56,12 +51,9 @@ fn number_of(bits: &[u8; 8 * BYTES]) -> u64
 pub fn slots_as_bits(marks: &[bool; SLOTS]) -> u64
     ensures { result ≡ slots_as_bits marks.now }
 {
-    let marks: &[bool] = marks;
     let mut bits = [0u8; 8 * BYTES];
-    let mut i = 0;
-    while i < SLOTS {
-        bits[i] = bit_of(marks[i], i);
-        i += 1;
+    for (i, &is_marked) in marks.iter().enumerate() {
+        bits[i] = bit_of(is_marked, i);
     }
     2 * number_of(&bits)
 }

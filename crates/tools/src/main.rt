@@ -13,13 +13,17 @@ mod input;
 mod mux;
 mod nulls;
 mod plan;
-mod says;
+mod problem;
+mod receiving;
 mod settings;
 mod sizes;
 mod tally;
 mod unbonding;
 
-ghost use Rattle.std.specs.Prelude.{◌+◌, ◌^◌, ◌<◌, ◌≤◌, length};
+use arguments::Arguments;
+use problem::Problem;
+
+const USAGE: &str = "mux | demux | bond | unbond ARGUMENTS; each of them alone says which";
 
 #[derive(Clone, Copy)]
 enum Tool {
@@ -27,79 +31,53 @@ enum Tool {
     Demux,
     Bond,
     Unbond,
-    None,
 }
 
-// Where the last part of a path starts, once byte i is read.
-fn start_with(b: u8, i: usize, start: usize) -> usize
-    requires { (start ≤ i) × (i < 2 ^ 63) }
-    ensures { result ≤ i + 1 }
-{
-    if b == b'/' {
-        return i + 1;
+// The last part of a path: what stands behind its last '/'.
+fn base(path: &[u8]) -> &[u8] {
+    match path.iter().rposition(|b| *b == b'/') {
+        Some(i) => &path[i + 1..],
+        None => path,
     }
-    start
 }
 
-// Where the last part of a path starts: behind its last '/'.
-fn base(path: &[u8]) -> usize
-    ensures { result ≤ length path.now }
-{
-    let mut start = 0;
-    let mut i = 0;
-    while i < path.len() {
-        start = start_with(path[i], i, start);
-        i += 1;
+fn named(name: &[u8]) -> Option<Tool> {
+    match name {
+        b"mux" => Some(Tool::Mux),
+        b"demux" => Some(Tool::Demux),
+        b"bond" => Some(Tool::Bond),
+        b"unbond" => Some(Tool::Unbond),
+        _ => None,
     }
-    start
-}
-
-fn named(name: &[u8]) -> Tool {
-    if arguments::same(name, b"mux") {
-        return Tool::Mux;
-    }
-    if arguments::same(name, b"demux") {
-        return Tool::Demux;
-    }
-    if arguments::same(name, b"bond") {
-        return Tool::Bond;
-    }
-    if arguments::same(name, b"unbond") {
-        return Tool::Unbond;
-    }
-    Tool::None
 }
 
 // The program that argument i names.
-fn tool_at(rt: HostRuntime, i: usize) -> Tool {
-    let mut word = io::buffer();
-    let n = arguments::word(rt, i, &mut word);
-    let from = base(&word[0..n]);
-    named(&word[from..n])
+fn tool_at(rt: HostRuntime, i: usize) -> Option<Tool> {
+    let mut buffer = io::buffer();
+    named(base(arguments::word(rt, i, &mut buffer)))
 }
 
-// Runs the program, whose arguments start at `first`. Answers false if there is no such program.
-fn run(rt: HostRuntime, tool: Tool, first: usize) -> bool
-    requires { first ≤ 2 }
-{
-    match tool {
-        Tool::Mux => mux::run(rt, first),
-        Tool::Demux => demux::run(rt, first),
-        Tool::Bond => bonding::run(rt, first),
-        Tool::Unbond => unbonding::run(rt, first),
-        Tool::None => {
-            return false;
+impl Tool {
+    fn run(self, args: Arguments) -> Result<(), Problem> {
+        match self {
+            Tool::Mux => mux::run(args),
+            Tool::Demux => demux::run(args),
+            Tool::Bond => bonding::run(args),
+            Tool::Unbond => unbonding::run(args),
         }
     }
-    true
+}
+
+fn run(rt: HostRuntime) -> Result<(), Problem> {
+    if let Some(tool) = tool_at(rt, 0) {
+        return tool.run(Arguments::new(rt, 1));
+    }
+    if let Some(tool) = tool_at(rt, 1) {
+        return tool.run(Arguments::new(rt, 2));
+    }
+    Err(Problem::Usage(USAGE))
 }
 
 fn main(rt: HostRuntime) {
-    if run(rt, tool_at(rt, 0), 1) {
-        return;
-    }
-    if run(rt, tool_at(rt, 1), 2) {
-        return;
-    }
-    says::text(b"usage: mux | demux | bond | unbond ARGUMENTS; each of them alone says which\n");
+    problem::said(rt, run(rt));
 }

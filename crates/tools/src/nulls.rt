@@ -1,21 +1,15 @@
 // Null packets.
-ghost use Rattle.std.specs.Prelude.{◌+◌};
-
 use packet::PACKET_BYTES;
 
-fn write_head(packet: &mut [u8]) {
-    let head = [0x47u8, 0x1F, 0xFF, 0x10];
-    slices::copy(packet, &head);
-}
+// The head of a null packet. Behind it stand ones.
+const HEAD: [u8; 4] = [0x47, 0x1F, 0xFF, 0x10];
 
 // Writes null packets over all of the bytes.
 pub(crate) fn write_nulls(bytes: &mut [u8]) {
-    slices::fill(bytes, 0xFF);
-    let packets = bytes.len() / PACKET_BYTES;
-    let mut i = 0;
-    while i < packets {
-        let at = PACKET_BYTES * i;
-        write_head(&mut bytes[at..at + 4]);
-        i += 1;
+    bytes.fill(0xFF);
+    for packet in bytes.chunks_exact_mut(PACKET_BYTES) {
+        if let Some(head) = packet.first_chunk_mut() {
+            *head = HEAD;
+        }
     }
 }

@@ -5,7 +5,7 @@ ghost use Rattle.counters.specs.Counters.{last_stream};
 use counters::RelativeNumber;
 use setting::Setting;
 
-// The setting with stream r available, and with these identifiers for it.
+// The number of stream i, counted from 0.
 pub(crate) fn stream_at(i: usize) -> RelativeNumber
     requires { i < last_stream }
     ensures { result.0 ≡ i + 1 }
@@ -23,13 +23,9 @@ pub(crate) fn with_stream(
     requires { (1 ≤ r.0) × (r.0 ≤ last_stream) }
 {
     let before = r.0 - RelativeNumber::FIRST;
-    let i = before as usize;
-    s.availability = s.availability | (16384u16 >> (before as u32));
-    let mut ts = s.ts_id;
-    ts[i] = ts_id;
-    s.ts_id = ts;
-    let mut os = s.original_network_id;
-    os[i] = original_network_id;
-    s.original_network_id = os;
+    let i = usize::from(before);
+    s.availability |= 16384u16 >> u32::from(before);
+    s.ts_id[i] = ts_id;
+    s.original_network_id[i] = original_network_id;
     s
 }

@@ -6,19 +6,19 @@ ghost use Rattle.packet.specs.Packets.{packet_length, frame_length};
 use setting::Kind;
 
 // How many slots of a frame carry packets.
-pub(crate) fn slots_of(kind: Kind) -> usize
+pub(crate) fn slots_of(kind: Kind) -> u8
     ensures { result ≤ last_slot }
 {
     let size = setting::size_of(kind);
-    size.slots as usize
+    size.slots
 }
 
 // How many streams a header knows.
-pub(crate) fn streams_of(kind: Kind) -> usize
+pub(crate) fn streams_of(kind: Kind) -> u8
     ensures { result ≤ last_stream }
 {
     let size = setting::size_of(kind);
-    size.streams as usize
+    size.streams
 }
 
 // How many bytes a frame has.

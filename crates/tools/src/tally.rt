@@ -1,189 +1,144 @@
 // Counts what happened to the frames of an input, and prints the summary.
-use crate::says;
-use header_check::Refusal;
-use receiver::events;
+use crate::problem::{Why, say_progress};
+use crate::receiving;
+use header_check::Refused;
+use receiver::Event;
+use refusals::Refusal;
 use setting::Kind;
+use std::fmt;
+
+// A header with a wrong CRC that dropped a frame: its remainder, and the packet's number in the input, from 0.
+#[derive(Clone, Copy)]
+struct Spoiled {
+    remainder: u32,
+    packet: u64,
+}
 
 // The counts. Each would wrap at 2^64.
 #[derive(Clone, Copy)]
 pub(crate) struct Tally {
-    // Packets that came in, and packets of the chosen stream that went out.
+    // The PID and the kind of the headers.
+    pid: u16,
+    kind: Kind,
+    // Packets that came in, and those of them that are headers.
     pub(crate) came: u64,
-    pub(crate) went: u64,
     pub(crate) headers: u64,
-    // While no header came: why the first packet with the header PID is none. 0 if there is no such packet.
-    pub(crate) refusal: Refusal,
-    pub(crate) ready: u64,
+    // While no header came: why the first packet with the header PID is none.
+    refusal: Option<Refused>,
+    ready: u64,
     // Frames dropped, by the reason.
-    pub(crate) short: u64,
-    pub(crate) jump: u64,
-    pub(crate) long: u64,
-    pub(crate) broken: u64,
-    // Of the first header with a wrong CRC that dropped a frame: the remainder, and the packet's number in the input, from 0. Without such a
-    // header the remainder is 0.
-    pub(crate) remainder: u32,
-    pub(crate) remainder_at: u64,
-}
-
-pub(crate) fn none() -> Tally {
-    Tally {
-        came: 0,
-        went: 0,
-        headers: 0,
-        refusal: Refusal::bare(0),
-        ready: 0,
-        short: 0,
-        jump: 0,
-        long: 0,
-        broken: 0,
-        remainder: 0,
-        remainder_at: 0,
-    }
-}
-
-// Whether the packet opened a frame, and so is a good header.
-pub(crate) fn opens(event: u8) -> bool {
-    match event {
-        events::OPENED => true,
-        events::READY => true,
-        events::SHORT => true,
-        events::JUMP => true,
-        _ => false,
-    }
-}
-
-fn more(n: u64) -> u64 {
-    std::num::wrapping_add_u64(n, 1)
+    short: u64,
+    jump: u64,
+    long: u64,
+    broken: u64,
+    // The first header with a wrong CRC that dropped a frame.
+    spoiled: Option<Spoiled>,
 }
 
 // On a long input, a line of progress every so many frames, which is about a gigabyte.
 const PROGRESS: u64 = 100000;
 
-fn say_progress(ready: u64) {
-    if ready % PROGRESS == 0 {
-        says::number(ready);
-        says::text(b" frames ready\n");
-    }
+// Whether a packet that is refused as a header for this has the header PID: the checks up to that of the PID found nothing.
+fn has_pid(refusal: Refusal) -> bool {
+    !matches!(
+        refusal,
+        Refusal::Length | Refusal::HeaderPid | Refusal::SyncByte | Refusal::OtherPid
+    )
 }
 
-// Keeps the remainder of the packet that comes next, if it is the first that has one.
-pub(crate) fn with_remainder(t: Tally, remainder: u32) -> Tally {
-    if t.remainder != 0 {
-        return t;
-    }
-    let mut next = t;
-    next.remainder = remainder;
-    next.remainder_at = t.came;
-    next
-}
-
-// Counts one more packet, and what it did.
-pub(crate) fn with_event(t: Tally, event: u8) -> Tally {
-    let mut next = t;
-    next.came = more(t.came);
-    if opens(event) {
-        next.headers = more(t.headers);
-    }
-    match event {
-        events::READY => {
-            next.ready = more(t.ready);
-            say_progress(next.ready);
+impl Tally {
+    pub(crate) fn new(pid: u16, kind: Kind) -> Tally {
+        Tally {
+            pid,
+            kind,
+            came: 0,
+            headers: 0,
+            refusal: None,
+            ready: 0,
+            short: 0,
+            jump: 0,
+            long: 0,
+            broken: 0,
+            spoiled: None,
         }
-        events::SHORT => {
-            next.short = more(t.short);
+    }
+
+    // Counts one more packet, and what it did.
+    pub(crate) fn count(&mut self, rt: HostRuntime, event: Event, packet: &[u8]) {
+        let number = self.came;
+        self.came = number.wrapping_add(1);
+        if receiving::opens(event) {
+            self.headers = self.headers.wrapping_add(1);
         }
-        events::JUMP => {
-            next.jump = more(t.jump);
+        match event {
+            Event::Ready => {
+                self.ready = self.ready.wrapping_add(1);
+                say_progress(rt, self.ready, PROGRESS, "frames ready");
+            }
+            Event::Short => self.short = self.short.wrapping_add(1),
+            Event::Jump => self.jump = self.jump.wrapping_add(1),
+            Event::Long => self.long = self.long.wrapping_add(1),
+            Event::Broken(remainder) => {
+                self.broken = self.broken.wrapping_add(1);
+                self.keep_remainder(remainder, number);
+            }
+            Event::Nothing | Event::Opened | Event::Stored => {}
         }
-        events::LONG => {
-            next.long = more(t.long);
+        self.keep_refusal(packet);
+    }
+
+    // Keeps the remainder of the packet with this number, if it is the first that has one.
+    fn keep_remainder(&mut self, remainder: u32, packet: u64) {
+        if remainder != 0 && self.spoiled.is_none() {
+            self.spoiled = Some(Spoiled { remainder, packet });
         }
-        events::BROKEN => {
-            next.broken = more(t.broken);
+    }
+
+    // Keeps why the packet is no header, if no header came and it is the first with the header PID.
+    fn keep_refusal(&mut self, packet: &[u8]) {
+        if self.headers != 0 || self.refusal.is_some() {
+            return;
         }
-        _ => {}
-    }
-    next
-}
-
-// Up to this number a refusal says that the packet does not have the PID.
-const OTHER_PID: u8 = 4;
-
-// Keeps why the packet is no header, if it is the first with the header PID.
-pub(crate) fn with_refusal(t: Tally, packet: &[u8], pid: u16, kind: Kind) -> Tally {
-    if t.headers != 0 {
-        return t;
-    }
-    let before = t.refusal;
-    if before.number != 0 {
-        return t;
-    }
-    let mut next = t;
-    let refusal = header_codec::read(packet, pid, kind).refusal;
-    if OTHER_PID < refusal.number {
-        next.refusal = refusal;
-    }
-    next
-}
-
-pub(crate) fn with_packets(t: Tally, packets: usize) -> Tally {
-    let mut next = t;
-    next.went = std::num::wrapping_add_u64(t.went, packets as u64);
-    next
-}
-
-fn say_count(words: &[u8], n: u64) {
-    says::text(words);
-    says::number(n);
-}
-
-fn say_remainder(t: Tally) {
-    if t.remainder != 0 {
-        says::text(b" (first remainder ");
-        says::hex(t.remainder);
-        say_count(b" at packet ", t.remainder_at);
-        says::text(b")");
+        if let Err(why) = header_codec::read(packet, self.pid, self.kind)
+            && has_pid(why.refusal)
+        {
+            self.refusal = Some(why);
+        }
     }
 }
 
-// Says what became of the frames.
-fn say_frames(t: Tally) {
-    say_count(b"frames ready ", t.ready);
-    say_count(b"; dropped: short ", t.short);
-    say_count(b", jump ", t.jump);
-    say_count(b", long ", t.long);
-    say_count(b", broken ", t.broken);
-    say_remainder(t);
+impl fmt::Display for Spoiled {
+    fn fmt<W: fmt::Write>(&self, f: &mut fmt::Formatter<W>) -> fmt::Result {
+        write!(
+            f,
+            " (first remainder {:08x} at packet {})",
+            self.remainder, self.packet
+        )
+    }
 }
 
-fn say_no_header(t: Tally, pid: u16) {
-    say_count(b"no header with PID ", pid as u64);
-    say_count(b" in ", t.came);
-    let refusal = t.refusal;
-    if refusal.number != 0 {
-        says::refusal(b" packets; the first with this PID", refusal);
-        return;
+// What became of the frames, or why there is none.
+impl fmt::Display for Tally {
+    fn fmt<W: fmt::Write>(&self, f: &mut fmt::Formatter<W>) -> fmt::Result {
+        if self.headers == 0 {
+            write!(
+                f,
+                "no header with PID {} in {} packets",
+                self.pid, self.came
+            )?;
+            return match self.refusal {
+                Some(why) => write!(f, "; the first with this PID: {}", Why(why)),
+                None => write!(f, ": another PID, or not cut on packet borders"),
+            };
+        }
+        write!(
+            f,
+            "frames ready {}; dropped: short {}, jump {}, long {}, broken {}",
+            self.ready, self.short, self.jump, self.long, self.broken
+        )?;
+        match self.spoiled {
+            Some(spoiled) => write!(f, "{spoiled}"),
+            None => Ok(()),
+        }
     }
-    says::text(b" packets: another PID, or not cut on packet borders\n");
-}
-
-// Says what became of the frames of one input among several, in one line.
-pub(crate) fn say_input(t: Tally, pid: u16) {
-    if t.headers == 0 {
-        say_no_header(t, pid);
-        return;
-    }
-    say_frames(t);
-    says::text(b"\n");
-}
-
-// Says the summary. If the input has no header, it says so.
-pub(crate) fn say(t: Tally, pid: u16) {
-    if t.headers == 0 {
-        say_no_header(t, pid);
-        return;
-    }
-    say_frames(t);
-    say_count(b"; packets out ", t.went);
-    says::text(b"\n");
 }

@@ -1,3 +1,4 @@
 pub mod One
+mod Again
 pub mod Calls
 pub mod Functions

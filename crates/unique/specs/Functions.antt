@@ -2,7 +2,11 @@
 use Rattle.std.specs.Prelude.{◌≡◌}
 use contract.Lifetimes.{Lfts}
 use denote.Triple.Entry.{Args}
+use Rattle.refusals.specs.Refusals.{answer}
+use Rattle.composer_put.specs.Placing.{placed_in, rest_in}
 use Rattle.unique.specs.Outcomes.{Outcome, Allows, OneOutcome}
+use Rattle.refusals.proofs.Refusal.number as refusals_refusal_number
+use Rattle.refusals.specs.contracts.Refusal.number as refusals_refusal_number_contract
 use Rattle.bits.proofs.wide as bits_wide
 use Rattle.bits.specs.contracts.wide as bits_wide_contract
 use Rattle.bits.proofs.word as bits_word
@@ -31,6 +35,8 @@ use Rattle.counters.proofs.RelativeNumber.is_available as counters_relative_numb
 use Rattle.counters.specs.contracts.RelativeNumber.is_available as counters_relative_number_is_available_contract
 use Rattle.counters.proofs.FramePosition.new as counters_frame_position_new
 use Rattle.counters.specs.contracts.FramePosition.new as counters_frame_position_new_contract
+use Rattle.counters.proofs.is_within as counters_is_within
+use Rattle.counters.specs.contracts.is_within as counters_is_within_contract
 use Rattle.counters.proofs.count_available as counters_count_available
 use Rattle.counters.specs.contracts.count_available as counters_count_available_contract
 use Rattle.crc.proofs.register as crc_register
@@ -85,8 +91,6 @@ use Rattle.packet.proofs.rest as packet_rest
 use Rattle.packet.specs.contracts.rest as packet_rest_contract
 use Rattle.header_layout.proofs.places_of as header_layout_places_of
 use Rattle.header_layout.specs.contracts.places_of as header_layout_places_of_contract
-use Rattle.header_check.proofs.Refusal.bare as header_check_refusal_bare
-use Rattle.header_check.specs.contracts.Refusal.bare as header_check_refusal_bare_contract
 use Rattle.header_check.proofs.cut_run as header_check_cut_run
 use Rattle.header_check.specs.contracts.cut_run as header_check_cut_run_contract
 use Rattle.header_check.proofs.read_numbers as header_check_read_numbers
@@ -113,8 +117,12 @@ use Rattle.composer_checks.proofs.open_refusal as composer_checks_open_refusal
 use Rattle.composer_checks.specs.contracts.open_refusal as composer_checks_open_refusal_contract
 use Rattle.composer_start.proofs.start as composer_start_start
 use Rattle.composer_start.specs.contracts.start as composer_start_start_contract
+use Rattle.composer_begin.proofs.begin as composer_begin_begin
+use Rattle.composer_begin.specs.contracts.begin as composer_begin_begin_contract
 use Rattle.composer_put.proofs.put as composer_put_put
 use Rattle.composer_put.specs.contracts.put as composer_put_put_contract
+use Rattle.composer_close.proofs.close as composer_close_close
+use Rattle.composer_close.specs.contracts.close as composer_close_close_contract
 use Rattle.receiver_table.proofs.header_row as receiver_table_header_row
 use Rattle.receiver_table.specs.contracts.header_row as receiver_table_header_row_contract
 use Rattle.receiver_table.proofs.broken_row as receiver_table_broken_row
@@ -127,8 +135,16 @@ use Rattle.receiver_stage.proofs.store_bytes as receiver_stage_store_bytes
 use Rattle.receiver_stage.specs.contracts.store_bytes as receiver_stage_store_bytes_contract
 use Rattle.receiver_stage.proofs.state_refusal as receiver_stage_state_refusal
 use Rattle.receiver_stage.specs.contracts.state_refusal as receiver_stage_state_refusal_contract
+use Rattle.receiver.proofs.Event.number as receiver_event_number
+use Rattle.receiver.specs.contracts.Event.number as receiver_event_number_contract
+use Rattle.receiver.proofs.Event.remainder as receiver_event_remainder
+use Rattle.receiver.specs.contracts.Event.remainder as receiver_event_remainder_contract
 use Rattle.receiver_start.proofs.start as receiver_start_start
 use Rattle.receiver_start.specs.contracts.start as receiver_start_start_contract
+use Rattle.receiver_receive.proofs.receive as receiver_receive_receive
+use Rattle.receiver_receive.specs.contracts.receive as receiver_receive_receive_contract
+use Rattle.receiver_hand_out.proofs.hand_out as receiver_hand_out_hand_out
+use Rattle.receiver_hand_out.specs.contracts.hand_out as receiver_hand_out_hand_out_contract
 use Rattle.bond_group.proofs.read_headers as bond_group_read_headers
 use Rattle.bond_group.specs.contracts.read_headers as bond_group_read_headers_contract
 use Rattle.bond.proofs.spread as bond_spread
@@ -140,6 +156,7 @@ use Rattle.listing.specs.contracts.list as listing_list_contract
 
 pub record Functions : Type 0 where
   -- ground
+  pub refusals_refusal_number : OneOutcome refusals_refusal_number_contract.ended refusals_refusal_number.Reads.Learnt
   pub bits_wide : OneOutcome bits_wide_contract.ended bits_wide.Reads.Learnt
   pub bits_word : OneOutcome bits_word_contract.ended bits_word.Reads.Learnt
   pub bits_long : OneOutcome bits_long_contract.ended bits_long.Reads.Learnt
@@ -154,6 +171,7 @@ pub record Functions : Type 0 where
   pub counters_relative_number_new : OneOutcome counters_relative_number_new_contract.ended counters_relative_number_new.Reads.Learnt
   pub counters_relative_number_is_available : OneOutcome counters_relative_number_is_available_contract.ended counters_relative_number_is_available.Reads.Learnt
   pub counters_frame_position_new : OneOutcome counters_frame_position_new_contract.ended counters_frame_position_new.Reads.Learnt
+  pub counters_is_within : OneOutcome counters_is_within_contract.ended counters_is_within.Reads.Learnt
   pub counters_count_available : OneOutcome counters_count_available_contract.ended counters_count_available.Reads.Learnt
   pub crc_register : OneOutcome crc_register_contract.ended crc_register.Reads.Learnt
   pub slot_bits_slots_as_bits : OneOutcome slot_bits_slots_as_bits_contract.ended slot_bits_slots_as_bits.Reads.Learnt
@@ -188,7 +206,6 @@ pub record Functions : Type 0 where
       → Allows packet_rest_contract.ended packet_rest.Reads.Learnt κs a y
       → x.0.now ≡ y.0.now
   pub header_layout_places_of : OneOutcome header_layout_places_of_contract.ended header_layout_places_of.Reads.Learnt
-  pub header_check_refusal_bare : OneOutcome header_check_refusal_bare_contract.ended header_check_refusal_bare.Reads.Learnt
   pub header_check_cut_run : OneOutcome header_check_cut_run_contract.ended header_check_cut_run.Reads.Learnt
   pub header_check_read_numbers : OneOutcome header_check_read_numbers_contract.ended header_check_read_numbers.Reads.Learnt
   pub header_check_check : OneOutcome header_check_check_contract.ended header_check_check.Reads.Learnt
@@ -203,12 +220,14 @@ pub record Functions : Type 0 where
   pub composer_checks_mark_refusal : OneOutcome composer_checks_mark_refusal_contract.ended composer_checks_mark_refusal.Reads.Learnt
   pub composer_checks_open_refusal : OneOutcome composer_checks_open_refusal_contract.ended composer_checks_open_refusal.Reads.Learnt
   pub composer_start_start : OneOutcome composer_start_start_contract.ended composer_start_start.Reads.Learnt
-  -- so is the rest that put hands back
+  pub composer_begin_begin : OneOutcome composer_begin_begin_contract.ended composer_begin_begin.Reads.Learnt
+  -- so is the rest that put hands back: which bytes it has
   pub composer_put_put :
       (κs : Lfts (composer_put_put_contract.ended).signature.lifetimes) (a : Args (composer_put_put_contract.ended).signature κs) (x y : Outcome composer_put_put_contract.ended κs a)
       → Allows composer_put_put_contract.ended composer_put_put.Reads.Learnt κs a x
       → Allows composer_put_put_contract.ended composer_put_put.Reads.Learnt κs a y
-      → (x.0.now ≡ y.0.now) × (x.1 ≡ y.1)
+      → (answer x.0 ≡ answer y.0) × ((placed_in x.0 ≡ placed_in y.0) × ((rest_in a.1.1.0.now x.0 ≡ rest_in a.1.1.0.now y.0) × (x.1 ≡ y.1)))
+  pub composer_close_close : OneOutcome composer_close_close_contract.ended composer_close_close.Reads.Learnt
   -- frames received
   pub receiver_table_header_row : OneOutcome receiver_table_header_row_contract.ended receiver_table_header_row.Reads.Learnt
   pub receiver_table_broken_row : OneOutcome receiver_table_broken_row_contract.ended receiver_table_broken_row.Reads.Learnt
@@ -216,7 +235,11 @@ pub record Functions : Type 0 where
   pub receiver_stage_write_stage : OneOutcome receiver_stage_write_stage_contract.ended receiver_stage_write_stage.Reads.Learnt
   pub receiver_stage_store_bytes : OneOutcome receiver_stage_store_bytes_contract.ended receiver_stage_store_bytes.Reads.Learnt
   pub receiver_stage_state_refusal : OneOutcome receiver_stage_state_refusal_contract.ended receiver_stage_state_refusal.Reads.Learnt
+  pub receiver_event_number : OneOutcome receiver_event_number_contract.ended receiver_event_number.Reads.Learnt
+  pub receiver_event_remainder : OneOutcome receiver_event_remainder_contract.ended receiver_event_remainder.Reads.Learnt
   pub receiver_start_start : OneOutcome receiver_start_start_contract.ended receiver_start_start.Reads.Learnt
+  pub receiver_receive_receive : OneOutcome receiver_receive_receive_contract.ended receiver_receive_receive.Reads.Learnt
+  pub receiver_hand_out_hand_out : OneOutcome receiver_hand_out_hand_out_contract.ended receiver_hand_out_hand_out.Reads.Learnt
   -- bonded carriers
   pub bond_group_read_headers : OneOutcome bond_group_read_headers_contract.ended bond_group_read_headers.Reads.Learnt
   pub bond_spread : OneOutcome bond_spread_contract.ended bond_spread.Reads.Learnt

@@ -1,28 +1,24 @@
--- `long` meets its contract: after i turns r is the number of the first i bytes. Assumes nothing.
-use Prim.Native.Nat.{◌+◌, ◌-◌, ◌*◌, ◌%◌, ◌^◌, ◌≤◌}
-use mathlib.Core.Path.{◌≡◌, refl, ap, ◌∙◌}
-use native.Mathlib.Numerals.{add-one}
-use native.Mathlib.Omega.{arith}
-use borrow.Author.Rules.{rules}
-use lib.ListN.{length, get_or, take}
-use lib.Seq.{take_all, take-suc}
+-- `long` meets its contract: after some turns r is the number of the bytes so far. Assumes nothing.
+use Rattle.std.proofs.Common.{◌≡◌, ◌+◌, ◌*◌, ◌%◌, ◌^◌, ap, refl, ◌∙◌, add-one, arith, get_or, take}
+use Rattle.std.proofs.Math.Seq.{take-suc}
 use Rattle.bits.specs.Fields.{number, run}
 use Rattle.bits.proofs.Laws.{number_more}
+use Rattle.bits.proofs.Eight.{last_number}
 use Rattle.bits.proofs.long.Goals as goal
 
-pub loop-i-init : goal.loop-i-init
+pub loop-byte-init : goal.loop-byte-init
 unfolding number run
-loop-i-init c = (omega arith, refl)
+loop-byte-init c = refl
 
-pub loop-i-preserved : goal.loop-i-preserved
-loop-i-preserved c =
+pub loop-byte-preserved : goal.loop-byte-preserved
+loop-byte-preserved c =
     let bytes = c.args.bytes.now in
-    let i = c.loop-i.i in
-    let byte = c.wide.ensures in
+    let i = c.loop-byte.byte-index in
     let more : number (run 8 (take (i + 1) bytes)) ≡ number (run 8 (take i bytes)) * 2 ^ 8 + get_or bytes i 0 % 2 ^ 8 =
     ap (λ k. number (run 8 (take k bytes))) (add-one i) ∙ ap (λ bs. number (run 8 bs)) (take-suc bytes i 0 (omega arith)) ∙ number_more 8 (take i bytes) (get_or bytes i 0) in
-    (omega arith, omega (arith, more, c.loop-i.invariant.1))
+    omega (arith, more, c.loop-byte.invariant)
 
-pub returns : goal.returns
-returns c =
-    c.loop-i.invariant.1 ∙ ap (λ bs. number (run 8 bs) % 2 ^ 64) (take_all c.loop-i.i c.args.bytes.now (omega arith))
+pub returns-in-Some : goal.returns-in-Some
+returns-in-Some c =
+    let parts = c.in-Some.ensures.cases in
+    last_number c.args.bytes.now c.in-Some.field-0.now parts.0 parts.1.same (λ i. let fits = c.type_inv.bytes i in omega (arith, fits)) c.from_be_bytes.ensures

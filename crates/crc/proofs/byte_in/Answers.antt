@@ -1,9 +1,8 @@
 -- `crc::byte_in` meets its contract: the byte meets the register's highest bits, and the two are shifted as one. Assumes nothing.
-use Prim.Native.Nat.{ℕ, ◌*◌, ◌^◌, ◌<◌}
+use Prim.Native.Nat.{ℕ, ◌*◌, ◌%◌, ◌^◌, ◌<◌}
 use mathlib.Core.Path.{refl, sym, ap, ◌∙◌}
 use native.Mathlib.Omega.{arith}
 use native.Mathlib.Nat.{le_refl, mod-eq_of_lt}
-use borrow.Author.Rules.{rules}
 use lib.Bits.{bit_xor}
 use lib.Pow.{shl_exact}
 use Rattle.crc.specs.Crc.{shifts}
@@ -12,7 +11,7 @@ use Rattle.crc.proofs.byte_in.Goals as goal
 
 pub returns : goal.returns
 returns c =
-    c.shifted.ensures
+    c.shifted.ensures ∙ ap (λ (x : ℕ). shifts 8 (bit_xor s (x * 2 ^ 24 % 2 ^ 32))) c.from.ensures
     ∙ ap (λ (x : ℕ). shifts 8 (bit_xor s x)) (shl_exact 8 24 32 small (le_refl 32) ∙ ap (λ (x : ℕ). x * 2 ^ 24) (sym (mod-eq_of_lt small)))
     ∙ sym (field_in 8 24 refl s b)
   where

@@ -1,6 +1,5 @@
 -- `crc::long_on` meets its contract: its halves go on as one. Assumes nothing.
 use native.Mathlib.Omega.{arith}
-use borrow.Author.Rules.{rules}
 use Rattle.crc.proofs.Reduced.{halves_ahead}
 use Rattle.crc.proofs.long_on.Goals as goal
 

@@ -1,5 +1,4 @@
 -- `niranbok_crc` meets its contract: it is the inner call. Assumes nothing.
-use borrow.Author.Rules.{rules}
 use Rattle.crc.proofs.niranbok_crc.Goals as goal
 
 pub returns : goal.returns

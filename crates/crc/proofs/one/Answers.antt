@@ -15,7 +15,7 @@ row {n} {e} m k h same = record { bits = lt_of_lt_of_le h (lit≤ tt); same = re
 
 pub returns-in-32 : goal.returns-in-32
 unfolding shifts shift poly
-returns-in-32 c = row 32 (omega arith) (lit< tt) refl
+returns-in-32 c = row 32 (omega arith) (omega arith) c.from.ensures
 
 pub returns-in-64 : goal.returns-in-64
 unfolding shifts shift poly

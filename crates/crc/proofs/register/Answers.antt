@@ -8,7 +8,6 @@ use lib.Seq.{take_all}
 use Rattle.bits.specs.Fields.{run}
 use Rattle.crc.specs.Crc.{register_from, register_of}
 use Rattle.crc.proofs.Folding.{parts_in}
-use borrow.Author.Rules.{rules}
 use Rattle.crc.proofs.register.Goals as goal
 
 pub returns-then-n-lt16 : goal.returns-then-n-lt16

@@ -1,35 +1,30 @@
 -- `crc::shifted` meets its contract. The loop's invariant: the shifts that are left bring the register to the one that is asked.
 -- The measure is how many are left. Assumes nothing.
-use Prim.Native.Nat.{ℕ, suc, ◌+◌, ◌-◌, ◌/◌, ◌^◌, ◌≤◌, ◌<◌}
+use Prim.Native.Nat.{ℕ, suc, ◌+◌, ◌-◌, ◌/◌, ◌^◌, ◌<◌}
 use mathlib.Core.Path.{◌≡◌, sym, ap, ◌∙◌, subst}
-use mathlib.Core.Logic.{⊎_elim}
 use native.Mathlib.Omega.{arith}
-use native.Mathlib.Nat.{le_refl, sub-zero}
+use native.Mathlib.Nat.{le_refl}
 use lib.Pow.{shl_exact}
 use Rattle.crc.specs.Crc.{poly, shift, shifts}
 use Rattle.crc.proofs.Laws.{shift_high, shift_low, shift_lt}
 use Rattle.crc.proofs.shifted.Goals as goal
 use Rattle.crc.proofs.shifted.Goals.{else-r-eq1, then-r-eq1}
 
-pub loop-i-init : goal.loop-i-init
-loop-i-init c = (omega arith, omega arith, ap (λ (k : ℕ). shifts k c.args.x) (sub-zero c.args.n))
-
-pub loop-i-preserved : goal.loop-i-preserved
+pub loop-preserved : goal.loop-preserved
 unfolding poly shifts
-loop-i-preserved c = (
-  omega arith,
+loop-preserved c = (
   subst (λ (x : ℕ). x < 2 ^ 32) (sym next) (shift_lt r),
-  ap (shifts (n - (i + 1))) next ∙ ap (λ (k : ℕ). shifts k r) (sym less) ∙ c.loop-i.invariant.2,
+  ap (shifts (n - (i + 1))) next ∙ ap (λ (k : ℕ). shifts k r) (sym less) ∙ c.loop.invariant.1,
 )
   where
     n : ℕ
     n = c.args.n
 
     r : ℕ
-    r = c.loop-i.r
+    r = c.loop.r
 
     i : ℕ
-    i = c.loop-i.i
+    i = c.loop.counter
 
     less : n - i ≡ suc (n - (i + 1))
     less = omega arith
@@ -44,5 +39,5 @@ loop-i-preserved c = (
 pub returns : goal.returns
 unfolding shifts
 returns c =
-    let done : c.args.n - c.loop-i.i ≡ 0 = omega arith in
-    ap (λ (k : ℕ). shifts k c.loop-i.r) (sym done) ∙ c.loop-i.invariant.2
+    let done : c.args.n - c.loop.counter ≡ 0 = omega arith in
+    ap (λ (k : ℕ). shifts k c.loop.r) (sym done) ∙ c.loop.invariant.1

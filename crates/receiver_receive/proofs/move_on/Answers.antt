@@ -1,5 +1,5 @@
 -- `move_on` meets its contract: the stage was lent, and is written. Assumes nothing.
-use mathlib.Core.Path.{sym, ◌∙◌}
+use mathlib.Core.Path.{refl, sym, ◌∙◌}
 use native.Mathlib.Omega.{arith}
 use borrow.Author.Rules.{rules}
 use lib.ListN.{drop, length-drop}
@@ -12,6 +12,6 @@ use Rattle.receiver_receive.proofs.move_on.Goals as goal
 pub returns : goal.returns
 returns c =
     let written = c.write_stage.ensures ∙ copied-over _ _ (length-take-le 3 (drop stage_at c.args.state.now) (rw length-drop (omega (arith, c.requires))) ∙ sym (stage-length _)) in record {
-      value = c.told.ensures;
+      value = refl;
       state_after = put-over stage_at 3 c.args.state.now written (stage-length _);
     }

@@ -2,7 +2,7 @@
 use Prim.Native.Nat.{ℕ}
 use mathlib.Core.Path.{◌≡◌, refl, sym, ap, subst, ◌∙◌}
 use mathlib.Core.List.{List, ◌++◌}
-use borrow.Author.Rules.{rules}
+use mathlib.Core.Logic.{inl, inr}
 use borrow.Author.Tests.{eq-eqb}
 use lib.ListN.{length, take}
 use Rattle.bits.specs.Halves.{halves_into}
@@ -20,15 +20,9 @@ use Rattle.receiver_receive.proofs.renumber.Goals as goal
 
 pub returns-in-Plain : goal.returns-in-Plain
 returns-in-Plain c =
-    let long = subst Long (sym c.in-Plain.is) plain in
+    let long : Long c.args.kind = elim c.in-Plain.is [ inl e ↦ subst Long (sym e) plain | inr e ↦ subst Long (sym e) extended ] in
     c.renew.ensures.numbers_after
     ∙ ap (λ (own : List ℕ). own ++ take packed_length c.args.numbers.now) (long_own long c.args.packet.now c.requires.1 c.renew.ensures.own_value)
-
-pub returns-in-Extended : goal.returns-in-Extended
-returns-in-Extended c =
-    let long = subst Long (sym c.in-Extended.is) extended in
-    c.renew-in-Extended.ensures.numbers_after
-    ∙ ap (λ (own : List ℕ). own ++ take packed_length c.args.numbers.now) (long_own long c.args.packet.now c.requires.1 c.renew-in-Extended.ensures.own_value)
 
 pub returns-in-Short : goal.returns-in-Short
 unfolding numbers_into reading packed

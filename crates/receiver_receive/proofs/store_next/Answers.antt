@@ -2,17 +2,12 @@
 use Prim.Native.Nat.{◌+◌, ◌-◌, ◌*◌}
 use mathlib.Core.Path.{◌≡◌, refl, sym, ◌∙◌}
 use native.Mathlib.Omega.{arith}
-use borrow.Author.Rules.{rules}
 use borrow.Rule.Slice.PartMut.{mid_len}
-use lib.ListN.{get_or, length-set}
+use lib.ListN.{get_or}
 use Rattle.slices.proofs.Front.{copied-over, put-over}
 use Rattle.packet.specs.Packets.{packet_length}
 use Rattle.receiver.specs.Bytes.{stored_at}
 use Rattle.receiver_receive.proofs.store_next.Goals as goal
-
-pub bounds-state-5-2 : goal.bounds-state-5-2
-bounds-state-5-2 c =
-    simp length-set (omega (arith, c.requires.state_len.0))
 
 pub returns : goal.returns
 returns c =

@@ -1,6 +1,5 @@
 -- `stage_bytes` meets its contract, stage by stage. Assumes nothing.
 use mathlib.Core.Path.{refl}
-use borrow.Author.Rules.{rules}
 use Rattle.receiver.specs.Bytes.{stage_bytes}
 use Rattle.receiver_stage.proofs.stage_bytes.Goals as goal
 

@@ -1,7 +1,6 @@
 -- `stage_of` meets its contract, test by test. Assumes nothing.
 use mathlib.Core.Path.{refl}
 use mathlib.Core.Bool.{and-false}
-use borrow.Author.Rules.{rules}
 use borrow.Author.Tests.{ne_eqb}
 use Rattle.receiver.specs.Bytes.{stage_of}
 use Rattle.receiver_stage.proofs.stage_of.Goals as goal

@@ -1,12 +1,13 @@
 -- `state_refusal` meets its contract, test by test. Assumes nothing.
 use Prim.Native.Nat.{ℕ}
 use mathlib.Core.Path.{◌≡◌, sym, ap, ◌∙◌}
-use mathlib.Core.Bool.{Bool, true, false, not}
-use mathlib.Core.List.{◌++◌}
+use mathlib.Core.List.{List, ◌++◌}
 use native.Mathlib.Omega.{arith}
 use borrow.Author.Rules.{rules}
 use borrow.Author.Tests.{not-false, not-true}
 use lib.ListN.{get_or}
+use Rattle.refusals.specs.Refusals.{number, answer}
+use Rattle.refusals.proofs.Refusals.{is_some_number}
 use Rattle.setting.specs.declared.Kind.{Kind}
 use Rattle.setting.specs.declared.Size.{Size}
 use Rattle.setting.specs.Refusal.{first_of}
@@ -18,7 +19,7 @@ use Rattle.receiver.specs.Table.{stage_checks}
 use Rattle.receiver.specs.Bytes.{pid_at, kind_at, stage_at, counter_at, stored_at, stage_of, receiver_of}
 use Rattle.receiver.proofs.Refused.{no_state, no_pid, no_kind, no_stage_lem, its_numbers}
 use Rattle.receiver_stage.proofs.state_refusal.Goals as goal
-use Rattle.receiver_stage.proofs.state_refusal.Goals.{After-pid_allowed, After-stage_refusal-refusal}
+use Rattle.receiver_stage.proofs.state_refusal.Goals.{After-pid_allowed}
 
 -- the PID that the state says, allowed or not
 said : (c : After-pid_allowed) → pid_allowed (word_at pid_at c.args.state.now) ≡ c.pid_allowed.result
@@ -36,21 +37,26 @@ returns-then-state-gt-LAST_KIND c =
     sym (no_kind c.args.state.now c.if-state-ne-RECEIVER_BYTES.false (said (goal.at.returns-then-state-gt-LAST_KIND c).After-pid_allowed ∙ not-false _ c.if-not-pid_allowed.false-raw) (omega (arith, c.if-state-gt-LAST_KIND.true)))
 
 -- what was asked of the stage
-staged : (c : After-stage_refusal-refusal) → let b = c.args.state.now in c.stage_refusal-refusal.result ≡ first_of (stage_checks (slots_of (kind_of (get_or b kind_at 0))) (stage_of (get_or b stage_at 0) (get_or b counter_at 0) (get_or b stored_at 0)))
-staged c =
-    let b = c.args.state.now in
-    c.stage_refusal-refusal.ensures
-    ∙ ap (λ (n : ℕ). first_of (stage_checks n (stage_of (get_or b stage_at 0) (get_or b counter_at 0) (get_or b stored_at 0))))
-    (ap (λ (z : Size). z.slots) (c.size_of-size.ensures ∙ ap size_of c.kind_of-kind.ensures))
+module _ (b : List ℕ) {z : Size} {k : Kind} (size : z ≡ size_of k) (kind : k ≡ kind_of (get_or b kind_at 0)) {n : ℕ}
+    (told : n ≡ first_of (stage_checks z.slots (stage_of (get_or b stage_at 0) (get_or b counter_at 0) (get_or b stored_at 0)))) where
+  staged : n ≡ first_of (stage_checks (slots_of (kind_of (get_or b kind_at 0))) (stage_of (get_or b stage_at 0) (get_or b counter_at 0) (get_or b stored_at 0)))
+  staged =
+      told
+      ∙ ap (λ (m : ℕ). first_of (stage_checks m (stage_of (get_or b stage_at 0) (get_or b counter_at 0) (get_or b stored_at 0))))
+      (ap (λ (x : Size). x.slots) (size ∙ ap size_of kind))
 
-pub returns-then-refusal-ne0 : goal.returns-then-refusal-ne0
-returns-then-refusal-ne0 c =
-    no_stage_lem c.args.state.now c.if-state-ne-RECEIVER_BYTES.false (said (goal.at.returns-then-refusal-ne0 c).After-pid_allowed ∙ not-false _ c.if-not-pid_allowed.false-raw) (omega (arith, c.if-state-gt-LAST_KIND.false))
-    (staged (goal.at.returns-then-refusal-ne0 c).After-stage_refusal-refusal) c.if-refusal-ne0.true
+pub returns-in_err-stage_refusal : goal.returns-in_err-stage_refusal
+returns-in_err-stage_refusal c =
+    let b = c.args.state.now in
+    let refusal = c.in_err-stage_refusal.field-0.0 in
+    let passed_up : answer c.from_residual.result ≡ number refusal = search rules in
+    passed_up
+    ∙ no_stage_lem b c.if-state-ne-RECEIVER_BYTES.false (said (goal.at.returns-in_err-stage_refusal c).After-pid_allowed ∙ not-false _ c.if-not-pid_allowed.false-raw) (omega (arith, c.if-state-gt-LAST_KIND.false))
+    (staged b c.size_of-size.ensures c.kind_of-kind.ensures c.in_err-stage_refusal.ensures) (is_some_number refusal)
 
 pub returns : goal.returns
 returns c =
     let b = c.args.state.now in
     c.numbers_refusal.ensures
     ∙ ap (λ (k : Kind). first_of (number_checks (size_of k) (receiver_of b).numbers ++ number_checks (size_of k) (receiver_of b).before)) c.kind_of-kind.ensures
-    ∙ sym (its_numbers b c.if-state-ne-RECEIVER_BYTES.false (said (goal.at.returns c).After-pid_allowed ∙ not-false _ c.if-not-pid_allowed.false-raw) (omega (arith, c.if-state-gt-LAST_KIND.false)) (sym (staged (goal.at.returns c).After-stage_refusal-refusal) ∙ c.if-refusal-ne0.false))
+    ∙ sym (its_numbers b c.if-state-ne-RECEIVER_BYTES.false (said (goal.at.returns c).After-pid_allowed ∙ not-false _ c.if-not-pid_allowed.false-raw) (omega (arith, c.if-state-gt-LAST_KIND.false)) (sym (staged b c.size_of-size.ensures c.kind_of-kind.ensures c.in_ok-stage_refusal.ensures)))

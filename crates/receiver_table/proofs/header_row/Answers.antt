@@ -1,5 +1,5 @@
 -- `header_row` meets its contract, stage by stage. Assumes nothing.
-use Rattle.std.proofs.Common.{refl, rules}
+use Rattle.std.proofs.Common.{refl}
 use Rattle.receiver.specs.Table.{row_of}
 use Rattle.receiver_table.proofs.header_row.Goals as goal
 

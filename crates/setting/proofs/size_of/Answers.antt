@@ -1,5 +1,4 @@
 -- `size_of` meets its contract. Assumes nothing.
-use borrow.Author.Rules.{rules}
 use Rattle.setting.specs.Size.{size_of}
 use Rattle.setting.proofs.size_of.Goals as goal
 

@@ -1,5 +1,6 @@
 -- `announced_refusal` meets its contract: a check a return. Assumes nothing.
 use Prim.Native.Nat.{◌^◌}
+use mathlib.Core.Bool.{Bool, cond}
 use mathlib.Core.Path.{◌≡◌, refl, sym, ap, ◌∙◌}
 use mathlib.Core.List.{List, ◌++◌}
 use borrow.Author.Rules.{rules}
@@ -146,15 +147,22 @@ returns_7 c =
     let all = sym (streams-told c.before.before) ∙ c.if-size-eq-LAST.true in
     sym (told (first₆ k) ∙ past_5 k ∙ rw all (nothing_behind (start₆ k).args.bytes.now (first₆ k).if-bytes-ne-ANNOUNCED_BYTES.false))
 
-behind_refusal_requires : tie.Need-behind_refusal-requires
-behind_refusal_requires c κs =
+has_more_streams_requires : tie.Need-has_more_streams-requires
+has_more_streams_requires c κs =
     let k = c.before.before.before in
     ((first₆ k).if-bytes-ne-ANNOUNCED_BYTES.false, rw (streams-told c.before.before) (sized (start₆ k).args.kind).streams)
 
-returns_8 : tie.Need-returns
+returns_8 : tie.Need-returns-then-has_more_streams
 returns_8 c =
-    let k = c.before.before.before.before in
-    c.behind_refusal.ensures ∙ rw (streams-told c.before.before.before) refl ∙ sym (told (first₆ k) ∙ past_5 k)
+    let k = c.before.before.before.before.before in
+    sym (ap (λ (t : Bool). cond t 17 0) c.if-has_more_streams.true)
+    ∙ c.before.has_more_streams.ensures ∙ rw (streams-told c.before.before.before.before) refl ∙ sym (told (first₆ k) ∙ past_5 k)
+
+returns_9 : tie.Need-returns
+returns_9 c =
+    let k = c.before.before.before.before.before in
+    sym (ap (λ (t : Bool). cond t 17 0) c.if-has_more_streams.false)
+    ∙ c.before.has_more_streams.ensures ∙ rw (streams-told c.before.before.before.before) refl ∙ sym (told (first₆ k) ∙ past_5 k)
 
 pub announced_refusal_spec : {M : Type 1} → statement M
 announced_refusal_spec =
@@ -178,5 +186,6 @@ announced_refusal_spec =
     returns_6
     size_of_requires
     returns_7
-    behind_refusal_requires
-    returns_8)
+    has_more_streams_requires
+    returns_8
+    returns_9)

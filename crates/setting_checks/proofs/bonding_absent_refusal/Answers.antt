@@ -1,6 +1,5 @@
 -- `bonding_absent_refusal` meets its contract. Assumes nothing.
 use mathlib.Core.Path.{sym, ◌∙◌}
-use borrow.Author.Rules.{rules}
 use Rattle.setting_checks.proofs.Absent.{zeros-answer, other_answer}
 use Rattle.setting_checks.proofs.bonding_absent_refusal.Goals as goal
 

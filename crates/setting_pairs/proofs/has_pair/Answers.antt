@@ -1,21 +1,16 @@
 -- `has_pair` meets its contract: no stream before stream j + 1 makes a pair with one before it. Assumes nothing.
-use Prim.Native.Nat.{◌-◌, ◌≤◌}
 use mathlib.Core.Path.{◌≡◌, sym, ◌∙◌}
-use mathlib.Core.Bool.{false}
 use native.Mathlib.Omega.{arith}
-use borrow.Author.Rules.{rules}
 use lib.ListN.{length}
-use Rattle.slices.specs.Slices.{any_below}
 use Rattle.slices.proofs.Any.{any_none, any_more, any_found}
 use Rattle.counters.specs.Counters.{last_stream}
 use Rattle.setting.specs.Rules.{pair_twice}
 use Rattle.setting_pairs.specs.Identifiers.{ids_apart}
 use Rattle.setting_pairs.proofs.Apart.{length_apart}
-use Rattle.setting_pairs.proofs.Pairs.{pairs}
 use Rattle.setting_pairs.proofs.has_pair.Goals as goal
 
 pub loop-j-init : goal.loop-j-init
-loop-j-init c = (omega arith, any_none _)
+loop-j-init c = any_none _
 
 pub returns-then-has_pair_before : goal.returns-then-has_pair_before
 unfolding pair_twice
@@ -25,11 +20,11 @@ returns-then-has_pair_before c =
 
 pub loop-j-preserved : goal.loop-j-preserved
 loop-j-preserved c =
-    (omega arith, any_more _ c.loop-j.j c.loop-j.invariant.1 (sym c.has_pair_before.ensures ∙ c.if-has_pair_before.false))
+    (any_more _ c.loop-j.j c.loop-j.invariant (sym c.has_pair_before.ensures ∙ c.if-has_pair_before.false))
 
 pub returns : goal.returns
 unfolding pair_twice
 returns c =
     let args = c.args in
     let all : c.loop-j.j ≡ length (ids_apart args.step last_stream args.ts.now) = omega (arith, length_apart args.step last_stream args.ts.now) in
-    sym (rw all at c.loop-j.invariant.1)
+    sym (rw all at c.loop-j.invariant)

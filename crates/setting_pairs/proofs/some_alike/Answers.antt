@@ -1,12 +1,10 @@
 -- `some_alike` meets its contract: where none before stream j + 1 was alike, none makes a pair. Assumes nothing.
-use Prim.Native.Nat.{ℕ, zero, suc, ◌+◌, ◌-◌, ◌*◌, ◌/◌, ◌%◌, ◌^◌, ◌≤◌, ◌<◌}
-use mathlib.Core.Path.{◌≡◌, refl, sym, ap, ◌∙◌}
-use mathlib.Core.Bool.{Bool, false}
+use Prim.Native.Nat.{ℕ, zero, suc, ◌+◌, ◌*◌, ◌/◌, ◌%◌, ◌^◌, ◌<◌}
+use mathlib.Core.Path.{◌≡◌, refl, sym, ◌∙◌}
+use mathlib.Core.Bool.{false}
 use mathlib.Core.List.{List}
-use mathlib.Core.Logic.{⊎_elim}
 use native.Mathlib.Nat.{mod-lt}
 use native.Mathlib.Omega.{arith}
-use borrow.Author.Rules.{rules}
 use borrow.Author.Tests.{eqb-false}
 use lib.Dec.{eqb, lit<}
 use lib.ListN.{length}
@@ -37,7 +35,7 @@ no_bit met k e =
     small (suc (suc n)) l h = absurd (omega arith)
 
 pub loop-j-init : goal.loop-j-init
-loop-j-init c = (omega arith, λ os e. seen_none _ _ os _)
+loop-j-init c = λ os e. seen_none _ _ os _
 
 pub loop-j-preserved : goal.loop-j-preserved
 loop-j-preserved c =
@@ -47,19 +45,19 @@ loop-j-preserved c =
     let seen : (os : List ℕ) → c.if-is_available.alike ≡ false → Seen args.availability ids os c.if-is_available.met (j + 1) =
     λ os.
     elim c.if-is_available.branch [
-      | then-is_available w ↦ rw (w.met-is, w.alike-is, w.id.ensures, shifted (place args.availability ids os j) (omega arith))
+      | then-is_available w ↦ rw (w.met-is, w.alike-is, w.from-k.ensures, w.id.ensures, shifted (place args.availability ids os j) (omega arith))
           (λ e.
           let apart = neither c.loop-j.alike (eqb (bit c.loop-j.met (place args.availability ids os j)) 1) e in
-          let before = c.loop-j.invariant.1 os apart.0 in
+          let before = c.loop-j.invariant os apart.0 in
           seen_more args.availability ids os before (no_mark args.availability ids os before (no_bit c.loop-j.met _ apart.1)))
       | else-is_available w ↦ rw (w.met-is, w.alike-is)
-          (λ e. seen_absent args.availability ids os (c.loop-j.invariant.1 os e) (sym c.is_available.ensures ∙ w.if-is_available.false))
+          (λ e. seen_absent args.availability ids os (c.loop-j.invariant os e) (sym c.is_available.ensures ∙ w.if-is_available.false))
     ] in
-    (omega arith, seen)
+    seen
 
 pub returns : goal.returns
 unfolding pair_twice
 returns c =
     let args = c.args in
     let all : c.loop-j.j ≡ length (ids_apart args.step last_stream args.ts.now) = omega (arith, length_apart args.step last_stream args.ts.now) in
-    λ os e. rw all at (c.loop-j.invariant.1 os e).none
+    λ os e. rw all at (c.loop-j.invariant os e).none

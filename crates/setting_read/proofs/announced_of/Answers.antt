@@ -10,7 +10,6 @@ use Rattle.setting.specs.Announcing.{announced}
 use Rattle.setting_bytes.specs.Settings.{part, ts_id_at, network_id_at, statuses_at, announced_length, announced_of}
 use Rattle.setting_bytes.proofs.Numbers.{all_read}
 use Rattle.setting_bytes.proofs.Parts.{length_part, copied-part}
-use borrow.Author.Rules.{rules}
 use Rattle.setting_read.proofs.announced_of.Goals as goal
 
 pub returns-then-bytes-ne-ANNOUNCED_BYTES : goal.returns-then-bytes-ne-ANNOUNCED_BYTES

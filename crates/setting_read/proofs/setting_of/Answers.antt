@@ -4,7 +4,6 @@ use borrow.Author.Tests.{ne_eqb}
 use lib.ListN.{length}
 use Rattle.setting_bytes.specs.Settings.{setting_length, setting_of}
 use Rattle.setting_bytes.proofs.Parts.{setting_read_lem}
-use borrow.Author.Rules.{rules}
 use Rattle.setting_read.proofs.setting_of.Goals as goal
 
 pub returns-then-bytes-ne-SETTING_BYTES : goal.returns-then-bytes-ne-SETTING_BYTES

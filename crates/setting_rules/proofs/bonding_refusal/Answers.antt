@@ -1,59 +1,43 @@
-use mathlib.Core.Path.{sym, ap, ◌∙◌}
-use mathlib.Core.Bool.{not}
-use mathlib.Core.List.{List}
-use borrow.Author.Rules.{rules}
-use Rattle.setting.specs.declared.Kind.{Kind}
-use Rattle.setting.specs.Refusal.{Check, first_of}
+use mathlib.Core.Path.{sym, ◌∙◌}
+use mathlib.Core.Logic.{inl, inr}
+use Rattle.setting.specs.Refusal.{first_of}
 use Rattle.setting.specs.Rules.{bonding_checks}
-use Rattle.setting.proofs.Refusals.{Past, answers, passed}
 use Rattle.setting_rules.proofs.bonding_refusal.Goals as goal
-use Rattle.setting_rules.proofs.bonding_refusal.Goals.{Else-not-is_within, Else-not-is_within-2, Else-not-is_within-3, Else-not-is_within-4, Start}
-
--- the rows that the function goes through
-abbrev rows : Start → List Check
-rows c =
-    bonding_checks Kind.Extended c.args.number_of_carriers c.args.carrier_sequence c.args.number_of_frames c.args.frame_position.0
-
-past_1 : (c : Else-not-is_within) → Past 1 (rows c.before.before.before)
-unfolding bonding_checks
-past_1 c = passed _ _ (ap not (sym c.is_within.ensures) ∙ c.if-not-is_within.false-raw)
-
-past_2 : (c : Else-not-is_within-2) → Past 2 (rows c.before.before.before.before.before)
-unfolding bonding_checks
-past_2 c = past_1 c.before.before ∙ passed _ _ (ap not (sym c.is_within-in-Extended.ensures) ∙ c.if-not-is_within-2.false-raw)
-
-past_3 : (c : Else-not-is_within-3) → Past 3 (rows c.before.before.before.before.before.before.before)
-unfolding bonding_checks
-past_3 c = past_2 c.before.before ∙ passed _ _ (ap not (sym c.is_within-in-Extended-2.ensures) ∙ c.if-not-is_within-3.false-raw)
-
-past_4 : (c : Else-not-is_within-4) → Past 4 (rows c.before.before.before.before.before.before.before.before.before)
-unfolding bonding_checks
-past_4 c = past_3 c.before.before ∙ passed _ _ (ap not (sym c.is_within-in-Extended-3.ensures) ∙ c.if-not-is_within-4.false-raw)
-
-pub returns-then-not-is_within : goal.returns-then-not-is_within
-unfolding bonding_checks
-returns-then-not-is_within c = rw c.in-Extended.is (sym (answers _ _ (ap not (sym c.is_within.ensures) ∙ c.if-not-is_within.true-raw)))
-
-pub returns-then-not-is_within-2 : goal.returns-then-not-is_within-2
-unfolding bonding_checks
-returns-then-not-is_within-2 c = rw c.in-Extended.is (sym (past_1 (goal.at.returns-then-not-is_within-2 c).Else-not-is_within ∙ answers _ _ (ap not (sym c.is_within-in-Extended.ensures) ∙ c.if-not-is_within-2.true-raw)))
-
-pub returns-then-not-is_within-3 : goal.returns-then-not-is_within-3
-unfolding bonding_checks
-returns-then-not-is_within-3 c = rw c.in-Extended.is (sym (past_2 (goal.at.returns-then-not-is_within-3 c).Else-not-is_within-2 ∙ answers _ _ (ap not (sym c.is_within-in-Extended-2.ensures) ∙ c.if-not-is_within-3.true-raw)))
-
-pub returns-then-not-is_within-4 : goal.returns-then-not-is_within-4
-unfolding bonding_checks
-returns-then-not-is_within-4 c = rw c.in-Extended.is (sym (past_3 (goal.at.returns-then-not-is_within-4 c).Else-not-is_within-3 ∙ answers _ _ (ap not (sym c.is_within-in-Extended-3.ensures) ∙ c.if-not-is_within-4.true-raw)))
+use Rattle.setting_rules.proofs.bonding_refusal.Goals.{else-is_within-via-then-is_within+then-is_within-2+then-is_within-3+else-is_within-4, else-is_within-via-then-is_within+then-is_within-2+else-is_within-3, else-is_within-via-then-is_within+else-is_within-2, else-is_within-via-else-is_within}
 
 pub returns-in-Plain : goal.returns-in-Plain
 unfolding bonding_checks first_of
-returns-in-Plain c = rw c.in-Plain.is
+returns-in-Plain c = elim c.in-Plain.is [ inl e ↦ rw e | inr e ↦ rw e ]
 
-pub returns-in-Short : goal.returns-in-Short
+pub returns-then-is_within-4 : goal.returns-then-is_within-4
 unfolding bonding_checks first_of
-returns-in-Short c = rw c.in-Short.is
+returns-then-is_within-4 c =
+    rw (
+      c.in-Extended.is,
+      sym c.is_within.ensures ∙ c.if-is_within.true,
+      sym c.is_within-then-is_within.ensures ∙ c.if-is_within-2.true,
+      sym c.is_within-then-is_within-2.ensures ∙ c.if-is_within-3.true,
+      sym c.is_within-then-is_within-3.ensures ∙ c.if-is_within-4.true,
+    )
 
-pub returns-else-not-is_within-4 : goal.returns-else-not-is_within-4
+pub returns-else-is_within : goal.returns-else-is_within
 unfolding bonding_checks first_of
-returns-else-not-is_within-4 c = rw c.in-Extended.is (sym (past_4 (goal.at.returns-else-not-is_within-4 c).Else-not-is_within-4))
+returns-else-is_within c =
+    rw c.in-Extended.is (elim c.else-is_within.branch [
+      | else-is_within-via-then-is_within+then-is_within-2+then-is_within-3+else-is_within-4 w ↦
+          rw (
+            sym c.is_within.ensures ∙ w.if-is_within.true,
+            sym w.is_within-then-is_within.ensures ∙ w.if-is_within-2.true,
+            sym w.is_within-then-is_within-2.ensures ∙ w.if-is_within-3.true,
+            sym w.is_within-then-is_within-3.ensures ∙ w.if-is_within-4.false,
+          )
+      | else-is_within-via-then-is_within+then-is_within-2+else-is_within-3 w ↦
+          rw (
+            sym c.is_within.ensures ∙ w.if-is_within.true,
+            sym w.is_within-then-is_within.ensures ∙ w.if-is_within-2.true,
+            sym w.is_within-then-is_within-2.ensures ∙ w.if-is_within-3.false,
+          )
+      | else-is_within-via-then-is_within+else-is_within-2 w ↦
+          rw (sym c.is_within.ensures ∙ w.if-is_within.true, sym w.is_within-then-is_within.ensures ∙ w.if-is_within-2.false)
+      | else-is_within-via-else-is_within w ↦ rw (sym c.is_within.ensures ∙ w.if-is_within.false)
+    ])

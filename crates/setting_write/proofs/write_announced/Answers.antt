@@ -3,9 +3,9 @@ use Prim.Native.Nat.{ℕ, ◌*◌}
 use mathlib.Core.Path.{◌≡◌, sym, ◌∙◌}
 use mathlib.Core.List.{List}
 use native.Mathlib.Omega.{arith}
-use borrow.Author.Tests.{eq-eqb, ne_eqb}
+use borrow.Author.Tests.{eq-eqb}
 use borrow.Rule.Slice.PartMut.{same_len_mid, mid_len}
-use lib.ListN.{length, take, drop, length-set}
+use lib.ListN.{length, take, drop}
 use Rattle.slices.proofs.Front.{put, copied-over}
 use Rattle.counters.specs.Counters.{last_stream}
 use Rattle.setting_bytes.specs.Settings.{ts_id_at, network_id_at, statuses_at, emergency_at, announced_length}
@@ -36,28 +36,6 @@ after₃ c = put network_id_at (2 * last_stream) (after₂ c.before.before.befor
 
 whole₃ : (c : After-write_words-2) → length (after₃ c) ≡ announced_length
 whole₃ c = same_len_mid network_id_at (2 * last_stream) (after₂ c.before.before.before.before.before.before) c.write_words-2.new.part c.write_words-2.auto.part ∙ whole₂ c.before.before.before.before.before.before
-
-abbrev after₄ : After-copy → List ℕ
-after₄ c = put statuses_at last_stream (after₃ c.before.before.before.before.before.before) c.copy.new.dst
-
-whole₄ : (c : After-copy) → length (after₄ c) ≡ announced_length
-whole₄ c = same_len_mid statuses_at last_stream (after₃ c.before.before.before.before.before.before) c.copy.new.dst c.copy.auto.dst ∙ whole₃ c.before.before.before.before.before.before
-
-pub returns-then-bytes-ne-ANNOUNCED_BYTES : goal.returns-then-bytes-ne-ANNOUNCED_BYTES
-returns-then-bytes-ne-ANNOUNCED_BYTES c = rw (ne_eqb (length c.args.bytes.now) announced_length c.if-bytes-ne-ANNOUNCED_BYTES.true)
-
-pub write_words-requires : goal.write_words-requires
-write_words-requires c =
-    let n = (streams (goal.at.write_words-requires c).Start).0 in
-    mid_len ts_id_at network_id_at (after₁ (goal.at.write_words-requires c).After-write_information) (omega (arith, whole₁ (goal.at.write_words-requires c).After-write_information)) ∙ omega arith
-
-pub write_words-requires-2 : goal.write_words-requires-2
-write_words-requires-2 c =
-    let n = (streams (goal.at.write_words-requires-2 c).Start).1 in
-    mid_len network_id_at statuses_at (after₂ (goal.at.write_words-requires-2 c).After-write_words) (omega (arith, whole₂ (goal.at.write_words-requires-2 c).After-write_words)) ∙ omega arith
-
-pub shape_of-bytes : goal.shape_of-bytes
-shape_of-bytes c = simp length-set (whole₄ (goal.at.shape_of-bytes c).After-copy ∙ sym c.if-bytes-ne-ANNOUNCED_BYTES.false)
 
 pub returns : goal.returns
 returns c =

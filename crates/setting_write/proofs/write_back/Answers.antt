@@ -4,7 +4,7 @@ use mathlib.Core.Path.{◌≡◌, sym, ap, ◌∙◌}
 use mathlib.Core.List.{List}
 use native.Mathlib.Omega.{arith}
 use borrow.Rule.Slice.PartMut.{same_len_mid, mid_len}
-use lib.ListN.{length, take, drop, length-set}
+use lib.ListN.{length, take, drop}
 use Rattle.slices.proofs.Front.{put, copied-over}
 use Rattle.setting.specs.Setting.{auxiliary_bytes}
 use Rattle.setting_bytes.specs.Settings.{auxiliary_at, setting_from}
@@ -29,28 +29,6 @@ auxiliary_copied c =
     c.copy.ensures
     ∙ copied-over (take auxiliary_bytes (drop 0 c.args.part.now)) c.args.s.auxiliary
     (mid_len 0 auxiliary_bytes c.args.part.now (omega (arith, c.requires)) ∙ sym (bytes c.before.before.before.before.before))
-
-pub slice_bounds-copy-end-2 : goal.slice_bounds-copy-end-2
-slice_bounds-copy-end-2 c = sym (bytes (goal.at.slice_bounds-copy-end-2 c).Start)
-
-pub bounds-part-28 : goal.bounds-part-28
-bounds-part-28 c = omega (arith, whole (goal.at.bounds-part-28 c).After-copy)
-
-pub bounds-part-29 : goal.bounds-part-29
-bounds-part-29 c = simp length-set (omega (arith, whole (goal.at.bounds-part-29 c).After-copy))
-
-pub bounds-part-30 : goal.bounds-part-30
-bounds-part-30 c = simp length-set (omega (arith, whole (goal.at.bounds-part-30 c).After-copy))
-
-pub bounds-part-31 : goal.bounds-part-31
-bounds-part-31 c = simp length-set (omega (arith, whole (goal.at.bounds-part-31 c).After-copy))
-
-pub bounds-part-32 : goal.bounds-part-32
-bounds-part-32 c = simp length-set (omega (arith, whole (goal.at.bounds-part-32 c).After-copy))
-
-pub shape_of-part : goal.shape_of-part
-shape_of-part c =
-    simp length-set (whole (goal.at.shape_of-part c).After-copy ∙ sym c.requires)
 
 pub returns : goal.returns
 returns c =

@@ -3,7 +3,7 @@ use Prim.Native.Nat.{ℕ}
 use mathlib.Core.Path.{◌≡◌, sym, ap, ◌∙◌}
 use mathlib.Core.List.{List}
 use native.Mathlib.Omega.{arith}
-use borrow.Author.Tests.{eq-eqb, ne_eqb}
+use borrow.Author.Tests.{eq-eqb}
 use borrow.Rule.Slice.PartMut.{same_len_mid, mid_len}
 use lib.ListN.{length, take, drop}
 use Rattle.slices.proofs.Front.{put, copied-over}
@@ -42,12 +42,6 @@ private_copied c =
     c.copy.ensures
     ∙ copied-over (take private_bytes (drop private_at (after₁ c.before.before.before.before.before.before))) c.args.s.private_data
     (mid_len private_at auxiliary_at (after₁ c.before.before.before.before.before.before) (omega (arith, whole₁ c.before.before.before.before.before.before)) ∙ sym (bytes c.before.before.before.before.before.before.before.before.before.before))
-
-pub returns-then-bytes-ne-SETTING_BYTES : goal.returns-then-bytes-ne-SETTING_BYTES
-returns-then-bytes-ne-SETTING_BYTES c = rw (ne_eqb (length c.args.bytes.now) setting_length c.if-bytes-ne-SETTING_BYTES.true)
-
-pub slice_bounds-copy-end-2 : goal.slice_bounds-copy-end-2
-slice_bounds-copy-end-2 c = sym (bytes (goal.at.slice_bounds-copy-end-2 c).Start)
 
 pub returns : goal.returns
 returns c =

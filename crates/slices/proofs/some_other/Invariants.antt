@@ -1,17 +1,8 @@
--- `some_other` meets its contract: one was found before i, or none is there. Assumes nothing.
-use Prim.Native.Nat.{◌-◌, ◌≤◌}
-use mathlib.Core.Path.{◌≡◌, sym, ◌∙◌}
-use mathlib.Core.Logic.{⊎_elim}
-use native.Mathlib.Omega.{arith}
-use borrow.Author.Rules.{rules}
-use lib.ListN.{length, replicate}
-use Rattle.slices.specs.Slices.{any_below, some_differ}
-use Rattle.slices.proofs.Any.{any_none}
-use Rattle.slices.proofs.Differing.{unequal, other_here, same_here}
+-- `some_other` meets its contract: after some turns `other` says whether one of the elements so far is not v. Assumes nothing.
+use Rattle.std.proofs.Common.{◌≡◌, length, replicate}
+use Rattle.slices.specs.Slices.{any_below}
+use Rattle.slices.proofs.Differing.{unequal}
 use Rattle.slices.proofs.some_other.Given as goal
 
-abbrev pub invariant-loop-i : goal.invariant-loop-i
-invariant-loop-i l = (l.i ≤ length l.xs) × (any_below l.i (unequal l.xs (replicate (length l.xs) l.v)) ≡ l.other)
-
-abbrev pub decreases-loop-i : goal.decreases-loop-i
-decreases-loop-i l = length l.xs - l.i
+abbrev pub invariant-loop-x : goal.invariant-loop-x
+invariant-loop-x l = any_below l.x-index (unequal l.xs (replicate (length l.xs) l.v)) ≡ l.other

@@ -1,7 +1,7 @@
 -- `number_of` meets its contract: the bytes before a byte are added up. Assumes nothing.
 use Prim.Native.Nat.{ℕ, ◌+◌, ◌-◌, ◌*◌, ◌%◌, ◌^◌, ◌≤◌, ◌<◌}
 use mathlib.Core.Path.{◌≡◌, ap, subst, ◌∙◌}
-use native.Mathlib.Nat.{zero-add, mul-le-mul_right}
+use native.Mathlib.Nat.{mul-le-mul_right}
 use native.Mathlib.Omega.{arith}
 use borrow.Author.Rules.{rules}
 use lib.ListN.{length, take, drop, drop_of_length-le}
@@ -10,9 +10,6 @@ use Rattle.slot_bits.specs.Bits.{total, in_bytes}
 use Rattle.slot_bits.proofs.Bytes.{byte_first}
 use Rattle.slot_bits.proofs.number_of.Goals as goal
 use Rattle.slot_bits.proofs.number_of.Goals.{After-byte_of}
-
-pub loop-byte-init : goal.loop-byte-init
-loop-byte-init c = (omega arith, omega arith, zero-add _)
 
 -- a byte in its place, which is within the number
 module _ (c : After-byte_of) where
@@ -28,7 +25,7 @@ module _ (c : After-byte_of) where
   within : c.loop-byte.number + c.byte_of.result * 2 ^ at + 8 ≤ 8 * 2 ^ (8 * (c.loop-byte.byte + 1))
   within =
       let most = mul-le-mul_right (2 ^ at) c.byte_of.ensures.upper_bound in
-      omega (arith, next, c.loop-byte.invariant.1)
+      omega (arith, next, c.loop-byte.invariant.0)
 
   narrow : c.loop-byte.number + c.byte_of.result * 2 ^ at < 2 ^ 64
   narrow =
@@ -45,7 +42,7 @@ loop-byte-preserved c =
     let eight : at (goal.at.loop-byte-preserved c).After-byte_of + 8 - at (goal.at.loop-byte-preserved c).After-byte_of ≡ 8 = omega arith in
     let byte = c.byte_of.ensures.value ∙ ap (λ (n : ℕ). total (take n (drop (at (goal.at.loop-byte-preserved c).After-byte_of) bits))) eight in
     let placed = ap (λ (n : ℕ). n * 2 ^ at (goal.at.loop-byte-preserved c).After-byte_of) byte in
-    (omega arith, omega (arith, shifted (goal.at.loop-byte-preserved c).After-byte_of, within (goal.at.loop-byte-preserved c).After-byte_of), omega (arith, shifted (goal.at.loop-byte-preserved c).After-byte_of, c.loop-byte.invariant.2, byte_first bits c.loop-byte.byte, placed))
+    (omega (arith, shifted (goal.at.loop-byte-preserved c).After-byte_of, within (goal.at.loop-byte-preserved c).After-byte_of), omega (arith, shifted (goal.at.loop-byte-preserved c).After-byte_of, c.loop-byte.invariant.1, byte_first bits c.loop-byte.byte, placed))
 
 pub returns : goal.returns
 unfolding in_bytes
@@ -56,7 +53,7 @@ returns c =
     let long : length bits ≡ 56 = search rules in
     let none : in_bytes (8 * c.loop-byte.byte) (drop (8 * c.loop-byte.byte) bits) ≡ 0 =
     ap (λ (k : ℕ). in_bytes k (drop k bits)) all ∙ ap (in_bytes 56) (drop_of_length-le bits {i = 56} (omega arith)) in
-    let most : number + 8 ≤ 8 * 2 ^ 56 = subst (λ (k : ℕ). number + 8 ≤ 8 * 2 ^ k) all c.loop-byte.invariant.1 in record {
-      value = omega (arith, none, c.loop-byte.invariant.2);
+    let most : number + 8 ≤ 8 * 2 ^ 56 = subst (λ (k : ℕ). number + 8 ≤ 8 * 2 ^ k) all c.loop-byte.invariant.0 in record {
+      value = omega (arith, none, c.loop-byte.invariant.1);
       upper_bound = omega arith;
     }

@@ -7,7 +7,6 @@ use lib.Seq.{length-take-le}
 use Rattle.slices.proofs.Front.{put-over}
 use Rattle.packet.specs.Packets.{packet_length}
 use Rattle.bond.proofs.Moves.{copied-part}
-use borrow.Author.Rules.{rules}
 use Rattle.bond.proofs.moving.move_packet.Goals as goal
 
 pub returns : goal.returns

@@ -1,7 +1,12 @@
 -- `bonded_by` meets its contract: the marks are those of the header, of which it has up to 53. Assumes nothing.
 use Prim.Native.Nat.{ℕ, zero, suc, ◌≤◌}
-use mathlib.Core.Path.{◌≡◌, refl, sym, ap, ap₂, ◌∙◌}
+use mathlib.Core.Path.{◌≡◌, refl, sym, ap, ◌∙◌}
 use mathlib.Core.Bool.{true, false, not, true≢false}
+use Rattle.std.specs.Prelude.{Result, Ok, Err, Option, Some, None, is_some, is_none, unwrap_or}
+use Rattle.std.specs.Result.{result_ok}
+use Rattle.refusals.specs.declared.Refusal.{Refusal}
+use Rattle.refusals.proofs.Refusals.{is_some_number}
+use Rattle.counters.specs.declared.RelativeNumber.{RelativeNumber}
 use mathlib.Core.List.{List}
 use native.Mathlib.Omega.{arith}
 use borrow.Author.Tests.{eq-eqb, ne_eqb}
@@ -9,12 +14,9 @@ use lib.Count.{ones}
 use lib.Dec.{eqb}
 use lib.ListN.{length, take, drop}
 use lib.Seq.{drop-drop}
-use Rattle.counters.specs.Counters.{first_slot, last_slot, first_stream, last_stream, within}
-use Rattle.counters.proofs.Within.{between}
-use Rattle.counters.proofs.Numbers.{relative_inside, relative_outside}
-use Rattle.slot_bits.specs.Bits.{as_bits, slots_as_bits}
+use Rattle.counters.specs.Counters.{first_stream, last_stream, within, checked, answered}
+use Rattle.counters.proofs.Within.{between, checked_in, checked_out}
 use Rattle.setting.specs.declared.Kind.{Kind}
-use Rattle.setting.specs.declared.Setting.{Setting}
 use Rattle.setting.specs.Size.{size_of}
 use Rattle.setting.proofs.Sizes.{resized_same}
 use Rattle.setting_pairs.specs.Identifiers.{ids_apart}
@@ -23,22 +25,16 @@ use Rattle.bits.specs.Fields.{Fit}
 use Rattle.bits.proofs.Laws.{fit_of}
 use Rattle.slices.proofs.Front.{drop-take}
 use Rattle.header_layout.specs.Header.{header_length, reading}
-use Rattle.header_check.specs.declared.Checked.{Checked}
+use Rattle.header_check.specs.OnPaper.{Checked}
 use Rattle.header_check.specs.Checking.{parts_of, numbers_into}
 use Rattle.header_check.proofs.Identifiers.{ts_ids_in, network_ids_in}
 use Rattle.bond_places.specs.Order.{frame_packets}
-use Rattle.bond_group.specs.declared.Bond.{Bond}
-use Rattle.bond_group.specs.Group.{number_of, carries, has_number, bonded_slot}
-use Rattle.bond_group.specs.Plan.{passing, marks}
+use Rattle.bond_group.specs.Group.{number_of, carries}
+use Rattle.bond_group.proofs.Uncarried.{marked, no_marks, no_ones}
 use Rattle.bond_group.proofs.Marks.{picked_few, marks_ones}
 use borrow.Author.Rules.{rules}
 use Rattle.bond_group.proofs.headers.bonded_by.Goals as goal
 use Rattle.bond_group.proofs.headers.bonded_by.Goals.{After-number_of-number}
-
--- the numbers and the stream's are those of the setting that the packet says
-marked : (b : Bond) (s : Setting) {ns : List ℕ} {n : ℕ} → ns ≡ s.relative_ts_number → n ≡ number_of b s → slots_as_bits (passing (has_number ns n) first_slot last_slot) ≡ marks b s
-unfolding marks bonded_slot
-marked b s same number = ap₂ (λ (ns : List ℕ) (n : ℕ). slots_as_bits (passing (has_number ns n) first_slot last_slot)) same number
 
 -- the identifiers stand where an extended header has them
 module _ (p : List ℕ) (f : Fit 8 p) (h : length p ≡ header_length) where
@@ -61,18 +57,9 @@ unfolding parts_of
 numbered c =
     let p = c.args.packet.now in
     let bytes = fit_of 8 p (λ i. (c.type_inv.packet i).fits) in
-    c.number_of-number.ensures.value (reading Kind.Extended p) (sym (ap (λ (x : Checked). x.availability) c.requires.heard_value))
+    c.number_of-number.ensures.value (reading Kind.Extended p) (sym (ap (λ (x : Checked). x.availability) c.requires.said_value))
     (sym (ts_ids_of p bytes c.requires.packet_len))
     (sym (network_ids_of p bytes c.requires.packet_len))
-
--- no slot has the number 0
-no_marks : (ns : List ℕ) → slots_as_bits (passing (has_number ns 0) first_slot last_slot) ≡ 0
-unfolding slots_as_bits as_bits passing
-no_marks ns = refl
-
-no_ones : ones 0 ≡ 0
-unfolding ones
-no_ones = refl
 
 -- of the numbers up to the last stream's only 0 is refused
 none : (n : ℕ) → n ≤ last_stream → within first_stream last_stream n ≡ false → n ≡ 0
@@ -83,18 +70,30 @@ some : (n : ℕ) → within first_stream last_stream n ≡ true → not (eqb n 0
 some zero e = absurd (true≢false (sym e))
 some (suc n) e = ap not (ne_eqb (suc n) 0 (λ z. omega arith))
 
-pub returns-in_default : goal.returns-in_default
+-- what is left of a checked number's refusal, and of its value
+no_number : (r : Result RelativeNumber Refusal) (n : ℕ) → None ≡ result_ok r → answered (λ (v : RelativeNumber). v.0) r ≡ checked first_stream last_stream n → within first_stream last_stream n ≡ false
+no_number (Ok v) n e told = absurd (true≢false (ap is_none e))
+no_number (Err refusal) n e told = (checked_out first_stream last_stream n told (is_some_number refusal)).0
+
+a_number : (r : Result RelativeNumber Refusal) (n : ℕ) (v : RelativeNumber) → Some v ≡ result_ok r → answered (λ (v : RelativeNumber). v.0) r ≡ checked first_stream last_stream n → (within first_stream last_stream n ≡ true) × (v.0 ≡ n)
+a_number (Ok w) n v e told =
+    let same : v.0 ≡ w.0 = ap (λ (o : Option RelativeNumber). (unwrap_or o w).0) e in
+    let inside = checked_in first_stream last_stream n told in
+    (inside.0, same ∙ inside.1)
+a_number (Err refusal) n v e told = absurd (true≢false (ap is_some e))
+
+pub returns-in_err-r : goal.returns-in_err-r
 unfolding carries
-returns-in_default c =
+returns-in_err-r c =
     let s = reading Kind.Extended c.args.packet.now in
-    let outside = relative_outside first_stream last_stream _ (sym c.in_default.is ∙ c.new.ensures) in
+    let outside = no_number c.new.result c.number_of-number.result c.in_err-r.ensures.value c.new.ensures in
+    let zero_is = sym (none _ c.number_of-number.ensures.upper_bound outside) ∙ numbered (goal.at.returns-in_err-r c).After-number_of-number in
+    let nothing : c.from_residual.result ≡ None = search rules in
     let few : ones 0 ≤ frame_packets = omega (arith, no_ones) in
-    let zero_is = sym (none _ c.number_of-number.ensures.upper_bound outside.0) ∙ numbered (goal.at.returns-in_default c).After-number_of-number in record {
-      is_carried_value = (
-        ap (λ (n : ℕ). not (eqb n 0)) zero_is,
-        sym (no_marks s.relative_ts_number) ∙ marked c.args.b s refl zero_is,
-      );
-      marks_bound = few;
+    record {
+      is_carried = ap is_some nothing ∙ ap (λ (n : ℕ). not (eqb n 0)) zero_is;
+      marks = ap (λ (o : Option ℕ). unwrap_or o 0) nothing ∙ sym (no_marks s.relative_ts_number) ∙ marked c.args.b s refl zero_is;
+      marks_bound = rw nothing few;
     }
 
 pub returns : goal.returns
@@ -102,10 +101,9 @@ unfolding carries numbers_into
 returns c =
     let p = c.args.packet.now in
     let numbers : c.read_numbers.new.numbers ≡ (reading Kind.Extended p).relative_ts_number = rw (eq-eqb (length p) header_length c.requires.packet_len) at c.read_numbers.ensures in
-    let inside = relative_inside first_stream last_stream _ (sym c.in-Is.is ∙ c.new.ensures) in record {
-      is_carried_value = (
-        sym (some c.number_of-number.result inside.0) ∙ ap (λ (n : ℕ). not (eqb n 0)) (numbered (goal.at.returns c).After-number_of-number),
-        c.marks_of-marks.ensures ∙ marked c.args.b (reading Kind.Extended p) numbers (inside.1 ∙ numbered (goal.at.returns c).After-number_of-number),
-      );
-      marks_bound = rw (c.marks_of-marks.ensures, marks_ones _ refl) (picked_few _ 0 frame_packets);
+    let inside = a_number c.new.result c.number_of-number.result c.in_ok-r.r c.in_ok-r.ensures.value c.new.ensures in
+    record {
+      is_carried = sym (some c.number_of-number.result inside.0) ∙ ap (λ (n : ℕ). not (eqb n 0)) (numbered (goal.at.returns c).After-number_of-number);
+      marks = c.marks_of.ensures ∙ marked c.args.b (reading Kind.Extended p) numbers (inside.1 ∙ numbered (goal.at.returns c).After-number_of-number);
+      marks_bound = rw (c.marks_of.ensures, marks_ones _ refl) (picked_few _ 0 frame_packets);
     }

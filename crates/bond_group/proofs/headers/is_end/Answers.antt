@@ -1,6 +1,5 @@
 -- `is_end` meets its contract, by whether the frame is the last of its super frame. Assumes nothing.
 use mathlib.Core.Path.{sym, ◌∙◌}
-use borrow.Author.Rules.{rules}
 use borrow.Author.Tests.{not-true, not-false}
 use Rattle.bond_group.specs.Standing.{is_end}
 use Rattle.bond_group.proofs.headers.is_end.Goals as goal

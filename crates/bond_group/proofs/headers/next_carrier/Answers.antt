@@ -1,6 +1,5 @@
 -- `next_carrier` meets its contract, by whether the frame is the last of its super frame. Assumes nothing.
 use mathlib.Core.Path.{sym, ◌∙◌}
-use borrow.Author.Rules.{rules}
 use Rattle.bond_group.specs.Standing.{next_carrier}
 use Rattle.bond_group.proofs.headers.next_carrier.Goals as goal
 

@@ -1,6 +1,5 @@
 -- `next_position` meets its contract, by whether the frame is the last of its super frame. Assumes nothing.
 use mathlib.Core.Path.{sym, ◌∙◌}
-use borrow.Author.Rules.{rules}
 use Rattle.bond_group.specs.Standing.{next_position}
 use Rattle.bond_group.proofs.headers.next_position.Goals as goal
 

@@ -1,12 +1,10 @@
 -- `number_of` meets its contract: after k turns the number is that among 1 to k. Assumes nothing.
-use Prim.Native.Nat.{ℕ, ◌+◌, ◌-◌, ◌≤◌}
+use Prim.Native.Nat.{ℕ, ◌+◌, ◌-◌}
 use mathlib.Core.Path.{◌≡◌, refl, sym, ap, ◌∙◌}
 use mathlib.Core.List.{List}
-use mathlib.Core.Logic.{⊎_elim}
 use mathlib.Core.Bool.{Bool, cond, ◌&&◌, and_comm, and_assoc}
 use native.Mathlib.Numerals.{add-one}
 use native.Mathlib.Omega.{arith}
-use borrow.Author.Rules.{rules}
 use borrow.Author.Tests.{eq-eqb, ne_eqb}
 use lib.Dec.{eqb}
 use lib.ListN.{get_or}
@@ -37,16 +35,15 @@ module _ (b : Bond) (s : Setting) (k : ℕ) where
 
 pub loop-k-init : goal.loop-k-init
 unfolding number_up_to
-loop-k-init c = (omega arith, λ s e f g. refl, omega arith)
+loop-k-init c = (λ s e f g. refl, omega arith)
 
 pub loop-k-preserved : goal.loop-k-preserved
 loop-k-preserved c =
     let a = c.args in
     let k = c.loop-k.k in
-    let held = c.loop-k.invariant.1 in
+    let held = c.loop-k.invariant.0 in
     let ts : c.word-ts_id.result ≡ get_or (ids_apart 4 last_stream a.ts.now) k 0 = c.word-ts_id.ensures ∙ sym (apart_at 4 last_stream k a.ts.now (omega arith)) in
     let os : c.word-network_id.result ≡ get_or (ids_apart 4 last_stream a.os.now) k 0 = c.word-network_id.ensures ∙ sym (apart_at 4 last_stream k a.os.now (omega arith)) in (
-      omega arith,
       λ s e f g.
           elim c.if-ts_id-b.branch [
             | then-ts_id-b+then-network_id-b+then-is_available w ↦ w.number-is ∙ sym (turn a.b s k e f g (eq-eqb _ _ (sym ts ∙ w.if-ts_id-b.true)) (eq-eqb _ _ (sym os ∙ w.if-network_id-b.true)) (sym w.is_available.ensures ∙ w.if-is_available.true))
@@ -66,6 +63,6 @@ pub returns : goal.returns
 unfolding number_of
 returns c =
     let all : c.loop-k.k ≡ last_stream = omega arith in record {
-      value = λ s e f g. c.loop-k.invariant.1 s e f g ∙ ap (number_up_to c.args.b s) all;
-      upper_bound = c.loop-k.invariant.2;
+      value = λ s e f g. c.loop-k.invariant.0 s e f g ∙ ap (number_up_to c.args.b s) all;
+      upper_bound = c.loop-k.invariant.1;
     }

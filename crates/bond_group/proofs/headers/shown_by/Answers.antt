@@ -1,7 +1,8 @@
 -- `shown_by` meets its contract: it is the record of the definition. Assumes nothing.
 use mathlib.Core.Path.{◌≡◌}
 use Rattle.setting.specs.declared.Setting.{Setting}
-use Rattle.header_check.specs.declared.Checked.{Checked}
+use Rattle.std.specs.Prelude.{Ok}
+use Rattle.header_check.specs.OnPaper.{Checked, on_paper}
 use Rattle.header_check.specs.Checking.{bare, parts_of}
 use Rattle.bond_group.specs.Standing.{shown_by}
 use Rattle.bond_group.proofs.headers.shown_by.Goals as goal
@@ -18,4 +19,4 @@ unfolding shown_by parts_of
 shown h s e = rw e
 
 pub returns : goal.returns
-returns c = λ s e. shown _ s e
+returns c = λ s e. shown (on_paper (Ok c.args.said)) s e

@@ -2,10 +2,8 @@
 use Prim.Native.Nat.{ℕ}
 use mathlib.Core.Path.{◌≡◌, ap, ◌∙◌}
 use mathlib.Core.List.{List}
-use native.Mathlib.Omega.{arith}
 use borrow.Author.Rules.{rules}
-use lib.ListN.{length, replicate, set}
-use lib.Seq.{lt-length-set}
+use lib.ListN.{replicate, set}
 use Rattle.packet.specs.Packets.{packet_length, null_packet}
 use Rattle.composer_begin.proofs.slots.write_null.Goals as goal
 
@@ -17,11 +15,6 @@ null_stored : (l : List ℕ) (n : ℕ) → l ≡ replicate n 0xFF → n ≡ pack
 unfolding null_packet
 null_stored l n e h = ap stored (e ∙ ap (λ (k : ℕ). replicate k 0xFF) h)
 
-pub bounds-slot-3 : goal.bounds-slot-3
-bounds-slot-3 c =
-    let whole : length c.fill.new.dst ≡ packet_length = c.fill.auto.dst ∙ c.requires in
-    lt-length-set {A = ℕ} (set c.fill.new.dst 0 0x47) 1 0x1F (lt-length-set {A = ℕ} c.fill.new.dst 0 0x47 (omega arith))
-
 pub returns : goal.returns
 returns c =
-    null_stored _ _ c.fill.ensures c.requires
+    null_stored _ _ (search rules) c.requires

@@ -1,12 +1,7 @@
 -- `say` meets its contract: counter and version, then the slots' numbers. Assumes nothing.
-use mathlib.Core.Path.{refl, ◌∙◌}
-use borrow.Author.Rules.{rules}
-use lib.ListN.{length-set}
+use mathlib.Core.Path.{◌∙◌}
 use Rattle.composer_close.proofs.Saying.{all_said}
 use Rattle.composer_close.proofs.header.say.Goals as goal
-
-pub shape_of-opened : goal.shape_of-opened
-shape_of-opened c = c.number.auto.opened ∙ simp length-set refl
 
 pub returns : goal.returns
 returns c =

@@ -1,16 +1,11 @@
-use borrow.Author.Rules.{rules}
-use Rattle.counters.specs.Counters.{first_stream, last_stream, available}
-use Rattle.counters.proofs.Within.{under, past, between}
+use mathlib.Core.Path.{sym, ◌∙◌}
+use Rattle.counters.specs.Counters.{available}
 use Rattle.counters.proofs.RelativeNumber.is_available.Goals as goal
 
-pub returns-then-n-lt-FIRST : goal.returns-then-n-lt-FIRST
+pub returns-then-is_within : goal.returns-then-is_within
 unfolding available
-returns-then-n-lt-FIRST c = rw (under first_stream last_stream _ c.if-n-lt-FIRST.true)
+returns-then-is_within c = rw (c.from.ensures, sym c.is_within.ensures ∙ c.if-is_within.true)
 
-pub returns-then-n-gt-LAST : goal.returns-then-n-gt-LAST
+pub returns-else-is_within : goal.returns-else-is_within
 unfolding available
-returns-then-n-gt-LAST c = rw (past first_stream last_stream _ c.if-n-lt-FIRST.false c.if-n-gt-LAST.true)
-
-pub returns : goal.returns
-unfolding available
-returns c = rw (between first_stream last_stream _ c.if-n-lt-FIRST.false c.if-n-gt-LAST.false)
+returns-else-is_within c = rw (c.if-is_within.false, sym c.is_within.ensures ∙ c.if-is_within.false)

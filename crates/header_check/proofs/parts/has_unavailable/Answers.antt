@@ -1,6 +1,7 @@
 -- `has_unavailable` meets its contract, by the kind. Assumes nothing.
 use mathlib.Core.Path.{sym, ap, ◌∙◌}
-use borrow.Author.Rules.{rules}
+use native.Mathlib.Omega.{arith}
+use Rattle.std.proofs.Common.{inl, inr}
 use Rattle.bits.proofs.Laws.{fit_of}
 use Rattle.setting.specs.declared.Kind.{Kind}
 use Rattle.setting.specs.Rules.{some_unavailable}
@@ -11,19 +12,10 @@ use Rattle.header_check.proofs.parts.has_unavailable.Goals as goal
 pub returns-in-Plain : goal.returns-in-Plain
 returns-in-Plain c =
     let p = c.args.packet.now in
-    let bytes = fit_of 8 p (λ i. (c.shared_slice_known-1.given i).fits) in
-    c.has_unavailable_half.ensures ∙ ap (some_unavailable c.args.availability) (long_numbers p c.requires ∙ plain_numbers p bytes c.requires)
-    ∙ sym (ap (λ (k : Kind). some_unavailable c.args.availability (reading k p).relative_ts_number) c.in-Plain.is)
-
-pub returns-in-Extended : goal.returns-in-Extended
-returns-in-Extended c =
-    let p = c.args.packet.now in
-    let bytes = fit_of 8 p (λ i. (c.shared_slice_known-1.given i).fits) in
-    c.has_unavailable_half-in-Extended.ensures ∙ ap (some_unavailable c.args.availability) (long_numbers p c.requires ∙ extended_numbers p bytes c.requires)
-    ∙ sym (ap (λ (k : Kind). some_unavailable c.args.availability (reading k p).relative_ts_number) c.in-Extended.is)
-
-pub returns-in-Short : goal.returns-in-Short
-returns-in-Short c =
-    let p = c.args.packet.now in
-    c.has_unavailable.ensures ∙ ap (some_unavailable c.args.availability) c.read_numbers.ensures
-    ∙ sym (ap (λ (k : Kind). some_unavailable c.args.availability (reading k p).relative_ts_number) c.in-Short.is)
+    let bytes = fit_of 8 p (λ i. let fits = c.type_inv.packet i in omega (arith, fits)) in
+    let read = long_numbers p c.requires in
+    c.has_unavailable_half.ensures
+    ∙ elim c.in-Plain.is [
+      | inl e ↦ ap (some_unavailable c.args.availability) (read ∙ plain_numbers p bytes c.requires ∙ sym (ap (λ (k : Kind). (reading k p).relative_ts_number) e))
+      | inr e ↦ ap (some_unavailable c.args.availability) (read ∙ extended_numbers p bytes c.requires ∙ sym (ap (λ (k : Kind). (reading k p).relative_ts_number) e))
+    ]

@@ -1,5 +1,5 @@
 -- `packet_refusal` meets its contract, check by check. Assumes nothing.
-use mathlib.Core.Path.{sym, ap, ◌∙◌}
+use mathlib.Core.Path.{refl, sym, ap, ◌∙◌}
 use mathlib.Core.List.{List, []}
 use Prim.Native.Nat.{ℕ, ◌%◌}
 use native.Mathlib.Omega.{arith}
@@ -12,7 +12,8 @@ use Rattle.header_layout.specs.Layout.{sync_byte, tsmf_sync, Field}
 use Rattle.header_layout.specs.Header.{start_value, packet_checks}
 use Rattle.header_layout.proofs.Packet.{differs, agrees, first_differs, second_differs, both_agree, sync_byte_lem, zeros, header-pid, one, tsmf_sync_lem}
 use Rattle.header_check.specs.Checking.{refusal_by}
-use Rattle.header_check.proofs.Asked.{refused_bare}
+use Rattle.header_check.proofs.Asked.{refused_bare, refused_from}
+use Rattle.refusals.specs.declared.Refusal.{Refusal}
 use Rattle.header_check.proofs.parts.packet_refusal.Statement.{statement}
 use Rattle.header_check.proofs.parts.packet_refusal.Tie as tie
 
@@ -70,27 +71,27 @@ past₄ c =
 shared_slice_read_if1 : tie.Need-bounds-packet-0
 shared_slice_read_if1 c = omega arith
 
-bare_requires : tie.Need-bare-requires
-bare_requires c κs = omega arith
+from_requires : tie.Need-from-requires
+from_requires c κs = omega arith
 
 returns : tie.Need-returns-then-packet-ne71
 unfolding packet_checks
 returns c =
     let k = c.before.before.before in
-    refused_bare 3 (packet k) c.bare.ensures (omega arith)
+    refused_from Refusal.SyncByte (packet k) c.from.ensures (omega arith)
     (sym (answers 3 _ (differs sync_byte (sync_byte_lem (packet k) (bytes k) k.before.requires) c.before.if-packet-ne71.true)))
 
 word_at_requires : tie.Need-word_at-requires
 word_at_requires c κs = omega arith
 
-bare_requires_2 : tie.Need-bare-requires-then-word_at-pid
-bare_requires_2 c κs = omega arith
+from_requires_2 : tie.Need-from-requires-then-word_at-pid
+from_requires_2 c κs = omega arith
 
 returns_2 : tie.Need-returns-then-word_at-pid
 unfolding packet_checks
 returns_2 c =
     let k = known₁ c.before.before.before in
-    refused_bare 4 (packet k) c.bare-then-word_at-pid.ensures (omega arith)
+    refused_from Refusal.OtherPid (packet k) c.from-then-word_at-pid.ensures (omega arith)
     (sym
     (past₁ c.before.before.before
     ∙ answers 4 _ (differs k.before.args.pid (header-pid (packet k) (bytes k) k.before.requires ∙ ap (λ (n : ℕ). n % 8192) (sym c.before.before.word_at.ensures)) c.before.if-word_at-pid.true)))
@@ -98,40 +99,40 @@ returns_2 c =
 shared_slice_read_if3 : tie.Need-bounds-packet-1
 shared_slice_read_if3 c = omega arith
 
-bare_requires_3 : tie.Need-bare-requires-then-packet-ne0
-bare_requires_3 c κs = omega arith
+from_requires_3 : tie.Need-from-requires-then-packet-ne0
+from_requires_3 c κs = omega arith
 
 returns_3 : tie.Need-returns-then-packet-ne0
 unfolding packet_checks
 returns_3 c =
     let k = known₂ c.before.before.before in
-    refused_bare 5 (packet k) c.bare-then-packet-ne0.ensures (omega arith)
+    refused_from Refusal.FixedBits (packet k) c.from-then-packet-ne0.ensures (omega arith)
     (sym (past₂ c.before.before.before ∙ answers 5 _ (first_differs 0 _ (zeros (packet k) (bytes k) k.before.requires) c.before.if-packet-ne0.true)))
 
 shared_slice_read_if4 : tie.Need-bounds-packet-3
 shared_slice_read_if4 c = omega arith
 
-bare_requires_4 : tie.Need-bare-requires-then-packet-ne1
-bare_requires_4 c κs = omega arith
+from_requires_4 : tie.Need-from-requires-then-packet-ne1
+from_requires_4 c κs = omega arith
 
 returns_4 : tie.Need-returns-then-packet-ne1
 unfolding packet_checks
 returns_4 c =
     let k = known₃ c.before.before.before in
-    refused_bare 5 (packet k) c.bare-then-packet-ne1.ensures (omega arith)
+    refused_from Refusal.FixedBits (packet k) c.from-then-packet-ne1.ensures (omega arith)
     (sym (past₂ c.before.before.before.before.before ∙ answers 5 _ (second_differs 1 (eqb (start_value (packet k) Field.zeros) 0) (one (packet k) (bytes k) k.before.requires) c.before.if-packet-ne1.true)))
 
 word_at_requires_2 : tie.Need-word_at-requires-2
 word_at_requires_2 c κs = omega arith
 
-bare_requires_5 : tie.Need-bare-requires-then-word_at-ne6790
-bare_requires_5 c κs = omega arith
+from_requires_5 : tie.Need-from-requires-then-word_at-ne6790
+from_requires_5 c κs = omega arith
 
 returns_5 : tie.Need-returns-then-word_at-ne6790
 unfolding packet_checks
 returns_5 c =
     let k = known₄ c.before.before.before in
-    refused_bare 6 (packet k) c.bare-then-word_at-ne6790.ensures (omega arith)
+    refused_from Refusal.SyncBits (packet k) c.from-then-word_at-ne6790.ensures (omega arith)
     (sym (past₃ c.before.before.before ∙ answers 6 _ (differs tsmf_sync (tsmf_sync_lem (packet k) (bytes k) k.before.requires ∙ ap (λ (n : ℕ). n % 8192) (sym c.before.before.word_at-2.ensures)) c.before.if-word_at-ne6790.true)))
 
 remainder_of_requires : tie.Need-remainder_of-remainder-requires
@@ -145,36 +146,32 @@ returns_6 c =
     (λ i. record { number = 7; remainder = shown i })
     ∙ ap (λ (n : ℕ). refusal_by n (packet k)) (sym (past₄ c.before.before ∙ answers 7 _ (differs 0 (sym shown) c.if-remainder-ne0.true)))
 
-bare_requires_6 : tie.Need-bare-requires-2
-bare_requires_6 c κs = omega arith
-
 returns_7 : tie.Need-returns
 unfolding packet_checks first_of
 returns_7 c =
-    let after = c.before.before in
-    refused_bare 0 (packet (known₅ after.before)) c.bare-2.ensures (omega arith)
-    (sym (past₄ after.before ∙ passed 7 [] (agrees 0 (sym after.remainder_of-remainder.ensures) c.before.if-remainder-ne0.false)))
+    let after = c.before in
+    refused_bare 0 (packet (known₅ after.before)) refl (omega arith)
+    (sym (past₄ after.before ∙ passed 7 [] (agrees 0 (sym after.remainder_of-remainder.ensures) c.if-remainder-ne0.false)))
 
 pub packet_refusal_spec : {M : Type 1} → statement M
 packet_refusal_spec =
     tie.close
     (tie.spec
     shared_slice_read_if1
-    bare_requires
+    from_requires
     returns
     word_at_requires
-    bare_requires_2
+    from_requires_2
     returns_2
     shared_slice_read_if3
-    bare_requires_3
+    from_requires_3
     returns_3
     shared_slice_read_if4
-    bare_requires_4
+    from_requires_4
     returns_4
     word_at_requires_2
-    bare_requires_5
+    from_requires_5
     returns_5
     remainder_of_requires
     returns_6
-    bare_requires_6
     returns_7)

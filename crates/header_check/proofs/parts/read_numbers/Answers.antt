@@ -3,7 +3,6 @@ use Prim.Native.Nat.{ℕ}
 use mathlib.Core.Path.{◌≡◌, sym, ap, ◌∙◌}
 use mathlib.Core.List.{List}
 use native.Mathlib.Omega.{arith}
-use borrow.Author.Rules.{rules}
 use lib.ListN.{length, take, drop}
 use Rattle.bits.specs.Fields.{run, cut}
 use Rattle.bits.proofs.Laws.{fit_of}
@@ -13,31 +12,10 @@ use Rattle.header_layout.specs.Header.{reading}
 use Rattle.header_check.proofs.Asked.{short_numbers}
 use Rattle.header_check.proofs.parts.read_numbers.Goals as goal
 
-pub read_long-requires : goal.read_long-requires
-read_long-requires c =
-    (ap length c.requires.0, c.requires.1)
-
-pub read_long-requires-in-Extended : goal.read_long-requires-in-Extended
-read_long-requires-in-Extended c =
-    (ap length c.requires.0, c.requires.1)
-
-pub slice_bounds-read_run-end : goal.slice_bounds-read_run-end
-slice_bounds-read_run-end c = let e = ap length c.requires.0 in omega arith
-
-pub returns-in-Plain : goal.returns-in-Plain
-returns-in-Plain c =
-    let p = c.args.packet.now in
-    c.read_long.ensures.numbers_after ∙ sym (ap (λ (k : Kind). (reading k p).relative_ts_number) c.in-Plain.is)
-
-pub returns-in-Extended : goal.returns-in-Extended
-returns-in-Extended c =
-    let p = c.args.packet.now in
-    c.read_long-in-Extended.ensures.numbers_after_2 ∙ sym (ap (λ (k : Kind). (reading k p).relative_ts_number) c.in-Extended.is)
-
 pub returns-in-Short : goal.returns-in-Short
 returns-in-Short c =
     let p = c.args.packet.now in
-    let bytes = fit_of 8 p (λ i. (c.shared_slice_known-1.given i).fits) in
+    let bytes = fit_of 8 p (λ i. let fits = c.type_inv.packet i in omega (arith, fits)) in
     let forty : length (take 40 c.args.numbers.now) ≡ 40 = ap (λ (l : List ℕ). length (take 40 l)) c.requires.0 in
     ap (put 0 40 c.args.numbers.now) (c.read_run.ensures ∙ ap (λ (n : ℕ). cut 3 n (run 8 (take 15 (drop 38 p)))) forty)
     ∙ ap (λ (l : List ℕ). put 0 40 l (cut 3 40 (run 8 (take 15 (drop 38 p))))) c.requires.0 ∙ short_numbers p bytes c.requires.1

@@ -1,7 +1,6 @@
 -- `remainder_of` meets its contract. Assumes nothing.
 use mathlib.Core.Path.{ap, ◌∙◌}
 use native.Mathlib.Omega.{arith}
-use borrow.Author.Rules.{rules}
 use lib.ListN.{drop, length-drop}
 use lib.Seq.{take_all}
 use Rattle.crc.specs.Crc.{register_of}

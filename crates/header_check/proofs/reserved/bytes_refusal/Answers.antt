@@ -1,7 +1,8 @@
 -- `bytes_refusal` meets its contract, by the kind. Assumes nothing.
 use mathlib.Core.Path.{◌≡◌, sym, ap, ◌∙◌}
 use mathlib.Core.List.{[], ◌∷◌}
-use borrow.Author.Rules.{rules}
+use mathlib.Core.Logic.{inl, inr}
+use native.Mathlib.Omega.{arith}
 use lib.ListN.{drop}
 use Rattle.bits.proofs.Laws.{fit_of}
 use Rattle.setting.specs.Refusal.{first_of}
@@ -15,17 +16,14 @@ use Rattle.header_check.proofs.reserved.bytes_refusal.Goals.{After-some_other}
 asked : (c : After-some_other) → drop 3 (reserved_checks c.args.kind c.args.packet.now) ≡ (20, c.some_other.result) ∷ []
 asked c =
     let p = c.args.packet.now in
-    extended-bytes p (fit_of 8 p (λ i. (c.shared_slice_known-1.given i).fits)) c.requires c.in-Extended.is
+    extended-bytes p (fit_of 8 p (λ i. let fits = c.type_inv.packet i in omega (arith, fits))) c.requires c.in-Extended.is
     ∙ ap (λ b. (20, b) ∷ []) (sym c.some_other.ensures)
 
 pub returns-then-some_other : goal.returns-then-some_other
 returns-then-some_other c = sym (ap first_of (asked (goal.at.returns-then-some_other c).After-some_other) ∙ answers 20 [] c.if-some_other.true)
 
 pub returns-in-Plain : goal.returns-in-Plain
-returns-in-Plain c = sym (plain_bytes c.args.packet.now c.in-Plain.is)
-
-pub returns-in-Short : goal.returns-in-Short
-returns-in-Short c = sym (short-bytes c.args.packet.now c.in-Short.is)
+returns-in-Plain c = sym (elim c.in-Plain.is [ inl e ↦ plain_bytes c.args.packet.now e | inr e ↦ short-bytes c.args.packet.now e ])
 
 pub returns-else-some_other : goal.returns-else-some_other
 unfolding first_of

@@ -43,13 +43,13 @@ named c = c.before.before.before.before.before
 
 -- what is known of the size and the places
 abbrev streams : tie.After-places_of-at → ℕ
-streams c = c.before.before.size_of-size.result.streams
+streams c = c.before.from-streams.result
 
 abbrev size : tie.After-places_of-at → Size
 size c = size_of (begun c).args.kind
 
 streams_is : (c : tie.After-places_of-at) → streams c ≡ (size c).streams
-streams_is c = ap (λ (z : Size). z.streams) c.before.before.size_of-size.ensures
+streams_is c = c.before.from-streams.ensures ∙ ap (λ (z : Size). z.streams) c.before.before.size_of-size.ensures
 
 identifiers_is : (c : tie.After-places_of-at) → c.places_of-at.result.identifiers ≡ identifiers_start (size c)
 unfolding places_of
@@ -116,8 +116,8 @@ span p i j h g = length_part p i (j - i) (omega arith)
 size_of_requires : tie.Need-size_of-size-requires
 size_of_requires c κs = search rules
 
-cast_streams : tie.Need-overflow_cast-streams
-cast_streams c = search rules
+from_streams_requires : tie.Need-from-streams-requires
+from_streams_requires c κs = search rules
 
 places_of_requires : tie.Need-places_of-at-requires
 places_of_requires c κs = search rules
@@ -266,7 +266,7 @@ read_announced_spec =
     tie.close
     (tie.spec
     size_of_requires
-    cast_streams
+    from_streams_requires
     places_of_requires
     shared_slice_read_types
     slice_write_part

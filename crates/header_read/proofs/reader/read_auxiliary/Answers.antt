@@ -2,7 +2,7 @@
 use Prim.Native.Nat.{ℕ}
 use mathlib.Core.Path.{◌≡◌, sym, ap, ◌∙◌}
 use native.Mathlib.Omega.{arith}
-use borrow.Author.Rules.{rules}
+use Rattle.std.proofs.Common.{inl, inr}
 use lib.ListN.{length, take, drop, replicate}
 use Rattle.bits.proofs.Laws.{fit_of}
 use Rattle.setting.specs.declared.Kind.{Kind}
@@ -18,15 +18,11 @@ pub returns-in-Plain : goal.returns-in-Plain
 returns-in-Plain c =
     let p = c.args.packet.now in
     let bytes = fit_of 8 p (λ i. (c.type_inv.packet i).fits) in
-    c.fill.ensures ∙ ap (λ (n : ℕ). replicate n 0) c.requires.0 ∙ auxiliaries_are p bytes c.requires.1 Kind.Plain
-    ∙ sym (ap (λ (k : Kind). (reading k p).auxiliary) c.in-Plain.is)
-
-pub returns-in-Short : goal.returns-in-Short
-returns-in-Short c =
-    let p = c.args.packet.now in
-    let bytes = fit_of 8 p (λ i. (c.type_inv.packet i).fits) in
-    c.fill-in-Short.ensures ∙ ap (λ (n : ℕ). replicate n 0) c.requires.0 ∙ auxiliaries_are p bytes c.requires.1 Kind.Short
-    ∙ sym (ap (λ (k : Kind). (reading k p).auxiliary) c.in-Short.is)
+    c.fill.ensures ∙ ap (λ (n : ℕ). replicate n 0) c.requires.0
+    ∙ elim c.in-Plain.is [
+      | inl e ↦ auxiliaries_are p bytes c.requires.1 Kind.Plain ∙ sym (ap (λ (k : Kind). (reading k p).auxiliary) e)
+      | inr e ↦ auxiliaries_are p bytes c.requires.1 Kind.Short ∙ sym (ap (λ (k : Kind). (reading k p).auxiliary) e)
+    ]
 
 pub returns-in-Extended : goal.returns-in-Extended
 unfolding size_of

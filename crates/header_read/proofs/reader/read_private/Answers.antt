@@ -3,7 +3,6 @@ use Prim.Native.Nat.{ℕ, ◌+◌, ◌-◌, ◌≤◌}
 use mathlib.Core.Path.{◌≡◌, sym, ap, ◌∙◌}
 use native.Mathlib.Omega.{arith}
 use native.Mathlib.Nat.{sub-zero}
-use borrow.Author.Rules.{rules}
 use lib.ListN.{length, take, drop}
 use lib.Seq.{length-take-le}
 use Rattle.bits.proofs.Laws.{fit_of}
@@ -35,12 +34,6 @@ slice_bounds-copy-end c = let few = facts (goal.at.slice_bounds-copy-end c).Afte
 pub slice_bounds-copy-end-2 : goal.slice_bounds-copy-end-2
 slice_bounds-copy-end-2 c = let few = facts (goal.at.slice_bounds-copy-end-2 c).After-places_of-at in omega arith
 
-pub slice_bounds-fill-count : goal.slice_bounds-fill-count
-slice_bounds-fill-count c = let few = facts (goal.at.slice_bounds-fill-count c).After-places_of-at in omega arith
-
-pub slice_bounds-fill-start : goal.slice_bounds-fill-start
-slice_bounds-fill-start c = let few = facts (goal.at.slice_bounds-fill-start c).After-places_of-at in omega arith
-
 pub returns : goal.returns
 unfolding places_of
 returns c =
@@ -48,7 +41,7 @@ returns c =
     let p = c.args.packet.now in
     let kind = c.args.kind in
     let bytes = fit_of 8 p (λ i. (c.type_inv.packet i).fits) in
-    let n = c.size_of-size.result.private_bytes in
+    let n = c.from-own.result in
     let from = c.places_of-at.result.private in
     let few = facts (goal.at.returns c).After-places_of-at in
     let own : length (take (n - 0) part) ≡ n = ap (λ (k : ℕ). length (take k part)) (sub-zero n) ∙ length-take-le n part (omega (arith, c.requires)) in
@@ -56,5 +49,5 @@ returns c =
     let there : length (take n (drop from p)) ≡ n = length_part p from n (omega arith) in
     let data_is : c.copy.new.dst ≡ take n (drop from p) =
     c.copy.ensures ∙ rw span (copied_all (take (n - 0) part) (take n (drop from p)) (own ∙ sym there)) in
-    resized-part part c.copy.new.dst c.fill.new.dst n private_bytes c.requires.0 (ap length data_is ∙ there) few.0 c.fill.ensures
-    ∙ ap (resized private_bytes) data_is ∙ rw (c.size_of-size.ensures, c.places_of-at.ensures.value) (privates_by kind p bytes c.requires.1)
+    resized-part part c.copy.new.dst c.fill.new.dst n private_bytes c.requires.0 (ap length data_is ∙ there) (omega (arith, few.0)) c.fill.ensures
+    ∙ ap (resized private_bytes) data_is ∙ rw (c.from-own.ensures, c.size_of-size.ensures, c.places_of-at.ensures.value) (privates_by kind p bytes c.requires.1)

@@ -14,6 +14,8 @@ use Rattle.setting_bytes.specs.Settings.{announced_at, announced_length, numbers
 use Rattle.header_layout.specs.Header.{reading}
 use Rattle.header_check.specs.Checking.{numbers_into}
 use Rattle.header_read.proofs.Coded.{version_is, setting_written}
+use Rattle.std.specs.Prelude.{Ok}
+use Rattle.header_check.specs.OnPaper.{on_paper}
 use Rattle.header_read.proofs.Heard.{counter_heard, streams-heard, bonding_heard}
 use Rattle.header_read.proofs.reader.read_setting.Statement.{statement}
 use Rattle.header_read.proofs.reader.read_setting.Tie as tie
@@ -77,7 +79,7 @@ read_announced_requires c κs =
     let start = c.before.before.before in
     let args = start.args in (
       (mid_len announced_at numbers_at args.setting.now (omega (arith, start.requires)), start.requires.1.0),
-      streams-heard args.kind args.packet.now args.heard start.requires.1.1,
+      streams-heard args.kind args.packet.now (on_paper (Ok args.said)) start.requires.1.1,
     )
 
 sub_read_numbers : tie.Need-slice_bounds-read_numbers-count
@@ -156,7 +158,7 @@ returns c =
     let kind = start.args.kind in
     let p = start.args.packet.now in
     let bytes = start.args.setting.now in
-    let heard = start.args.heard in
+    let heard = on_paper (Ok start.args.said) in
     let e = start.requires.1.1 in
     setting_written (reading kind p) bytes announcement.read_announced.new.part numbers.read_numbers.new.numbers privates.read_private.new.part auxiliaries.read_auxiliary.new.part _ _ _ _ _ _ _
     start.requires.0

@@ -1,7 +1,6 @@
 -- `read_statuses` meets its contract, with the number written out and without. Assumes nothing.
 use Prim.Native.Nat.{ℕ}
 use mathlib.Core.Path.{sym, ap, ◌∙◌}
-use borrow.Author.Rules.{rules}
 use Rattle.bits.specs.Fields.{run, cut}
 use Rattle.counters.specs.Counters.{last_stream}
 use Rattle.setting.specs.Size.{resized}

@@ -50,8 +50,8 @@ size c = size_of (begun c).args.kind
 abbrev at : tie.After-places_of-at → Places
 at c = c.places_of-at.result
 
-streams_is : (c : tie.After-places_of-at) → c.before.before.size_of-size.result.streams ≡ (size c).streams
-streams_is c = ap (λ (z : Size). z.streams) c.before.before.size_of-size.ensures
+streams_is : (c : tie.After-places_of-at) → c.before.from-streams.result ≡ (size c).streams
+streams_is c = c.before.from-streams.ensures ∙ ap (λ (z : Size). z.streams) c.before.before.size_of-size.ensures
 
 identifiers_is : (c : tie.After-places_of-at) → (at c).identifiers ≡ identifiers_start (size c)
 unfolding places_of
@@ -131,8 +131,8 @@ ids-long b h from room = length_part from (2 * last_stream) b (omega arith)
 size_of_requires : tie.Need-size_of-size-requires
 size_of_requires c κs = search rules
 
-cast_streams : tie.Need-overflow_cast-streams
-cast_streams c = search rules
+from_streams_requires : tie.Need-from-streams-requires
+from_streams_requires c κs = search rules
 
 places_of_requires : tie.Need-places_of-at-requires
 places_of_requires c κs = search rules
@@ -312,7 +312,7 @@ write_body_spec =
     tie.close
     (tie.spec
     size_of_requires
-    cast_streams
+    from_streams_requires
     places_of_requires
     sub_write_start
     part_write_start_start

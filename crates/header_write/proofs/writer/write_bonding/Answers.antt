@@ -3,7 +3,6 @@ use mathlib.Core.Path.{sym, ap, ◌∙◌}
 use Rattle.setting_bytes.proofs.InBytes.{setting_in, setting_in_lem}
 use Rattle.header_layout.specs.Bytes.{bonding_bytes}
 use Rattle.slices.proofs.Front.{stored}
-use borrow.Author.Rules.{rules}
 use Rattle.header_write.proofs.writer.write_bonding.Goals as goal
 
 pub returns : goal.returns

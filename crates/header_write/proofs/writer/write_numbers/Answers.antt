@@ -3,7 +3,7 @@ use Prim.Native.Nat.{ℕ, ◌*◌, ◌/◌, ◌%◌}
 use mathlib.Core.Path.{◌≡◌, sym, ap, ◌∙◌}
 use mathlib.Core.List.{List, [], ◌++◌, append-nil}
 use native.Mathlib.Omega.{arith}
-use borrow.Author.Rules.{rules}
+use Rattle.std.proofs.Common.{inl, inr}
 use lib.ListN.{length, take}
 use lib.Seq.{length-take-le}
 use Rattle.bits.specs.Fields.{bits_of, run}
@@ -36,11 +36,9 @@ long part ns l e {own} h =
 
 pub slice_bounds-pack_halves-end : goal.slice_bounds-pack_halves-end
 unfolding size_of
-slice_bounds-pack_halves-end c = omega (arith, bytes (goal.at.slice_bounds-pack_halves-end c).Start c.in-Plain.is)
-
-pub slice_bounds-pack_halves-end-in-Extended : goal.slice_bounds-pack_halves-end-in-Extended
-unfolding size_of
-slice_bounds-pack_halves-end-in-Extended c = omega (arith, bytes (goal.at.slice_bounds-pack_halves-end-in-Extended c).Start c.in-Extended.is)
+slice_bounds-pack_halves-end c =
+    let start = (goal.at.slice_bounds-pack_halves-end c).Start in
+    elim c.in-Plain.is [ inl e ↦ omega (arith, bytes start e) | inr e ↦ omega (arith, bytes start e) ]
 
 pub slice_bounds-write_run-end : goal.slice_bounds-write_run-end
 unfolding size_of
@@ -49,14 +47,11 @@ slice_bounds-write_run-end c = omega (arith, bytes (goal.at.slice_bounds-write_r
 pub returns-in-Plain : goal.returns-in-Plain
 unfolding size_of
 returns-in-Plain c =
-    let kind = c.in-Plain.is in
-    long c.args.part.now c.args.numbers.now (bytes (goal.at.returns-in-Plain c).Start kind) c.requires.1 c.pack_halves.ensures ∙ numbers (goal.at.returns-in-Plain c).Start kind
-
-pub returns-in-Extended : goal.returns-in-Extended
-unfolding size_of
-returns-in-Extended c =
-    let kind = c.in-Extended.is in
-    long c.args.part.now c.args.numbers.now (bytes (goal.at.returns-in-Extended c).Start kind) c.requires.1 c.pack_halves-in-Extended.ensures ∙ numbers (goal.at.returns-in-Extended c).Start kind
+    let start = (goal.at.returns-in-Plain c).Start in
+    elim c.in-Plain.is [
+      | inl e ↦ long c.args.part.now c.args.numbers.now (bytes start e) c.requires.1 c.pack_halves.ensures ∙ numbers start e
+      | inr e ↦ long c.args.part.now c.args.numbers.now (bytes start e) c.requires.1 c.pack_halves.ensures ∙ numbers start e
+    ]
 
 pub returns-in-Short : goal.returns-in-Short
 unfolding size_of bits_of

@@ -1,20 +1,23 @@
--- `put_refused_lem` meets its contract: the word, the number behind it, and behind 7 the remainder. Assumes nothing.
+-- `put_refused` meets its contract: the word, the number behind it, and behind 7 the remainder. Assumes nothing.
+use mathlib.Core.Path.{ap, sym, ◌∙◌}
 use native.Mathlib.Omega.{arith}
 use borrow.Author.Tests.{eq-eqb, ne_eqb}
+use Rattle.refusals.specs.Refusals.{number}
+use Rattle.refusals.proofs.Refusals.{by_number, numbered}
 use Rattle.listing.specs.Listing.{refused_fields}
 use Rattle.listing.proofs.Putting.{puts_then}
 use Rattle.listing.proofs.lines.put_refused.Goals as goal
 
-pub returns-then-refusal-eq-WRONG_CRC : goal.returns-then-refusal-eq-WRONG_CRC
+pub returns-in-Crc : goal.returns-in-Crc
 unfolding refused_fields
-returns-then-refusal-eq-WRONG_CRC c = record {
-  puts = rw (eq-eqb _ _ c.if-refusal-eq-WRONG_CRC.true, c.if-refusal-eq-WRONG_CRC.true) (puts_then c.put_field-second.ensures.puts (puts_then c.put_number-third.ensures.puts c.put_hex.ensures.puts (omega arith)) (omega arith));
+returns-in-Crc c = record {
+  puts = rw (eq-eqb _ _ (ap number c.in-Crc.is), ← c.number-number.ensures) (puts_then c.put_field-second.ensures.puts (puts_then c.put_number-third.ensures.puts c.put_hex.ensures.puts (omega arith)) (omega arith));
   upper_bound = omega arith;
 }
 
 pub returns : goal.returns
 unfolding refused_fields
 returns c = record {
-  puts = rw (ne_eqb _ _ c.if-refusal-eq-WRONG_CRC.false) (puts_then c.put_field-second.ensures.puts c.put_number.ensures.puts (omega arith));
+  puts = rw (ne_eqb _ _ (λ z. c.in_default.not-Crc (by_number c.args.why.refusal ∙ ap numbered z)), ← c.number-number.ensures) (puts_then c.put_field-second.ensures.puts c.put_number.ensures.puts (omega arith));
   upper_bound = omega arith;
 }

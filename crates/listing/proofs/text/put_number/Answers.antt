@@ -4,12 +4,6 @@ use native.Mathlib.Omega.{arith}
 use Rattle.listing.proofs.Decimal.{at_most_twenty, is_decimal}
 use Rattle.listing.proofs.text.put_number.Goals as goal
 
-pub put_field-requires : goal.put_field-requires
-put_field-requires c =
-    let d = c.decimal-count in
-    let few : d.result ≤ 20 = at_most_twenty d.result c.args.n (omega arith) d.ensures.len in
-    omega (arith, few, d.ensures.in_bounds.1)
-
 pub returns : goal.returns
 returns c =
     let d = c.decimal-count in

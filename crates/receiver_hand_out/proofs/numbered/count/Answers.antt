@@ -32,11 +32,6 @@ overflow_add-result-3 c =
     let all = (counted (goal.at.overflow_add-result-3 c).Start).0 in
     omega arith
 
-pub overflow_cast-result : goal.overflow_cast-result
-overflow_cast-result c =
-    let few = ones-le 64 _ (counted (goal.at.overflow_cast-result c).Start).0 in
-    omega arith
-
 pub returns : goal.returns
 returns c = record {
   value = (counted (goal.at.returns c).Start).1;

@@ -2,16 +2,10 @@
 use Prim.Native.Nat.{◌*◌}
 use mathlib.Core.Path.{ap, ◌∙◌}
 use native.Mathlib.Omega.{arith}
-use borrow.Author.Rules.{rules}
-use lib.Bits.{bit_xor, and_le_r}
+use lib.Bits.{bit_xor}
 use Rattle.receiver_hand_out.specs.Halves.{halves_of}
 use Rattle.receiver_hand_out.proofs.Joined.{rep, where_zero, marks_of_lem}
 use Rattle.receiver_hand_out.proofs.numbered.marks.Goals as goal
-
-pub overflow_add-y : goal.overflow_add-y
-overflow_add-y c =
-    let small = and_le_r (bit_xor c.args.word (c.wide.result * 1229782938247303441)) 8608480567731124087 in
-    omega arith
 
 pub returns : goal.returns
 unfolding rep

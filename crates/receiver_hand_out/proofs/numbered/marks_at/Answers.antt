@@ -1,7 +1,6 @@
 -- `marks_at` meets its contract. Assumes nothing.
 use mathlib.Core.Path.{ap, ◌∙◌}
 use native.Mathlib.Omega.{arith}
-use borrow.Author.Rules.{rules}
 use Rattle.bits.specs.Fields.{cut}
 use Rattle.bits.proofs.Laws.{bits_of-part}
 use Rattle.receiver.proofs.Packing.{unpacked-part}

@@ -1,0 +1,60 @@
+-- `close_refusal` meets its contract. Assumes nothing.
+use Prim.Native.Nat.{ℕ}
+use mathlib.Core.Path.{◌≡◌, sym, ap, ◌∙◌}
+use mathlib.Core.Bool.{not}
+use mathlib.Core.List.{List, ◌++◌}
+use borrow.Author.Rules.{rules}
+use borrow.Author.Tests.{eq-eqb, ne_eqb}
+use lib.ListN.{length, get_or}
+use Rattle.refusals.specs.Refusals.{number, answer}
+use Rattle.refusals.proofs.Refusals.{is_some_number}
+use Rattle.setting.specs.declared.Kind.{Kind}
+use Rattle.setting.specs.Size.{slots_of}
+use Rattle.setting.specs.Refusal.{first_of, of_length}
+use Rattle.setting.proofs.Refusals.{answers, passed, onward, at_once, at_length}
+use Rattle.setting_bytes.specs.Kinds.{kind_of}
+use Rattle.composer.specs.Composing.{Composer, state_checks, open_checks, close_refusal}
+use Rattle.composer.proofs.Refusals.{state_none}
+use Rattle.composer.specs.States.{composer_length, kind_at, composer_of}
+use Rattle.composer.proofs.There.{frame_there}
+use Rattle.packet.specs.Packets.{frame_length}
+use Rattle.composer_close.proofs.close_refusal.Goals as goal
+
+module _ (state : List ℕ) (lent : ℕ) (long : length state ≡ composer_length) (k : Kind) (kind : k ≡ kind_of (get_or state kind_at 0)) {n : ℕ} (e : n ≡ frame_length (slots_of k)) where
+  abbrev run : Composer
+  run = composer_of state
+
+  off : (lent ≡ n → ⊥) → 1 ≡ close_refusal run lent
+  unfolding close_refusal
+  off other = sym (answers _ _ (ap not (ne_eqb _ _ (λ s. other (s ∙ sym (frame_there state kind e))))))
+
+  module _ (fits : lent ≡ n) where
+    past : close_refusal run lent ≡ first_of (state_checks run ++ open_checks run)
+    unfolding close_refusal
+    past = passed _ _ (ap not (eq-eqb _ _ (fits ∙ frame_there state kind e)))
+
+    by_state : {m : ℕ} → m ≡ of_length composer_length (length state) (first_of (state_checks run)) → (m ≡ 0 → ⊥) → m ≡ close_refusal run lent
+    by_state told some =
+        let told' = told ∙ at_length _ _ _ long in
+        told' ∙ sym (past ∙ at_once (state_checks run) (open_checks run) (λ none. some (told' ∙ none)))
+
+    by_frame : 0 ≡ of_length composer_length (length state) (first_of (state_checks run)) → {m : ℕ} → m ≡ of_length composer_length (length state) (first_of (open_checks run)) → m ≡ close_refusal run lent
+    by_frame good told =
+        told ∙ at_length _ _ _ long ∙ sym (past ∙ onward (open_checks run) (state_none run (sym (good ∙ at_length _ _ _ long))))
+
+pub returns-then-lent-frame_bytes : goal.returns-then-lent-frame_bytes
+returns-then-lent-frame_bytes c =
+    off c.args.state.now c.args.lent c.requires c.kind_of.result c.kind_of.ensures c.frame_bytes.ensures c.if-lent-frame_bytes.true
+
+pub returns-in_err-state_refusal : goal.returns-in_err-state_refusal
+returns-in_err-state_refusal c =
+    let refusal = c.in_err-state_refusal.field-0.0 in
+    let passed_up : answer c.from_residual.result ≡ number refusal = search rules in
+    passed_up
+    ∙ by_state c.args.state.now c.args.lent c.requires c.kind_of.result c.kind_of.ensures c.frame_bytes.ensures c.if-lent-frame_bytes.false
+    c.in_err-state_refusal.ensures (is_some_number refusal)
+
+pub returns : goal.returns
+returns c =
+    by_frame c.args.state.now c.args.lent c.requires c.kind_of.result c.kind_of.ensures c.frame_bytes.ensures c.if-lent-frame_bytes.false
+    c.in_ok-state_refusal.ensures c.open_refusal.ensures

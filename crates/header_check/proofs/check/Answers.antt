@@ -1,0 +1,115 @@
+-- `check` meets its contract, check by check. Assumes nothing.
+use Prim.Native.Nat.{ℕ}
+use mathlib.Core.Path.{◌≡◌, refl, sym, ap, ◌∙◌}
+use mathlib.Core.Bool.{true}
+use mathlib.Core.List.{List, ◌++◌}
+use native.Mathlib.Omega.{arith}
+use borrow.Author.Rules.{rules}
+use lib.ListN.{length}
+use Rattle.std.specs.Prelude.{Err}
+use Rattle.refusals.specs.Refusals.{number}
+use Rattle.refusals.proofs.Refusals.{is_some_number}
+use Rattle.setting.specs.declared.Kind.{Kind}
+use Rattle.setting.specs.Refusal.{Check, first_of}
+use Rattle.setting.specs.Rules.{pid_allowed, rule_checks}
+use Rattle.setting.proofs.Refusals.{onward, at_once}
+use Rattle.header_layout.specs.Header.{header_length, reading, packet_checks, reserved_checks}
+use Rattle.header_layout.proofs.Calls.{wrong_length, wrong_pid, right_call}
+use Rattle.header_layout.proofs.Packet.{packet_none}
+use Rattle.header_layout.proofs.Reserved.{reserved_none}
+use Rattle.header_check.specs.declared.Refused.{Refused}
+use Rattle.header_check.specs.OnPaper.{Refusal, on_paper}
+use Rattle.header_check.specs.Checking.{read_checks, read_refusal, refusal_by, checked_of}
+use Rattle.header_check.proofs.Asked.{refused, refused_from, accepted}
+use Rattle.header_check.proofs.Sevens.{not_of_reserved, not_of_rules}
+use Rattle.header_check.proofs.check.Goals as goal
+
+-- the number of what the packet itself shows
+numbers : {n r m : ℕ} (p : List ℕ) → record { number = n; remainder = r } ≡ refusal_by m p → n ≡ m
+unfolding refusal_by
+numbers p e = ap (λ (x : Refusal). x.number) e
+
+-- the refusal of the whole, by what each of its parts said
+module _ (kind : Kind) (pid : ℕ) (p : List ℕ) (long : length p ≡ header_length) (allowed : true ≡ pid_allowed pid) where
+  abbrev packets : List Check
+  packets = packet_checks pid p
+
+  abbrev reserved : List Check
+  reserved = reserved_checks kind p
+
+  abbrev rules_of : List Check
+  rules_of = rule_checks kind (reading kind p)
+
+  past_call : read_refusal kind pid p ≡ first_of (packets ++ (reserved ++ rules_of))
+  unfolding read_refusal read_checks
+  past_call = right_call pid _ _ long (sym allowed)
+
+  by_packet : (first_of packets ≡ 0 → ⊥) → read_refusal kind pid p ≡ first_of packets
+  by_packet some = past_call ∙ at_once packets _ some
+
+  module _ (good : first_of packets ≡ 0) where
+    past_packet : read_refusal kind pid p ≡ first_of (reserved ++ rules_of)
+    past_packet = past_call ∙ onward _ (packet_none pid p good)
+
+    by_reserved : (first_of reserved ≡ 0 → ⊥) → read_refusal kind pid p ≡ first_of reserved
+    by_reserved some = past_packet ∙ at_once reserved _ some
+
+    by_rules : first_of reserved ≡ 0 → read_refusal kind pid p ≡ first_of rules_of
+    by_rules none = past_packet ∙ onward rules_of (reserved_none kind p none)
+
+pub returns-then-packet-ne-HEADER_LENGTH : goal.returns-then-packet-ne-HEADER_LENGTH
+unfolding read_refusal checked_of
+returns-then-packet-ne-HEADER_LENGTH c =
+    let a = c.args in
+    refused a.kind a.packet.now (wrong_length a.pid _ (read_checks a.kind a.pid a.packet.now) c.if-packet-ne-HEADER_LENGTH.true) (omega arith) _
+    (refused_from _ a.packet.now c.from.ensures (omega arith) refl)
+
+pub returns-then-not-pid_allowed : goal.returns-then-not-pid_allowed
+unfolding read_refusal checked_of
+returns-then-not-pid_allowed c =
+    let a = c.args in
+    refused a.kind a.packet.now (wrong_pid a.pid _ (read_checks a.kind a.pid a.packet.now) c.if-packet-ne-HEADER_LENGTH.false (sym c.if-not-pid_allowed.ensures)) (omega arith) _
+    (refused_from _ a.packet.now c.from-then-not-pid_allowed.ensures (omega arith) refl)
+
+pub returns-in_err-packet_refusal : goal.returns-in_err-packet_refusal
+unfolding checked_of
+returns-in_err-packet_refusal c =
+    let a = c.args in
+    let why = c.in_err-packet_refusal.field-0.0 in
+    let passed_up : c.from_residual.result ≡ Err why = search rules in
+    let told : number why.refusal ≡ first_of (packets a.kind a.pid a.packet.now c.if-packet-ne-HEADER_LENGTH.false c.if-not-pid_allowed.ensures) = numbers a.packet.now c.in_err-packet_refusal.ensures in
+    let some : first_of (packet_checks a.pid a.packet.now) ≡ 0 → ⊥ = λ none. is_some_number why.refusal (told ∙ none) in
+    ap on_paper passed_up
+    ∙ refused a.kind a.packet.now (by_packet a.kind a.pid a.packet.now c.if-packet-ne-HEADER_LENGTH.false c.if-not-pid_allowed.ensures some) some why c.in_err-packet_refusal.ensures
+
+pub returns-in_err-refusal : goal.returns-in_err-refusal
+unfolding checked_of
+returns-in_err-refusal c =
+    let a = c.args in
+    let refusal = c.in_err-refusal.field-0.0 in
+    let why : Refused = record { refusal = refusal; remainder = 0 } in
+    let passed_up : c.from_residual-in_err-refusal.result ≡ Err why = search rules in
+    let told = c.in_err-refusal.ensures in
+    let some : first_of (reserved_checks a.kind a.packet.now) ≡ 0 → ⊥ = λ none. is_some_number refusal (told ∙ none) in
+    ap on_paper passed_up
+    ∙ refused a.kind a.packet.now (by_reserved a.kind a.pid a.packet.now c.if-packet-ne-HEADER_LENGTH.false c.if-not-pid_allowed.ensures (sym (numbers a.packet.now c.in_ok-packet_refusal.ensures)) some) some why
+    (refused_from refusal a.packet.now refl (λ seven. not_of_reserved a.kind a.packet.now (sym told ∙ seven)) told)
+
+pub returns-in_err-said_by : goal.returns-in_err-said_by
+unfolding checked_of
+returns-in_err-said_by c =
+    let a = c.args in
+    let refusal = c.in_err-said_by.field-0.0 in
+    let why : Refused = record { refusal = refusal; remainder = 0 } in
+    let passed_up : c.from_residual-in_err-said_by.result ≡ Err why = search rules in
+    let told : number refusal ≡ first_of (rule_checks a.kind (reading a.kind a.packet.now)) = c.in_err-said_by.ensures.value in
+    ap on_paper passed_up
+    ∙ refused a.kind a.packet.now (by_rules a.kind a.pid a.packet.now c.if-packet-ne-HEADER_LENGTH.false c.if-not-pid_allowed.ensures (sym (numbers a.packet.now c.in_ok-packet_refusal.ensures)) (sym c.in_ok-refusal.ensures)) (λ none. is_some_number refusal (told ∙ none)) why
+    (refused_from refusal a.packet.now refl (λ seven. not_of_rules a.kind (reading a.kind a.packet.now) (sym told ∙ seven)) told)
+
+pub returns : goal.returns
+unfolding checked_of
+returns c =
+    let a = c.args in
+    accepted a.kind a.packet.now (by_rules a.kind a.pid a.packet.now c.if-packet-ne-HEADER_LENGTH.false c.if-not-pid_allowed.ensures (sym (numbers a.packet.now c.in_ok-packet_refusal.ensures)) (sym c.in_ok-refusal.ensures)) (sym c.in_ok-said_by.ensures.value)
+    c.in_ok-said_by.field-0 c.in_ok-said_by.ensures.said

@@ -1,9 +1,0 @@
--- `open_all` is safe and ends. Assumes nothing.
-use Rattle.std.proofs.Common.{◌-◌, ◌≡◌, length}
-use Rattle.tools.proofs.unbonding.open_all.Given as goal
-
-abbrev pub invariant-loop-c : goal.invariant-loop-c
-invariant-loop-c l = length l.inputs ≡ length l.initial.inputs
-
-abbrev pub decreases-loop-c : goal.decreases-loop-c
-decreases-loop-c l = l.n - l.c
