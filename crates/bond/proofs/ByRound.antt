@@ -85,9 +85,9 @@ pub record Due (carriers : ℕ) (frames : List ℕ) (v : ℕ) : Type 0 where
   pub on : v % last_carrier < carriers
   pub there : v / last_carrier % share (frames_of frames v) ≡ 0
 
-pub is_due_lem : (carriers : ℕ) (frames : List ℕ) (v : ℕ) → is_due carriers frames v ≡ true → Due carriers frames v
+pub due_from_test : (carriers : ℕ) (frames : List ℕ) (v : ℕ) → is_due carriers frames v ≡ true → Due carriers frames v
 unfolding is_due
-is_due_lem carriers frames v e =
+due_from_test carriers frames v e =
     let b = both (ltb (v % last_carrier) carriers) (eqb (v / last_carrier % share (frames_of frames v)) 0) e in
     record { on = ltb-true (v % last_carrier) carriers b.0; there = eqb-true (v / last_carrier % share (frames_of frames v)) 0 b.1 }
 
@@ -366,7 +366,7 @@ module _ (carriers : ℕ) (frames slots : List ℕ) (a : Listable carriers frame
   stop-due : (q v : ℕ) → is_due carriers frames v ≡ true → stop (round_steps * q + v) ≡ is_marked slots (looked q v)
   unfolding is_stop
   stop-due q v e =
-      let d = is_due_lem carriers frames v e in
+      let d = due_from_test carriers frames v e in
       rw (lt-ltb ((round_steps * q + v) % last_carrier) carriers (let o = d.on in omega arith)) (ap (is_marked slots) (packet_round q v d))
 
   stop-not : (q v : ℕ) → is_due carriers frames v ≡ false → stop (round_steps * q + v) ≡ false
@@ -410,7 +410,7 @@ module _ (carriers : ℕ) (frames slots : List ℕ) (a : Listable carriers frame
   unfolding found
   step_found q v h l vs true e r =
       places-from (round_steps * q + v) (omega arith) (is_marked slots (looked q v)) (stop-due q v e)
-      ∙ ap₂ (λ (m : ℕ) (ms : List ℕ). cond (is_marked slots (looked q v)) (m ∷ []) [] ++ ms) (packet_round q v (is_due_lem carriers frames v e))
+      ∙ ap₂ (λ (m : ℕ) (ms : List ℕ). cond (is_marked slots (looked q v)) (m ∷ []) [] ++ ms) (packet_round q v (due_from_test carriers frames v e))
       (ap places (omega arith) ∙ r)
       ∙ sym (append_assoc (cond (is_marked slots (looked q v)) (looked q v ∷ []) []) (found q vs) (places (round_steps * (q + 1))))
   step_found q v h l vs false e r =
@@ -460,7 +460,7 @@ module _ (carriers : ℕ) (frames slots : List ℕ) (a : Listable carriers frame
           let v = get_or all e 0 in
           let early = o.early in
           let few = packet_few a.walk (round_steps * q + v) (omega arith) in
-          let is = packet_round q v (is_due_lem carriers frames v o.looks) in
+          let is = packet_round q v (due_from_test carriers frames v o.looks) in
           let same = entry_is e l in
           omega arith
 

@@ -225,9 +225,9 @@ module _ (b : Bond) (group out : List ℕ) where
   gather_headed d = at_once (plan_checks b group) _ d
 
   module _ {bonded : Option ℕ} {frames slots : List ℕ} (k : Known b group bonded frames slots) where
-    pub gather_rest_lem : gather_refusal b group (length out) ≡ first_of (gather_rest bonded (length out))
+    pub gather_refusal-rest : gather_refusal b group (length out) ≡ first_of (gather_rest bonded (length out))
     unfolding gather_refusal gather_checks
-    gather_rest_lem =
+    gather_refusal-rest =
         onward _ k.none_holds ∙ sym (λ i. first_of ((13, not (k.carried_is i)) ∷ (15, ltb (length out) (packet_length * k.packets_are i)) ∷ []))
 
   pub gather_granted : (n : ℕ) → gather_refusal b group (length out) ≡ 0 → n ≡ length (order b group) → {f : Refusal} → f ≡ group_refusal b group 0 → record { refusal = f; packets = n } ≡ gather_of b group (length out)

@@ -276,8 +276,8 @@ module _ (b : Bond) (group : List ℕ) (few : b.carriers ≤ last_carrier) where
     abbrev n : ℕ
     n = frames_in group
 
-    all_gone_lem : Gone group (frames_after n) (before group n) n
-    all_gone_lem = gone n w.each
+    when_all_gone : Gone group (frames_after n) (before group n) n
+    when_all_gone = gone n w.each
 
     ended_carrier : (before group n).carrier_sequence ≡ b.carriers
     unfolding is_end
@@ -288,21 +288,21 @@ module _ (b : Bond) (group : List ℕ) (few : b.carriers ≤ last_carrier) where
     ended_frames = last_is (before group n) (both (is_last (before group n)) _ w.ended).0
 
     framed_each : (k : ℕ) → k < b.carriers → (get_or (frames_after n) k 0 ≡ 3) ⊎ (get_or (frames_after n) k 0 ≡ 4)
-    framed_each k l = all_gone_lem.framed k (rw ended_carrier l)
+    framed_each k l = when_all_gone.framed k (rw ended_carrier l)
 
     pub walkable : Walkable b.carriers (frames_after n)
-    walkable = record { few = few; for_each = all_gone_lem.long; short = all_gone_lem.short; framed = framed_each }
+    walkable = record { few = few; for_each = when_all_gone.long; short = when_all_gone.short; framed = framed_each }
 
     -- each header says where its frame stands
     pub says_each : (k q : ℕ) → k < b.carriers → q < get_or (frames_after n) k 0 → Says group (frames_after n) k q
     says_each k q l m = by_last (dec_lt (k + 1) b.carriers)
       where
         by_last : Dec (k + 1 < b.carriers) → Says group (frames_after n) k q
-        by_last (yes a) = all_gone_lem.earlier k q (rw ended_carrier a) m
+        by_last (yes a) = when_all_gone.earlier k q (rw ended_carrier a) m
         by_last (no a) =
             let d : (before group n).carrier_sequence - 1 ≡ k = omega (arith, ended_carrier, l, a) in
-            let o : get_or (frames_after n) k 0 ≡ (before group n).number_of_frames = subst (λ (i : ℕ). get_or (frames_after n) i 0 ≡ (before group n).number_of_frames) d all_gone_lem.own in
-            subst (λ (i : ℕ). Says group (frames_after n) i q) d (all_gone_lem.latest q (omega (arith, o, ended_frames, m)))
+            let o : get_or (frames_after n) k 0 ≡ (before group n).number_of_frames = subst (λ (i : ℕ). get_or (frames_after n) i 0 ≡ (before group n).number_of_frames) d when_all_gone.own in
+            subst (λ (i : ℕ). Says group (frames_after n) i q) d (when_all_gone.latest q (omega (arith, o, ended_frames, m)))
 
     placed : (k q i : ℕ) → k < b.carriers → q < get_or (frames_after n) k 0 → i < frame_packets
         → place_in group (frame_packets * (frames_before (frames_after n) k + q) + i)
@@ -321,6 +321,6 @@ module _ (b : Bond) (group : List ℕ) (few : b.carriers ≤ last_carrier) where
         record {
           few = few;
           framed = framed_each;
-          all = ap (frames_before (frames_after n)) (sym ended_carrier) ∙ full group (frames_after n) (before group n) n all_gone_lem ended_frames;
+          all = ap (frames_before (frames_after n)) (sym ended_carrier) ∙ full group (frames_after n) (before group n) n when_all_gone ended_frames;
           placed = placed;
         }

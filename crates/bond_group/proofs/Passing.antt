@@ -81,9 +81,9 @@ not_of_call b group e = never_first 7 (call_checks b group) (omega arith) refl e
 
 module _ (b : Bond) (group : List ℕ) where
   -- it stopped at its own checks
-  pub call_refused_lem : (x : ℕ) {r : Refusal} → r ≡ bare x → x ≡ first_of (call_checks b (length group)) → (x ≡ 0 → ⊥) → no_plan r ≡ planned_of b group
+  pub when_call_refused : (x : ℕ) {r : Refusal} → r ≡ bare x → x ≡ first_of (call_checks b (length group)) → (x ≡ 0 → ⊥) → no_plan r ≡ planned_of b group
   unfolding planned_of plan_checks
-  call_refused_lem x r e d =
+  when_call_refused x r e d =
       let f : first_of (call_checks b (length group) ++ group_checks b group) ≡ x = at_once (call_checks b (length group)) (group_checks b group) (λ z. d (e ∙ z)) ∙ sym e in
       let g : cond (eqb (first_of (call_checks b (length group) ++ group_checks b group)) 0) (plan_after b group (frames_in group)) nothing_seen ≡ nothing_seen = rw (f, ne_eqb x 0 d) refl in
       λ i. record { refusal = refused_bare x (refused_header b group) r (λ z. not_of_call b (length group) (sym e ∙ z)) (sym f) i; plan = sym g i }

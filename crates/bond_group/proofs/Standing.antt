@@ -62,21 +62,21 @@ bonds s rules =
     }
 
 -- what a header shows that stands behind another as it should
-pub record Follows (carriers group_id_lem : ℕ) (behind h : Shown) : Type 0 where
+pub record Follows (carriers first_group_id : ℕ) (behind h : Shown) : Type 0 where
   pub not_end : is_end carriers behind ≡ false
   pub carrier : h.carrier_sequence ≡ next_carrier behind
-  pub group : h.group_id ≡ group_id_lem
+  pub group : h.group_id ≡ first_group_id
   pub count : h.number_of_carriers ≡ carriers
   pub frames : is_last behind ≡ false → h.number_of_frames ≡ behind.number_of_frames
   pub position : h.frame_position.0 ≡ next_position behind
 
-pub follows : (carriers group_id_lem : ℕ) (behind h : Shown) → NoneHolds (standing_checks carriers group_id_lem behind h) → Follows carriers group_id_lem behind h
+pub follows : (carriers first_group_id : ℕ) (behind h : Shown) → NoneHolds (standing_checks carriers first_group_id behind h) → Follows carriers first_group_id behind h
 unfolding standing_checks
-follows carriers group_id_lem behind h n =
+follows carriers first_group_id behind h n =
     record {
       not_end = none_at n 0;
       carrier = eqb-true h.carrier_sequence (next_carrier behind) (not-false _ (none_at n 1));
-      group = eqb-true h.group_id group_id_lem (not-false _ (none_at n 2));
+      group = eqb-true h.group_id first_group_id (not-false _ (none_at n 2));
       count = eqb-true h.number_of_carriers carriers (not-false _ (none_at n 3));
       frames = λ e. eqb-true h.number_of_frames behind.number_of_frames
           (not-false _ (rw e at (none_at n 4)));

@@ -104,15 +104,15 @@ module _ (b : Bond) (group : List ℕ) where
 
   -- ---- behind j headers
 
-  pub record Through (behind : Shown) (group_id_lem j : ℕ) : Type 0 where
+  pub record Through (behind : Shown) (first_group_id j : ℕ) : Type 0 where
     pub behind_is : behind ≡ before group j
-    pub group_is : 0 < j → group_id_lem ≡ (said group 0).group_id
+    pub group_is : 0 < j → first_group_id ≡ (said group 0).group_id
     pub passed : NoneHolds (headers_checks b group 0 j)
     pub within : j ≤ frames_in group
 
-  pub through_none : (behind : Shown) (group_id_lem : ℕ) → behind ≡ shown_by blank → Through behind group_id_lem 0
+  pub through_none : (behind : Shown) (first_group_id : ℕ) → behind ≡ shown_by blank → Through behind first_group_id 0
   unfolding before headers_checks
-  through_none behind group_id_lem h =
+  through_none behind first_group_id h =
       record { behind_is = h; group_is = λ l. absurd (omega arith); passed = NoneHolds.none; within = omega arith }
 
   -- ---- the header of frame j
@@ -142,8 +142,8 @@ module _ (b : Bond) (group : List ℕ) where
     unfolding read_refusal
     header-refusal = right_call b.pid (length (slot (frame_packets * j) group)) _ header-long allowed
 
-    read_refusal_lem : read_refusal Kind.Extended b.pid (part j) ≡ first_of (of_read j)
-    read_refusal_lem = ap (read_refusal Kind.Extended b.pid) (part_is j) ∙ header-refusal
+    read_refusal-part : read_refusal Kind.Extended b.pid (part j) ≡ first_of (of_read j)
+    read_refusal-part = ap (read_refusal Kind.Extended b.pid) (part_is j) ∙ header-refusal
 
     abbrev standing : List Check
     standing = standing_checks b.carriers (said group 0).group_id (before group j) (shown_by (said group j))
@@ -167,7 +167,7 @@ module _ (b : Bond) (group : List ℕ) where
     pub said_is : (r : Checked) → r ≡ checked_of Kind.Extended b.pid (part j) → r.refusal.number ≡ 0 → r ≡ parts_of (bare 0) (said group j)
     said_is r e z = parts_are Kind.Extended b.pid (part j) r e z ∙ ap (parts_of (bare 0)) part-said
 
-    module _ (behind : Shown) (group_id_lem : ℕ) (t : Through behind group_id_lem j) where
+    module _ (behind : Shown) (first_group_id : ℕ) (t : Through behind first_group_id j) where
       -- the answer where this header is refused
       answer : (x : ℕ) → first_of (header_checks b group j) ≡ x → (x ≡ 0 → ⊥) → first_of (group_checks b group) ≡ x
       unfolding group_checks
@@ -194,11 +194,11 @@ module _ (b : Bond) (group : List ℕ) where
       module _ (r : Checked) (e : r ≡ checked_of Kind.Extended b.pid (part j)) (d : r.refusal.number ≡ 0 → ⊥) where
         here : first_of (header_checks b group j) ≡ r.refusal.number
         here =
-            let f : r.refusal.number ≡ first_of (of_read j) = sym (refusal_is Kind.Extended b.pid (part j) r e) ∙ read_refusal_lem in
+            let f : r.refusal.number ≡ first_of (of_read j) = sym (refusal_is Kind.Extended b.pid (part j) r e) ∙ read_refusal-part in
             ap first_of split ∙ at_once (of_read j) standing (λ z. d (f ∙ z)) ∙ sym f
 
-        pub read_refused_lem : first_of (group_checks b group) ≡ r.refusal.number
-        read_refused_lem = answer r.refusal.number here d
+        pub when_read_refused : first_of (group_checks b group) ≡ r.refusal.number
+        when_read_refused = answer r.refusal.number here d
 
         pub read_shows : r.refusal ≡ group_refusal b group r.refusal.number
         read_shows =
@@ -207,7 +207,7 @@ module _ (b : Bond) (group : List ℕ) where
 
       module _ (r : Checked) (e : r ≡ checked_of Kind.Extended b.pid (part j)) (z : r.refusal.number ≡ 0) where
         accepted : NoneHolds (of_read j)
-        accepted = read_none (sym read_refusal_lem ∙ refusal_is Kind.Extended b.pid (part j) r e ∙ z)
+        accepted = read_none (sym read_refusal-part ∙ refusal_is Kind.Extended b.pid (part j) r e ∙ z)
 
         -- refused with 14
         pub standing_refused : (x : ℕ) → x ≡ first_of standing → (x ≡ 0 → ⊥) → first_of (group_checks b group) ≡ x
@@ -242,9 +242,9 @@ module _ (b : Bond) (group : List ℕ) where
               })
 
   -- what was shown last is within its counts
-  pub behind_few : (behind : Shown) (group_id_lem j : ℕ) → Through behind group_id_lem j
+  pub behind_few : (behind : Shown) (first_group_id j : ℕ) → Through behind first_group_id j
       → (behind.carrier_sequence ≤ last_carrier) × (behind.frame_position.0 ≤ last_position)
-  behind_few behind group_id_lem j t = rw t.behind_is (by_count j t.passed)
+  behind_few behind first_group_id j t = rw t.behind_is (by_count j t.passed)
     where
       by_count : (j : ℕ) → NoneHolds (headers_checks b group 0 j) → ((before group j).carrier_sequence ≤ last_carrier) × ((before group j).frame_position.0 ≤ last_position)
       by_count zero n = first_few
@@ -252,7 +252,7 @@ module _ (b : Bond) (group : List ℕ) where
 
   -- ---- behind all of them
 
-  module _ (behind : Shown) (group_id_lem j : ℕ) (t : Through behind group_id_lem j) (all : frames_in group ≤ j) where
+  module _ (behind : Shown) (first_group_id j : ℕ) (t : Through behind first_group_id j) (all : frames_in group ≤ j) where
     all_passed : NoneHolds (headers_checks b group 0 (frames_in group))
     all_passed = let e : j ≡ frames_in group = omega (arith, t.within) in subst (λ (n : ℕ). NoneHolds (headers_checks b group 0 n)) e t.passed
 
@@ -271,9 +271,9 @@ module _ (b : Bond) (group : List ℕ) where
 -- ---- the plan as it is answered
 
 -- a frame that does not stand as it should is not refused by 7
-pub not_of_standing : (carriers group_id_lem : ℕ) (behind h : Shown) → first_of (standing_checks carriers group_id_lem behind h) ≡ 7 → ⊥
+pub not_of_standing : (carriers first_group_id : ℕ) (behind h : Shown) → first_of (standing_checks carriers first_group_id behind h) ≡ 7 → ⊥
 unfolding standing_checks
-not_of_standing carriers group_id_lem behind h e = never_first 7 _ (omega arith) refl e
+not_of_standing carriers first_group_id behind h e = never_first 7 _ (omega arith) refl e
 
 module _ (b : Bond) (group : List ℕ) where
   pub planned_refused : (x : ℕ) {f : Refusal} → f ≡ group_refusal b group x → first_of (group_checks b group) ≡ x → (x ≡ 0 → ⊥) → no_plan f ≡ planned_by b group

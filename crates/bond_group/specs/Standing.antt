@@ -51,10 +51,10 @@ next_position h = cond (is_last h) first_position (h.frame_position.0 + 1)
 -- 14: header h does not fit behind the one before it, or has another group id than the first. In this order: the group was complete before
 -- it; it is of another carrier than the one due; its group id, number of carriers or number_of_frames differs; it is out of position
 unfoldable pub standing_checks : ℕ → ℕ → Shown → Shown → List Check
-standing_checks carriers group_id_lem behind h =
+standing_checks carriers first_group_id behind h =
     (14, is_end carriers behind)
     ∷ (14, not (eqb h.carrier_sequence (next_carrier behind)))
-    ∷ (14, not (eqb h.group_id group_id_lem))
+    ∷ (14, not (eqb h.group_id first_group_id))
     ∷ (14, not (eqb h.number_of_carriers carriers))
     ∷ (14, not (is_last behind) && not (eqb h.number_of_frames behind.number_of_frames))
     ∷ (14, not (eqb h.frame_position.0 (next_position behind)))

@@ -28,7 +28,7 @@ use Rattle.runs.proofs.Vouched.{GoodFrame, good_event, good_set, good_store, goo
 use Rattle.runs.proofs.Lost.{arrive_plain, arrive_entire, Counted, no_more, and_then}
 use Rattle.runs.proofs.Values.{waiting-stage}
 use Rattle.runs.proofs.Demands.{all_arrive}
-use Rattle.runs.proofs.Tuned.{Tuned, tuned_heard, codable, says_ready_lem}
+use Rattle.runs.proofs.Tuned.{Tuned, tuned_heard, codable, says_ready-tuned}
 use Rattle.receiver.proofs.OnBytes.{calls_on_bytes}
 use Rattle.receiver.specs.Bytes.{told, event_number}
 use Rattle.receiver.specs.Arriving.{shown_remainder}
@@ -60,10 +60,10 @@ abbrev kept_by : Event → List ℕ → Reception → List ℕ → List (List �
 kept_by e held w p ps =
     cond (makes_ready e) ((held ++ (after_packet w p).store) ∷ []) [] ++ frames_held (cond (opens_by e) p held) (after_packet w p) ps
 
-kept_by_lem : (e : Event) (held : List ℕ) (w : Reception) (p : List ℕ) (ps : List (List ℕ))
+frames_held-event : (e : Event) (held : List ℕ) (w : Reception) (p : List ℕ) (ps : List (List ℕ))
     → (receive_of w.state p (length w.store)).event ≡ e → frames_held held w (p ∷ ps) ≡ kept_by e held w p ps
 unfolding frames_held
-kept_by_lem e held w p ps q = ap (λ (x : Event). kept_by x held w p ps) q
+frames_held-event e held w p ps q = ap (λ (x : Event). kept_by x held w p ps) q
 
 module _ (number pid : ℕ) where
   abbrev kind : Kind
@@ -91,7 +91,7 @@ module _ (number pid : ℕ) where
   stored_kept held from k w (p ∷ ps) later s o h (more (l, u) fit) =
       let d = not_good kind pid p u in
       let q : k < slots = omega arith in
-      kept_by_lem Event.Stored held w p (ps ++ later) (stored_event from k w p s (l, u) o q)
+      frames_held-event Event.Stored held w p (ps ++ later) (stored_event from k w p s (l, u) o q)
       ∙ stored_kept held from (k + 1) (after_packet w p) ps later (bad_set kind pid w s p l d)
       (stored_stage kind pid w s p l d from k o q u) (omega arith) fit
 
@@ -108,11 +108,11 @@ module _ (number pid : ℕ) where
       → Brings n held w owed → frames_held held w (slot 0 f ∷ ps) ≡ owed ++ frames_held (slot 0 f) (after_packet w (slot 0 f)) ps
   unfolding row_of
   header_kept n held f w owed ps s g (nothing e) =
-      kept_by_lem Event.Opened held w (slot 0 f) ps (good_event kind pid n (slot 0 f) w s g.header ∙ ap (λ (x : Stage). (row_of slots x good n).event) e)
+      frames_held-event Event.Opened held w (slot 0 f) ps (good_event kind pid n (slot 0 f) w s g.header ∙ ap (λ (x : Stage). (row_of slots x good n).event) e)
   header_kept n held f w owed ps s g (frame x from o h c e) =
       let step : (from + 0 + 1) % 16 ≡ n = omega (arith, c) in
       let v = row_opens slots good n o ∙ vouched_row slots from slots n (rw (eq-eqb slots slots refl) (step_one from 0 n h (omega arith) step)) in
-      kept_by_lem Event.Ready held w (slot 0 f) ps (good_event kind pid n (slot 0 f) w s g.header ∙ ap (λ (r : Row). r.event) v)
+      frames_held-event Event.Ready held w (slot 0 f) ps (good_event kind pid n (slot 0 f) w s g.header ∙ ap (λ (r : Row). r.event) v)
       ∙ ap (λ (y : List ℕ). y ∷ frames_held (slot 0 f) (after_packet w (slot 0 f)) ps)
       (ap (λ (y : List ℕ). held ++ y) (good_store kind pid n (slot 0 f) w s g.header) ∙ e)
 
@@ -212,7 +212,7 @@ module _ (kind : Kind) (pid : ℕ) where
       let opens : opens_frame (receive_event b.state p b.store) ≡ opens_by (receive_of w.state p (length w.store)).event =
       ap opens_frame event ∙ opens_number (receive_of w.state p (length w.store)).event in
       ap₂ (λ (x y : List (List ℕ)). x ++ y)
-      (ap₂ (λ (c : Bool) (l : List ℕ). cond c ((held ++ l) ∷ []) []) (says_ready_lem kind pid b w t p) next.store_is)
+      (ap₂ (λ (c : Bool) (l : List ℕ). cond c ((held ++ l) ∷ []) []) (says_ready-tuned kind pid b w t p) next.store_is)
       (ap (λ (c : Bool). frames_kept (cond c p held) (heard b p) ps) opens
       ∙ kept_alike (cond (opens_by (receive_of w.state p (length w.store)).event) p held) (heard b p) (after_packet w p) next ps)
 

@@ -33,7 +33,7 @@ use Rattle.runs.specs.Runs.{Each, none, more}
 use Rattle.runs.specs.Demands.{frames_closed}
 use Rattle.runs.proofs.Carried.{slot-first, slot_next}
 use Rattle.runs.specs.Work.{Work, numbers_filled, said as said_by, headed_behind, headed, frame_of}
-use Rattle.runs.proofs.Composed.{Good, header_read, frame_length_lem}
+use Rattle.runs.proofs.Composed.{Good, header_read, length_frame_of}
 use Rattle.runs.proofs.Vouched.{accepted_reading}
 use Rattle.runs.proofs.Cycles.{the_pid, the_packet, packet_long, fit_packet, one_slot, Takes, one_takes, work_of, run_of, run-frames, run_good}
 use Rattle.bond_places.specs.Order.{frame_packets}
@@ -108,7 +108,7 @@ module _ (position counter version : ℕ) where
       let r = accepted_reading Kind.Extended the_pid (slot 0 f) h.0 (header_read Kind.Extended the_pid h g) in
       let s = shown Kind.Extended the_pid (slot 0 f) r.0 in
       record {
-        long = frame_length_lem Kind.Extended the_pid h g;
+        long = length_frame_of Kind.Extended the_pid h g;
         checks = s.checks;
         shows = ap shown_by r.1 ∙ shows_it;
         carried = ap (carries the_bond) r.1 ∙ carries_it;
@@ -178,9 +178,9 @@ module _ (f₁ f₂ f₃ : List ℕ) (s₁ : Says 1 f₁) (s₂ : Says 2 f₂) (
   unfolding call_checks
   called = rw group-long (more refl (more refl (more refl none)))
 
-  group_id_lem : (said group 0).group_id ≡ 0
+  first_group_id : (said group 0).group_id ≡ 0
   unfolding shown_by one_slot
-  group_id_lem = ap (λ (x : Setting). x.group_id) (said_is 0 (omega arith)) ∙ ap (λ x. x.group_id) s₁.shows
+  first_group_id = ap (λ (x : Setting). x.group_id) (said_is 0 (omega arith)) ∙ ap (λ x. x.group_id) s₁.shows
 
   shows_at : (j position : ℕ) → j < 3 → Says position (get_or frames j []) → shown_by (said group j) ≡ shown_by (at position)
   shows_at j position l s = ap shown_by (said_is j l) ∙ s.shows
@@ -191,7 +191,7 @@ module _ (f₁ f₂ f₃ : List ℕ) (s₁ : Says 1 f₁) (s₂ : Says 2 f₂) (
   unfolding header_checks
   head_none j position l s stands =
       none_append (subst (λ (p : List ℕ). NoneHolds (read_checks Kind.Extended the_pid p)) (sym (head_at frames j each_long l)) s.checks)
-      (rw (group_id_lem, shows_at j position l s) stands)
+      (rw (first_group_id, shows_at j position l s) stands)
 
   first_stands : NoneHolds (standing_checks 1 0 (before group 0) (shown_by (at 1)))
   unfolding standing_checks before shown_by blank is_end is_last next_carrier next_position one_slot

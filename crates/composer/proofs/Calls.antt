@@ -23,10 +23,10 @@ module _ (state setting frame : List ℕ) (l : length state ≡ composer_length)
   unfolding begin_refused begin_of answer
   begin_answer = rw (eq-eqb (length state) composer_length l, eq-eqb (length setting) setting_length t) e
 
-  pub begin_refused_lem : (refusal ≡ 0 → ⊥)
+  pub when_begin_refused : (refusal ≡ 0 → ⊥)
       → (refusal ≡ begin_refused state setting frame) × ((state ≡ begin_state state setting frame) × (frame ≡ begin_memory state setting frame))
   unfolding begin_state begin_memory begun_frame
-  begin_refused_lem h =
+  when_begin_refused h =
       (begin_answer, (kept begin_answer _ state h, rw (eq-eqb (length state) composer_length l, eq-eqb (length setting) setting_length t) (kept e _ frame h)))
 
   pub begin_done : refusal ≡ 0 → {bytes memory : List ℕ} → bytes ≡ composer_bytes (opened (composer_of state) (setting_of setting)) → memory ≡ cleared (slots_of (composer_of state).kind) frame
@@ -49,11 +49,11 @@ module _ (state : List ℕ) (n : ℕ) (stream frame : List ℕ) (l : length stat
   unfolding put_refused put_of
   put-answer = rw (eq-eqb (length state) composer_length l) e
 
-  pub put_refused_lem : (refusal ≡ 0 → ⊥)
+  pub when_put_refused : (refusal ≡ 0 → ⊥)
       → (refusal ≡ put_refused state n stream frame)
       × ((0 ≡ put_placed state n stream frame) × ((state ≡ put_state state n stream frame) × (frame ≡ put_memory state n stream frame)))
   unfolding put_placed put_state put_memory put_of put_frame
-  put_refused_lem h =
+  when_put_refused h =
       (put-answer, (rw (eq-eqb (length state) composer_length l, ne_eqb _ 0 (λ z. h (e ∙ z))) refl, (kept put-answer _ state h, rw (eq-eqb (length state) composer_length l) (kept e _ frame h))))
 
   pub put_done : refusal ≡ 0 → {placed : ℕ} {bytes memory : List ℕ}
@@ -73,13 +73,13 @@ module _ (state frame : List ℕ) (l : length state ≡ composer_length) {n : �
   unfolding close_refused close_of answer
   close_answer = rw (eq-eqb (length state) composer_length l) e
 
-  close_memory_lem : {memory : List ℕ} → memory ≡ closed_frame (composer_of state) frame → memory ≡ close_memory state frame
+  close_memory_from_frame : {memory : List ℕ} → memory ≡ closed_frame (composer_of state) frame → memory ≡ close_memory state frame
   unfolding close_memory
-  close_memory_lem f = rw (eq-eqb (length state) composer_length l) f
+  close_memory_from_frame f = rw (eq-eqb (length state) composer_length l) f
 
-  pub close_refused_lem : (n ≡ 0 → ⊥) → (n ≡ close_refused state frame) × ((state ≡ close_state state frame) × (frame ≡ close_memory state frame))
+  pub when_close_refused : (n ≡ 0 → ⊥) → (n ≡ close_refused state frame) × ((state ≡ close_state state frame) × (frame ≡ close_memory state frame))
   unfolding close_state closed_frame
-  close_refused_lem h = (close_answer, (kept close_answer _ state h, close_memory_lem (kept e _ frame h)))
+  when_close_refused h = (close_answer, (kept close_answer _ state h, close_memory_from_frame (kept e _ frame h)))
 
   pub close_done : {bytes memory : List ℕ} → n ≡ 0 → bytes ≡ composer_bytes (closed (composer_of state))
       → memory ≡ header (composer_of state).kind (composer_of state).pid (closing (composer_of state)) ++ drop packet_length frame
@@ -88,5 +88,5 @@ module _ (state frame : List ℕ) (l : length state ≡ composer_length) {n : �
   close_done z b f =
       let c = composer_of state in (
         sym z ∙ close_answer,
-        (b ∙ ap (λ (a : Answer). composer_bytes a.state) (granted e (closed c) c z) ∙ written close_answer _ state z, close_memory_lem (f ∙ written e _ frame z)),
+        (b ∙ ap (λ (a : Answer). composer_bytes a.state) (granted e (closed c) c z) ∙ written close_answer _ state z, close_memory_from_frame (f ∙ written e _ frame z)),
       )

@@ -139,7 +139,7 @@ module _ (c : Composer) (n : Long-state c) where
 pub state_back : StateBack
 state_back c t =
     back c
-    (record { streams = (t.ts_id_lem.0, t.network_id.0, t.statuses.0); setting = long c.setting t.setting; marks = t.marks })
+    (record { streams = (t.ts_ids.0, t.network_id.0, t.statuses.0); setting = long c.setting t.setting; marks = t.marks })
     (setting_back c.setting t.setting)
 
 -- ---- bytes that are no state's

@@ -39,7 +39,7 @@ length_composer c t =
     let a = announced_bytes c.last in
     let s = setting_bytes c.setting in
     let m = map mark_byte c.filled in
-    let la : length a ≡ announced_length = length-announced c.last (t.ts_id_lem.0, t.network_id.0, t.statuses.0) in
+    let la : length a ≡ announced_length = length-announced c.last (t.ts_ids.0, t.network_id.0, t.statuses.0) in
     let ls : length s ≡ setting_length = length_setting c.setting (long c.setting t.setting) in
     let lm : length m ≡ last_slot = length-map c.filled mark_byte ∙ t.marks in
     rw (
@@ -80,11 +80,11 @@ module _ (c : Composer) (t : OfItsTypes c) where
   types_kept =
       record {
         begun = λ s u lent.
-            one_of (eqb (begin_refusal c s lent) 0) (opened c s) c (record { ts_id_lem = t.ts_id_lem; network_id = t.network_id; statuses = t.statuses; setting = u; marks = refl }) t;
+            one_of (eqb (begin_refusal c s lent) 0) (opened c s) c (record { ts_ids = t.ts_ids; network_id = t.network_id; statuses = t.statuses; setting = u; marks = refl }) t;
         filled = λ r stream lent.
             one_of (eqb (put_refusal c r stream lent) 0) (marked c (marks_after r c.setting.relative_ts_number c.filled stream)) c
             (record {
-              ts_id_lem = t.ts_id_lem;
+              ts_ids = t.ts_ids;
               network_id = t.network_id;
               statuses = t.statuses;
               setting = t.setting;
@@ -94,7 +94,7 @@ module _ (c : Composer) (t : OfItsTypes c) where
         closed = λ lent.
             one_of (eqb (close_refusal c lent) 0) (closed c) c
             (record {
-              ts_id_lem = t.setting.ts_id_lem;
+              ts_ids = t.setting.ts_ids;
               network_id = t.setting.network_id;
               statuses = t.setting.statuses;
               setting = blank_types;

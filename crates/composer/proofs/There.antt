@@ -21,8 +21,8 @@ use Rattle.composer.specs.States.{composer_length, marks_of, composer_of, filled
 use Rattle.counters.specs.Counters.{last_slot}
 
 -- a byte of a part
-pub byte_in_lem : (k n i : ℕ) (b : List ℕ) → i < n → get_or (part k n b) i 0 ≡ get_or b (k + i) 0
-byte_in_lem k n i b h = get_or-take n (drop k b) i 0 h ∙ get_or-drop k b i 0
+pub get_or-part : (k n i : ℕ) (b : List ℕ) → i < n → get_or (part k n b) i 0 ≡ get_or b (k + i) 0
+get_or-part k n i b h = get_or-take n (drop k b) i 0 h ∙ get_or-drop k b i 0
 
 -- what was lent is the list's end, and came back as ys
 pub put_end : (i k : ℕ) (l ys : List ℕ) → length l ≡ i + k → put i k l ys ≡ take i l ++ ys
@@ -47,8 +47,8 @@ module _ (b : List ℕ) (long : length b ≡ composer_length) where
         eq-eqb (length (part setting_at setting_length b)) setting_length setting_long,
         eq-eqb (length (part announced_at announced_length (part setting_at setting_length b))) announced_length (length_part announced_at announced_length (part setting_at setting_length b) (omega (arith, setting_long))),
         part_inside announced_at announced_length setting_at setting_length b (omega arith),
-        byte_in_lem said_at announced_length 2 b (omega arith),
-        byte_in_lem said_at announced_length 3 b (omega arith),
+        get_or-part said_at announced_length 2 b (omega arith),
+        get_or-part said_at announced_length 3 b (omega arith),
       ) refl
 
 -- its filled slots

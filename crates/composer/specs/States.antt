@@ -59,7 +59,7 @@ plan_at = setting_at + numbers_at
 
 -- what the code's types guarantee of a state's lists and its setting
 pub record OfItsTypes (c : Composer) : Type 0 where
-  pub ts_id_lem : Array last_stream 16 c.last.ts_id
+  pub ts_ids : Array last_stream 16 c.last.ts_id
   pub network_id : Array last_stream 16 c.last.original_network_id
   pub statuses : Array last_stream 8 c.last.receive_status
   pub setting : SettingOfItsTypes c.setting

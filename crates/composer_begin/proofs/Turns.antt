@@ -58,10 +58,10 @@ one_turn {m} true b g f f' e = sym (lesser_left g (next b (le_refl m) f'))
 one_turn false true g f f' e = sym (lesser_right g f)
 one_turn false false g f f' e = e
 
-pub in_turn_lem : {n : ℕ} {cs ds : List Check} → 1 ≤ n → Rising n cs ds → first_of (in_turn cs ds) ≡ lesser (first_of cs) (first_of ds)
+pub first_of-in_turn : {n : ℕ} {cs ds : List Check} → 1 ≤ n → Rising n cs ds → first_of (in_turn cs ds) ≡ lesser (first_of cs) (first_of ds)
 unfolding first_of in_turn
-in_turn_lem g end = refl
-in_turn_lem g (step n m {a} {b} h r) = one_turn a b (omega arith) (first-from r).0 (first-from r).1 (in_turn_lem (omega arith) r)
+first_of-in_turn g end = refl
+first_of-in_turn g (step n m {a} {b} h r) = one_turn a b (omega arith) (first-from r).0 (first-from r).1 (first_of-in_turn (omega arith) r)
 
 -- the rules of two settings of one kind
 pub rules_rise : (kind : Kind) (s t : Setting) (b : Bool) → Rising 1 (asked b (rule_checks kind s)) (rule_checks kind t)

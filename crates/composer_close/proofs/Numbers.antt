@@ -10,13 +10,13 @@ use Rattle.composer.specs.Slots.{numbers_of}
 use Rattle.composer.specs.States.{marks_of}
 
 -- the number of slot i + 1, by the byte that marks it
-pub numbers_at_lem : (ns filled : List ℕ) (i : ℕ) → i < length ns → i < length filled
+pub numbers_of-at : (ns filled : List ℕ) (i : ℕ) → i < length ns → i < length filled
     → get_or (numbers_of ns (marks_of filled)) i 0 ≡ cond (eqb (get_or filled i 0) 1) (get_or ns i 0) 0
 unfolding numbers_of
-numbers_at_lem [] filled i h g = absurd (omega arith)
-numbers_at_lem (n ∷ ns) [] i h g = absurd (omega arith)
-numbers_at_lem (n ∷ ns) (f ∷ filled) zero h g = refl
-numbers_at_lem (n ∷ ns) (f ∷ filled) (suc i) h g = numbers_at_lem ns filled i (omega arith) (omega arith)
+numbers_of-at [] filled i h g = absurd (omega arith)
+numbers_of-at (n ∷ ns) [] i h g = absurd (omega arith)
+numbers_of-at (n ∷ ns) (f ∷ filled) zero h g = refl
+numbers_of-at (n ∷ ns) (f ∷ filled) (suc i) h g = numbers_of-at ns filled i (omega arith) (omega arith)
 
 -- there are as many as slots
 pub length_numbers : (ns filled : List ℕ) → length ns ≡ length filled → length (numbers_of ns (marks_of filled)) ≡ length ns

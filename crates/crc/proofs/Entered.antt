@@ -29,8 +29,8 @@ more_gone {n} {w} {x} {i} {r} b h l g a same = record {
     before : w - i ≡ w - (i + b) + b
     before = omega arith
 
-pub all_gone_lem : {n w x i r : ℕ} → w ≤ i → Gone n w x i r → Ahead n w x r
-all_gone_lem {n} {w} {x} {i} {r} done g =
+pub when_all_gone : {n w x i r : ℕ} → w ≤ i → Gone n w x i r → Ahead n w x r
+when_all_gone {n} {w} {x} {i} {r} done g =
     subst (λ (v : ℕ). Ahead n w v r) (ap (λ (j : ℕ). x / 2 ^ j) (sub_self w) ∙ div-one x) (subst (λ (j : ℕ). Ahead n j (x / 2 ^ (w - j)) r) all g.gone)
   where
     all : i ≡ w

@@ -37,5 +37,5 @@ bytes_again pid kind packet setting buffer bytes e l =
     let again = written_again k pid packet buffer bytes n.1 l in
     let left : read_memory packet pid kind setting ≡ setting_bytes s = rw (e, n.1) in
     let long : length (setting_bytes s) ≡ setting_length = length_setting s (reading-long k packet) in
-    let call = right_call (length buffer) (length (setting_bytes s)) pid kind (record { packet_long = l; setting_long = long; pid-allowed = c.pid-allowed; is_kind_lem = c.is_kind_lem }) in
+    let call = right_call (length buffer) (length (setting_bytes s)) pid kind (record { packet_long = l; setting_long = long; pid-allowed = c.pid-allowed; known_kind = c.known_kind }) in
     rw (left, call, back s (reading-long k packet)) (rw n.1 at again)

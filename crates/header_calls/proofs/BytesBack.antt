@@ -23,10 +23,10 @@ unfolding write_refused write_memory read_refused read_memory then_refused leave
 bytes_back pid kind setting packet buffer m p l =
     let s = setting_of setting in
     let w = written_and_read_back (kind_of kind) pid s packet (setting_typed setting m.bytes) m.rules p in
-    let call = right_call (length packet) (length setting) pid kind (record { packet_long = p; setting_long = m.long; pid-allowed = m.rules.pid-allowed; is_kind_lem = m.is_kind_lem }) in
+    let call = right_call (length packet) (length setting) pid kind (record { packet_long = p; setting_long = m.long; pid-allowed = m.rules.pid-allowed; known_kind = m.known_kind }) in
     let is : write_memory packet pid kind setting ≡ written (kind_of kind) pid s packet = rw call in
     let long : length (written (kind_of kind) pid s packet) ≡ header_length = rw w.0 (length-header (kind_of kind) pid s) in
-    let again = right_call (length (written (kind_of kind) pid s packet)) (length buffer) pid kind (record { packet_long = long; setting_long = l; pid-allowed = m.rules.pid-allowed; is_kind_lem = m.is_kind_lem }) in
+    let again = right_call (length (written (kind_of kind) pid s packet)) (length buffer) pid kind (record { packet_long = long; setting_long = l; pid-allowed = m.rules.pid-allowed; known_kind = m.known_kind }) in
     let accepted = number_is (kind_of kind) pid (written (kind_of kind) pid s packet) ∙ ap (λ (x : Reading). x.refusal.number) w.1 in
     let refusal : read_refused (written (kind_of kind) pid s packet) pid kind buffer ≡ 0 = rw again accepted in (
       rw (call, w.0) refl,

@@ -17,7 +17,7 @@ pub record Called (packet setting pid kind : ℕ) : Type 0 where
   pub packet_long : packet ≡ header_length
   pub setting_long : setting ≡ setting_length
   pub pid-allowed : pid_allowed pid ≡ true
-  pub is_kind_lem : is_kind kind ≡ true
+  pub known_kind : is_kind kind ≡ true
 
 module _ (packet setting pid kind : ℕ) where
   pub called : call_refused packet setting pid kind ≡ 0 → Called packet setting pid kind
@@ -28,7 +28,7 @@ module _ (packet setting pid kind : ℕ) where
         packet_long = eqb-true packet header_length (not-false _ (none_at n 0));
         setting_long = eqb-true setting setting_length (not-false _ (none_at n 1));
         pid-allowed = not-false (pid_allowed pid) (none_at n 2);
-        is_kind_lem = not-false (is_kind kind) (none_at n 3);
+        known_kind = not-false (is_kind kind) (none_at n 3);
       }
 
   pub right_call : Called packet setting pid kind → call_refused packet setting pid kind ≡ 0
@@ -36,4 +36,4 @@ module _ (packet setting pid kind : ℕ) where
   right_call c =
       first_none
       (more (ap not (eq-eqb packet header_length c.packet_long)) (more (ap not (eq-eqb setting setting_length c.setting_long))
-      (more (ap not c.pid-allowed) (more (ap not c.is_kind_lem) none))))
+      (more (ap not c.pid-allowed) (more (ap not c.known_kind) none))))

@@ -27,9 +27,9 @@ module _ (packet : List ℕ) (pid kind : ℕ) (setting : List ℕ) where
       (n ≡ read_refused packet pid kind setting)
       × ((remainder ≡ read_remainder packet pid kind setting) × (after ≡ read_memory packet pid kind setting))
 
-  pub call_refused_lem : {n : ℕ} → n ≡ call_refused (length packet) (length setting) pid kind → (n ≡ 0 → ⊥) → Answers n 0 setting
+  pub when_call_refused : {n : ℕ} → n ≡ call_refused (length packet) (length setting) pid kind → (n ≡ 0 → ⊥) → Answers n 0 setting
   unfolding read_refused read_remainder read_memory then_refused leaves refusal_by
-  call_refused_lem {n} e h =
+  when_call_refused {n} e h =
       let stops = ne_eqb n 0 h in
       let seven = ne_eqb n 7 (λ z. not_of_call (length packet) (length setting) pid kind (sym e ∙ z)) in
       rw (sym e, stops, stops, seven) (refl, (refl, refl))

@@ -10,7 +10,7 @@ use Rattle.header_calls.specs.Calls.{write_refused, write_memory, read_refused, 
 
 -- 298 bytes that say a setting which meets the rules
 pub record Meets (pid kind : ℕ) (setting : List ℕ) : Type 0 where
-  pub is_kind_lem : is_kind kind ≡ true
+  pub known_kind : is_kind kind ≡ true
   pub bytes : Fit 8 setting
   pub long : length setting ≡ setting_length
   pub rules : MeetsRules (kind_of kind) pid (setting_of setting)

@@ -49,11 +49,11 @@ numbered_read kind pid p = numbered_append (reserved_checks kind p) (rule_checks
 pub record Shown (kind : Kind) (pid : ℕ) (p : List ℕ) : Type 0 where
   pub whole : length p ≡ header_length
   pub allowed : pid_allowed pid ≡ true
-  pub sync : value kind p Field.sync_byte_lem ≡ sync_byte
+  pub sync : value kind p Field.sync_byte_field ≡ sync_byte
   pub zeros : value kind p Field.zeros ≡ 0
   pub pid-row : value kind p Field.header-pid ≡ pid
   pub payload : value kind p Field.payload ≡ 1
-  pub tsmf : value kind p Field.tsmf_sync_lem ≡ tsmf_sync
+  pub tsmf : value kind p Field.tsmf_sync_field ≡ tsmf_sync
   pub register : register_of (drop 4 p) ≡ 0
   pub checks : NoneHolds (read_checks kind pid p)
   pub reserved : NoneHolds (reserved_checks kind p)
@@ -130,7 +130,7 @@ module _ (kind : Kind) (pid : ℕ) (p : List ℕ) (a : Shown kind pid p) where
       record {
         pid-allowed = a.allowed;
         fields =
-            none_append (more (narrow Field.counter (omega arith)) (more (narrow Field.version (omega arith)) (more (narrow Field.slot_type (omega arith)) (more (narrow Field.frame_type_lem (omega arith))
+            none_append (more (narrow Field.counter (omega arith)) (more (narrow Field.version (omega arith)) (more (narrow Field.slot_type (omega arith)) (more (narrow Field.frame_type_field (omega arith))
             (more streams_fit
             (more (some_fit 2 (resized last_stream (values kind p Field.statuses)) (fit_resized last_stream (filled Field.statuses (omega arith)).1)) (more (narrow Field.emergency (omega arith))
             (more (ap not (eq-eqb (available % 2 ^ streams_beyond (size_of kind)) 0 beyond))

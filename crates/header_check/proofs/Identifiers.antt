@@ -23,7 +23,7 @@ use Rattle.setting_pairs.specs.Identifiers.{ids_apart}
 use Rattle.setting_pairs.proofs.Apart.{length_apart, apart_at}
 use Rattle.header_layout.specs.Layout.{Field, identifiers_start}
 use Rattle.header_layout.specs.Header.{header_length, firsts, seconds, value, reading}
-use Rattle.header_layout.proofs.Cut.{word_at_lem, length_part}
+use Rattle.header_layout.proofs.Cut.{number-word_at, length_part}
 use Rattle.header_layout.proofs.LaidOut.{private_before}
 use Rattle.header_layout.proofs.Said.{identifiers}
 
@@ -34,7 +34,7 @@ first-ids zero b f h = refl
 first-ids (suc n) (w ∷ x ∷ y ∷ z ∷ b) f h =
     let two : 2 * suc n ≡ suc (suc (2 * n)) = omega arith in
     rw two
-    (ap₂ (λ (i : ℕ) (l : List ℕ). i ∷ l) (sym (word_at_lem (w ∷ x ∷ y ∷ z ∷ b) 0 f (omega arith))) (first-ids n b (fit_drop 4 f) (omega arith)))
+    (ap₂ (λ (i : ℕ) (l : List ℕ). i ∷ l) (sym (number-word_at (w ∷ x ∷ y ∷ z ∷ b) 0 f (omega arith))) (first-ids n b (fit_drop 4 f) (omega arith)))
 first-ids (suc n) [] f h = absurd (omega arith)
 first-ids (suc n) (w ∷ []) f h = absurd (omega arith)
 first-ids (suc n) (w ∷ x ∷ []) f h = absurd (omega arith)
@@ -47,7 +47,7 @@ second-ids zero b f h = refl
 second-ids (suc n) (w ∷ x ∷ y ∷ z ∷ b) f h =
     let two : 2 * suc n ≡ suc (suc (2 * n)) = omega arith in
     rw two
-    (ap₂ (λ (i : ℕ) (l : List ℕ). i ∷ l) (sym (word_at_lem (w ∷ x ∷ y ∷ z ∷ b) 2 f (omega arith))) (second-ids n b (fit_drop 4 f) (omega arith)))
+    (ap₂ (λ (i : ℕ) (l : List ℕ). i ∷ l) (sym (number-word_at (w ∷ x ∷ y ∷ z ∷ b) 2 f (omega arith))) (second-ids n b (fit_drop 4 f) (omega arith)))
 second-ids (suc n) [] f h = absurd (omega arith)
 second-ids (suc n) (w ∷ []) f h = absurd (omega arith)
 second-ids (suc n) (w ∷ x ∷ []) f h = absurd (omega arith)
@@ -103,8 +103,8 @@ any_alike (suc n) f g same = ap₂ ◌||◌ (any_alike n f g (λ k h. same k (om
 
 -- lists that agree in the identifiers of the first n streams have the same pairs twice, if no other stream is available
 module _ (availability n : ℕ) (ts us os vs : List ℕ) (left : availability % 2 ^ (last_stream - n) ≡ 0) (same_ts : (k : ℕ) → k < n → get_or ts k 0 ≡ get_or us k 0) (same_os : (k : ℕ) → k < n → get_or os k 0 ≡ get_or vs k 0) where
-  same_pair_lem : (j i : ℕ) → i < j → same_pair availability ts os i j ≡ same_pair availability us vs i j
-  same_pair_lem j i h = by (dec_lt j n)
+  same_pair-alike : (j i : ℕ) → i < j → same_pair availability ts os i j ≡ same_pair availability us vs i j
+  same_pair-alike j i h = by (dec_lt j n)
     where
       by : Dec (j < n) → same_pair availability ts os i j ≡ same_pair availability us vs i j
       by (yes l) = rw (same_ts i (omega arith), same_ts j l, same_os i (omega arith), same_os j l) refl
@@ -113,7 +113,7 @@ module _ (availability n : ℕ) (ts us os vs : List ℕ) (left : availability % 
   pub pairs_alike : length ts ≡ length us → pair_twice availability ts os ≡ pair_twice availability us vs
   unfolding pair_twice
   pairs_alike e =
-      any_alike (length ts) _ _ (λ j l. any_alike j _ _ (λ i h. same_pair_lem j i h))
+      any_alike (length ts) _ _ (λ j l. any_alike j _ _ (λ i h. same_pair-alike j i h))
       ∙ ap (λ (m : ℕ). any_below m (λ j. any_below j (λ i. same_pair availability us vs i j))) e
 
 -- ---- in a header

@@ -92,9 +92,9 @@ module _ (kind : Kind) (pid : ℕ) (s : Setting) (t : OfItsTypes s) (m : MeetsRu
         continuity_counter = value_back Field.counter (omega arith) i;
         version_number = value_back Field.version (omega arith) i;
         slot_allocation_type = value_back Field.slot_type (omega arith) i;
-        frame_type = value_back Field.frame_type_lem (omega arith) i;
+        frame_type = value_back Field.frame_type_field (omega arith) i;
         availability = (ap (λ (v : ℕ). v * 2 ^ streams_beyond (size_of kind)) (value_back Field.streams (omega arith)) ∙ streams-whole) i;
-        ts_id = (ap (λ (l : List ℕ). resized last_stream (firsts l)) (row_back Field.identifiers (omega arith)) ∙ ap (resized last_stream) (firsts-paired (resized n s.ts_id) (resized n s.original_network_id) same_count) ∙ resized_back n last_stream s.ts_id t.ts_id_lem.0 few narrow.ts_behind) i;
+        ts_id = (ap (λ (l : List ℕ). resized last_stream (firsts l)) (row_back Field.identifiers (omega arith)) ∙ ap (resized last_stream) (firsts-paired (resized n s.ts_id) (resized n s.original_network_id) same_count) ∙ resized_back n last_stream s.ts_id t.ts_ids.0 few narrow.ts_behind) i;
         original_network_id = (ap (λ (l : List ℕ). resized last_stream (seconds l)) (row_back Field.identifiers (omega arith)) ∙ ap (resized last_stream) (seconds-paired (resized n s.ts_id) (resized n s.original_network_id) same_count) ∙ resized_back n last_stream s.original_network_id t.network_id.0 few narrow.network_behind) i;
         receive_status = (ap (resized last_stream) (row_back Field.statuses (omega arith)) ∙ resized_back n last_stream s.receive_status t.statuses.0 few narrow.statuses-behind) i;
         emergency_indicator = value_back Field.emergency (omega arith) i;
@@ -173,10 +173,10 @@ module _ (kind : Kind) (pid : ℕ) (s : Setting) (t : OfItsTypes s) (m : MeetsRu
   packet_none : NoneHolds (packet_checks pid (header kind pid s))
   unfolding laid_out packet_checks row_at place
   packet_none =
-      more (ap not (shown Field.sync_byte_lem (omega arith)))
+      more (ap not (shown Field.sync_byte_field (omega arith)))
       (more (ap not (shown Field.header-pid (omega arith)))
       (more (ap₂ (λ (x y : Bool). not (x && y)) (shown Field.zeros (omega arith)) (shown Field.payload (omega arith)))
-      (more (ap not (shown Field.tsmf_sync_lem (omega arith)))
+      (more (ap not (shown Field.tsmf_sync_field (omega arith)))
       (more (ap not (eq-eqb (register_of (drop 4 (header kind pid s))) 0 (register_header kind pid s (suits kind pid s t m)))) none))))
     where
       shown : (f : Field) → row_with f (table kind) < length (layout kind)

@@ -55,9 +55,9 @@ module _ (kind : Kind) (pid : ℕ) (s : Setting) (t : OfItsTypes s) (m : MeetsRu
       let narrow = narrow kind (none_before (width_checks kind s) (rule_checks kind s) m.fields) in
       next (fills_one (lit< tt)) (next (fills_one (lit< tt)) (next (fills_one pid_fits) (next (fills_one (lit< tt)) (next (fills_one narrow.counter)
       (next (fills_one (lit< tt)) (next (fills_one (lit< tt))
-      (next (fills_one narrow.version) (next (fills_one narrow.slot_type) (next (fills_one narrow.frame_type_lem)
+      (next (fills_one narrow.version) (next (fills_one narrow.slot_type) (next (fills_one narrow.frame_type_fits)
       (next (fills_one (streams_fit narrow.streams)) (next (fills_one (lit< tt))
-      (next (pairs, fit_paired (fit_resized n t.ts_id_lem.1) (fit_resized n t.network_id.1))
+      (next (pairs, fit_paired (fit_resized n t.ts_ids.1) (fit_resized n t.network_id.1))
       (next (length-resized n s.receive_status, fit_resized n narrow.statuses) (next (fills_one (lit< tt)) (next (fills_one narrow.emergency)
       (next (length-resized (size_of kind).slots s.relative_ts_number, fit_resized (size_of kind).slots narrow.numbers) behind))))))))))))))))
     where

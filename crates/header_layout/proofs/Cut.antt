@@ -55,8 +55,8 @@ module _ (p : List ℕ) (at off w r : ℕ) where
       ∙ field_in off w r (word_at p at) (run 8 (drop (suc (suc at)) p))
 
 -- two whole bytes
-pub word_at_lem : (p : List ℕ) (at : ℕ) → Fit 8 p → suc at < length p → number (take 16 (drop (at * 8) (run 8 p))) ≡ word_at p at
-word_at_lem p at f h =
+pub number-word_at : (p : List ℕ) (at : ℕ) → Fit 8 p → suc at < length p → number (take 16 (drop (at * 8) (run 8 p))) ≡ word_at p at
+number-word_at p at f h =
     ap (λ (n : ℕ). number (take 16 (drop n (run 8 p)))) (sym (add-zero (at * 8))) ∙ word_field p at 0 16 0 f h refl
     ∙ omega (arith, fit_get_d f at, fit_get_d f (suc at))
 

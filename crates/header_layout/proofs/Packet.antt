@@ -34,9 +34,9 @@ pub both_agree : {v w x y : ℕ} (m n : ℕ) → v ≡ x → x ≡ m → w ≡ y
 both_agree {v} {w} m n e h f g = ap₂ (λ (a b : Bool). not (a && b)) (eq-eqb v m (e ∙ h)) (eq-eqb w n (f ∙ g))
 
 module _ (p : List ℕ) (f : Fit 8 p) (l : length p ≡ header_length) where
-  pub sync_byte_lem : start_value p Field.sync_byte_lem ≡ get_or p 0 0
+  pub reads_sync_byte : start_value p Field.sync_byte_field ≡ get_or p 0 0
   unfolding start_table row_with decide row_at place cut
-  sync_byte_lem = byte_field p 0 0 8 0 (omega arith) refl ∙ omega (arith, fit_get_d f 0)
+  reads_sync_byte = byte_field p 0 0 8 0 (omega arith) refl ∙ omega (arith, fit_get_d f 0)
 
   pub zeros : start_value p Field.zeros ≡ get_or p 1 0 / 32
   unfolding start_table row_with decide row_at place cut
@@ -50,9 +50,9 @@ module _ (p : List ℕ) (f : Fit 8 p) (l : length p ≡ header_length) where
   unfolding start_table row_with decide row_at place cut
   one = byte_field p 3 0 4 4 (omega arith) refl ∙ omega (arith, fit_get_d f 3)
 
-  pub tsmf_sync_lem : start_value p Field.tsmf_sync_lem ≡ word_at p 4 % 8192
+  pub reads_tsmf_sync : start_value p Field.tsmf_sync_field ≡ word_at p 4 % 8192
   unfolding start_table row_with decide row_at place cut
-  tsmf_sync_lem = word_field p 4 3 13 0 f (omega arith) refl ∙ omega arith
+  reads_tsmf_sync = word_field p 4 3 13 0 f (omega arith) refl ∙ omega arith
 
 pub packet_none : (pid : ℕ) (p : List ℕ) → first_of (packet_checks pid p) ≡ 0 → NoneHolds (packet_checks pid p)
 unfolding packet_checks

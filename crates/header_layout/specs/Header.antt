@@ -49,15 +49,15 @@ streams_beyond z = last_stream - z.streams
 -- what stands in a line's row of a setting's header of this size. Reserved bits are ones
 unfoldable pub held : Size → ℕ → Setting → Line → List ℕ
 held z pid s (Field.reserved, r) = all_ones r
-held z pid s (Field.sync_byte_lem, r) = one sync_byte
+held z pid s (Field.sync_byte_field, r) = one sync_byte
 held z pid s (Field.zeros, r) = one 0
 held z pid s (Field.header-pid, r) = one pid
 held z pid s (Field.payload, r) = one 1
 held z pid s (Field.counter, r) = one s.continuity_counter
-held z pid s (Field.tsmf_sync_lem, r) = one tsmf_sync
+held z pid s (Field.tsmf_sync_field, r) = one tsmf_sync
 held z pid s (Field.version, r) = one s.version_number
 held z pid s (Field.slot_type, r) = one s.slot_allocation_type
-held z pid s (Field.frame_type_lem, r) = one s.frame_type
+held z pid s (Field.frame_type_field, r) = one s.frame_type
 held z pid s (Field.streams, r) = one (s.availability / 2 ^ streams_beyond z)
 held z pid s (Field.identifiers, r) = paired (resized z.streams s.ts_id) (resized z.streams s.original_network_id)
 held z pid s (Field.statuses, r) = resized z.streams s.receive_status
@@ -107,7 +107,7 @@ reading kind p =
       continuity_counter = value kind p Field.counter;
       version_number = value kind p Field.version;
       slot_allocation_type = value kind p Field.slot_type;
-      frame_type = value kind p Field.frame_type_lem;
+      frame_type = value kind p Field.frame_type_field;
       availability = value kind p Field.streams * 2 ^ streams_beyond (size_of kind);
       ts_id = resized last_stream (firsts (values kind p Field.identifiers));
       original_network_id = resized last_stream (seconds (values kind p Field.identifiers));
@@ -138,10 +138,10 @@ remainder_of p = register_of (drop 4 p)
 -- 3 to 7: what the packet itself shows
 unfoldable pub packet_checks : ℕ → List ℕ → List Check
 packet_checks pid p =
-    (3, not (eqb (start_value p Field.sync_byte_lem) sync_byte))
+    (3, not (eqb (start_value p Field.sync_byte_field) sync_byte))
     ∷ (4, not (eqb (start_value p Field.header-pid) pid))
     ∷ (5, not (eqb (start_value p Field.zeros) 0 && eqb (start_value p Field.payload) 1))
-    ∷ (6, not (eqb (start_value p Field.tsmf_sync_lem) tsmf_sync))
+    ∷ (6, not (eqb (start_value p Field.tsmf_sync_field) tsmf_sync))
     ∷ (7, not (eqb (remainder_of p) 0))
     ∷ []
 

@@ -26,8 +26,8 @@ extended_bytes = auxiliary_bytes + 4 + reserved_bytes
 -- what a row can hold. `zeros` and `payload` are the packet header's bits 000 and 0001, `streams` is the availability of the streams
 pub data Field : Type 0 where
   reserved : Field
-  sync_byte_lem zeros header-pid payload counter : Field
-  tsmf_sync_lem version slot_type frame_type_lem streams : Field
+  sync_byte_field zeros header-pid payload counter : Field
+  tsmf_sync_field version slot_type frame_type_field streams : Field
   identifiers statuses emergency numbers : Field
   privates auxiliary group carriers sequence frames position : Field
   deriving Discrete as Field-discrete
@@ -39,9 +39,9 @@ Line = Field × Row
 -- packet_header, TSMF_sync, version_number and the types of slot_information: bytes 0 to 6, the same for every size
 unfoldable pub start_table : List Line
 start_table =
-    (sync_byte_lem, (8, 1)) ∷ (zeros, (3, 1)) ∷ (header-pid, (13, 1)) ∷ (payload, (4, 1)) ∷ (counter, (4, 1))
-    ∷ (reserved, (3, 1)) ∷ (tsmf_sync_lem, (13, 1))
-    ∷ (version, (3, 1)) ∷ (slot_type, (1, 1)) ∷ (frame_type_lem, (4, 1)) ∷ []
+    (sync_byte_field, (8, 1)) ∷ (zeros, (3, 1)) ∷ (header-pid, (13, 1)) ∷ (payload, (4, 1)) ∷ (counter, (4, 1))
+    ∷ (reserved, (3, 1)) ∷ (tsmf_sync_field, (13, 1))
+    ∷ (version, (3, 1)) ∷ (slot_type, (1, 1)) ∷ (frame_type_field, (4, 1)) ∷ []
 
 -- the rest of slot_information, bytes 7 to 8: the availability of each stream, stream 1 in the highest bit
 unfoldable pub stream_table : Size → List Line

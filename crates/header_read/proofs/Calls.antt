@@ -46,14 +46,14 @@ module _ (kind : Kind) (pid : ℕ) (p lent : List ℕ) (long : length lent ≡ s
   unfolding into_refused of_length
   refusal_into = rw (eq-eqb (length lent) setting_length long)
 
-  pub kept_by_lem : (read_refusal kind pid p ≡ 0 → ⊥) → into_memory kind pid p lent ≡ lent
+  pub when_refused : (read_refusal kind pid p ≡ 0 → ⊥) → into_memory kind pid p lent ≡ lent
   unfolding into_memory leaves refusal_by
-  kept_by_lem h = rw (refusal_into, ne_eqb (read_refusal kind pid p) 0 h)
+  when_refused h = rw (refusal_into, ne_eqb (read_refusal kind pid p) 0 h)
 
   pub written_by : read_refusal kind pid p ≡ 0 → into_memory kind pid p lent ≡ setting_bytes (reading kind p)
   unfolding into_memory leaves read_of refusal_by
   written_by e = rw (refusal_into, e)
 
   -- and say what the packet says
-  pub said_by_lem : read_refusal kind pid p ≡ 0 → setting_of (into_memory kind pid p lent) ≡ reading kind p
-  said_by_lem e = ap setting_of (written_by e) ∙ back (reading kind p) (reading-long kind p)
+  pub when_accepted : read_refusal kind pid p ≡ 0 → setting_of (into_memory kind pid p lent) ≡ reading kind p
+  when_accepted e = ap setting_of (written_by e) ∙ back (reading kind p) (reading-long kind p)

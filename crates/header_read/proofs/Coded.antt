@@ -38,7 +38,7 @@ pub reading-long : (kind : Kind) (p : List ℕ) → Long (reading kind p)
 unfolding reading
 reading-long kind p =
     record {
-      ts_id_lem = length-resized last_stream _;
+      ts_ids = length-resized last_stream _;
       network_id = length-resized last_stream _;
       statuses = length-resized last_stream _;
       numbers = length-resized last_slot _;

@@ -23,7 +23,7 @@ null_packet = 0x47 ∷ 0x1F ∷ 0xFF ∷ 0x10 ∷ replicate 184 0xFF
 
 -- whether a packet lacks 0x47 or bears the header PID
 unfoldable pub unfit : ℕ → List ℕ → Bool
-unfit pid p = not (eqb (start_value p Field.sync_byte_lem) sync_byte) || eqb (start_value p Field.header-pid) pid
+unfit pid p = not (eqb (start_value p Field.sync_byte_field) sync_byte) || eqb (start_value p Field.header-pid) pid
 
 -- 1: it is not 188 bytes long; 12: it is unfit; 0: it may stand in a slot
 unfoldable pub place_refusal : ℕ → List ℕ → ℕ

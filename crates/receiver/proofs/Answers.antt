@@ -75,9 +75,9 @@ module _ (state p store : List ℕ) where
       × ((event ≡ receive_event state p store)
       × ((remainder ≡ receive_remainder state p store) × ((after ≡ receive_state state p store) × (memory ≡ receive_memory state p store))))
 
-  pub receive_refused_lem : {n : ℕ} → n ≡ lent_refusal state (receive_refusal (receiver_of state) (length p) (length store)) → (n ≡ 0 → ⊥) → Receives n 0 0 state store
+  pub when_receive_refused : {n : ℕ} → n ≡ lent_refusal state (receive_refusal (receiver_of state) (length p) (length store)) → (n ≡ 0 → ⊥) → Receives n 0 0 state store
   unfolding lent_refusal of_length receive_refused receive_told receive_state receive_memory receive_of receive_store told
-  receive_refused_lem {n} e h = by_length (ℕ_discrete (length state) receiver_length)
+  when_receive_refused {n} e h = by_length (ℕ_discrete (length state) receiver_length)
     where
       by_length : Dec (length state ≡ receiver_length) → Receives n 0 0 state store
       by_length (yes l) =

@@ -66,7 +66,7 @@ module _ (c : Receiver) (h : Codable c) where
   on-bytes =
       record {
         receives = λ p store. rw (there, receiver_back c h) (refl, (refl, (left receiver_bytes (receive_refusal c (length p) (length store)) (row_for c p).event _ c, refl)));
-        hands_out_lem = λ r store out. rw (there, receiver_back c h) (refl, (refl, refl));
+        handing_out = λ r store out. rw (there, receiver_back c h) (refl, (refl, refl));
       }
 
 -- a header that is accepted says a number of at most four bits for each slot

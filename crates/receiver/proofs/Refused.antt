@@ -58,8 +58,8 @@ module _ (b : List ℕ) where
         past_kind = past_pid ∙ rw (lt-ltb (get_or b kind_at 0) kinds h) refl
 
         -- the stage is refused, or it is not and the numbers may be
-        pub no_stage_lem : {n : ℕ} → n ≡ first_of stage → (n ≡ 0 → ⊥) → n ≡ state_refused b
-        no_stage_lem e d = e ∙ sym (past_kind ∙ at_once stage numbers_asked (λ z. d (e ∙ z)))
+        pub when_no_stage : {n : ℕ} → n ≡ first_of stage → (n ≡ 0 → ⊥) → n ≡ state_refused b
+        when_no_stage e d = e ∙ sym (past_kind ∙ at_once stage numbers_asked (λ z. d (e ∙ z)))
 
         pub its_numbers : first_of stage ≡ 0 → state_refused b ≡ first_of numbers_asked
         its_numbers e = past_kind ∙ onward numbers_asked (none_first stage (stage-numbered (slots_of kind) _) e)

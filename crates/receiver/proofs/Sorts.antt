@@ -24,4 +24,4 @@ bears_pid kind pid p e = (shown kind pid p e).pid-row
 pub not_good : (kind : Kind) (pid : ℕ) (p : List ℕ) → unfit pid p ≡ false → read_refusal kind pid p ≡ 0 → ⊥
 unfolding unfit
 not_good kind pid p e r =
-    true≢false (sym (eq-eqb (start_value p Field.header-pid) pid (bears_pid kind pid p r)) ∙ (neither (not (eqb (start_value p Field.sync_byte_lem) sync_byte)) (eqb (start_value p Field.header-pid) pid) e).1)
+    true≢false (sym (eq-eqb (start_value p Field.header-pid) pid (bears_pid kind pid p r)) ∙ (neither (not (eqb (start_value p Field.sync_byte_field) sync_byte)) (eqb (start_value p Field.header-pid) pid) e).1)

@@ -84,8 +84,8 @@ module _ (b : List ℕ) (e : first_of (receiver_checks (receiver_of b)) ≡ 0) w
       (stands slots _ _ _ (subst (λ (s : Stage). NoneHolds (stage_checks slots s)) stage_is stage_none))
 
   -- a frame is ready where the stage's number is 2
-  pub is_ready_lem : get_or b stage_at 0 ≡ 2 → is_ready (receiver_of b).stage ≡ true
-  is_ready_lem e = by_standing standing
+  pub ready_from_byte : get_or b stage_at 0 ≡ 2 → is_ready (receiver_of b).stage ≡ true
+  ready_from_byte e = by_standing standing
     where
       by_standing : {s : Stage} → Stands slots (get_or b stage_at 0) (get_or b counter_at 0) (get_or b stored_at 0) s → is_ready s ≡ true
       by_standing (waits t f k s) = absurd (omega (arith, t, e))

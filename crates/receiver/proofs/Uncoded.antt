@@ -28,12 +28,12 @@ unheld : (b : Bool) (stage : Stage) → b && true ≡ false → cond b stage no_
 unheld true stage e = absurd (true≢false e)
 unheld false stage e = refl
 
-no_stage_lem : (tag from k : ℕ) → is_stage tag from k ≡ false → stage_of tag from k ≡ no_stage
+stage_of-uncoded : (tag from k : ℕ) → is_stage tag from k ≡ false → stage_of tag from k ≡ no_stage
 unfolding stage_of
-no_stage_lem zero from k e = unheld (eqb from 0 && eqb k 0) Stage.Waiting e
-no_stage_lem (suc zero) from k e = absurd (true≢false e)
-no_stage_lem (suc (suc zero)) from k e = ap (λ (b : Bool). cond b (Stage.Ready from) no_stage) e
-no_stage_lem (suc (suc (suc n))) from k e =
+stage_of-uncoded zero from k e = unheld (eqb from 0 && eqb k 0) Stage.Waiting e
+stage_of-uncoded (suc zero) from k e = absurd (true≢false e)
+stage_of-uncoded (suc (suc zero)) from k e = ap (λ (b : Bool). cond b (Stage.Ready from) no_stage) e
+stage_of-uncoded (suc (suc (suc n))) from k e =
     rw (
       ne_eqb (suc (suc (suc n))) 0 (λ z. omega (arith, z)),
       ne_eqb (suc (suc (suc n))) 1 (λ z. omega (arith, z)),
@@ -47,7 +47,7 @@ by_kind false staged stage e h = refl
 
 uncoded : (state : List ℕ) → is_coded state ≡ false → (receiver_of state).stage ≡ no_stage
 unfolding is_coded receiver_of
-uncoded state e = by_kind (is_kind (get_or state kind_at 0)) _ _ e (no_stage_lem (get_or state stage_at 0) (get_or state counter_at 0) (get_or state stored_at 0))
+uncoded state e = by_kind (is_kind (get_or state kind_at 0)) _ _ e (stage_of-uncoded (get_or state stage_at 0) (get_or state counter_at 0) (get_or state stored_at 0))
 
 -- ---- the calls
 
@@ -57,13 +57,13 @@ module _ (c : Receiver) (p : pid_allowed c.pid ≡ true) (s : c.stage ≡ no_sta
   receiver_refused = rw (p, s) refl
 
   module _ (store : ℕ) (l : store ≡ store_length (slots_of c.kind)) where
-    receive_refusal_lem : (packet : ℕ) → packet ≡ packet_length → receive_refusal c packet store ≡ 17
+    receive_refusal-uncoded : (packet : ℕ) → packet ≡ packet_length → receive_refusal c packet store ≡ 17
     unfolding receive_refusal
-    receive_refusal_lem packet q = passed 1 _ (ap not (eq-eqb _ _ q)) ∙ passed 1 _ (ap not (eq-eqb _ _ l)) ∙ receiver_refused
+    receive_refusal-uncoded packet q = passed 1 _ (ap not (eq-eqb _ _ q)) ∙ passed 1 _ (ap not (eq-eqb _ _ l)) ∙ receiver_refused
 
-    receive_refused_lem : (packet : List ℕ) → length packet ≡ packet_length → (receive_of c packet store).refusal ≡ 17
+    receive_of-uncoded : (packet : List ℕ) → length packet ≡ packet_length → (receive_of c packet store).refusal ≡ 17
     unfolding receive_of
-    receive_refused_lem packet q = rw (receive_refusal_lem (length packet) q) refl
+    receive_of-uncoded packet q = rw (receive_refusal-uncoded (length packet) q) refl
 
     hand_refused : (r out : ℕ) → (hand_out_of c r store out).refusal ≡ 17
     unfolding hand_out_of hand_out_refusal
@@ -75,6 +75,6 @@ pub uncoded_refused : UncodedRefused
 unfolding receive_refused hand_out_refused lent_refusal of_length receiver_of
 uncoded_refused state store l p e m =
     let none = uncoded state e in (
-      λ packet q. rw (eq-eqb _ _ l) (receive_refused_lem (receiver_of state) p none (length store) m packet q),
+      λ packet q. rw (eq-eqb _ _ l) (receive_of-uncoded (receiver_of state) p none (length store) m packet q),
       λ r out. rw (eq-eqb _ _ l) (hand_refused (receiver_of state) p none (length store) m r (length out)),
     )

@@ -36,7 +36,7 @@ pub record OnBytes (c : Receiver) : Type 0 where
       × ((receive_told (receiver_bytes c) p store ≡ told (receive_of c p (length store)).event)
       × ((receive_state (receiver_bytes c) p store ≡ receiver_bytes (receive_of c p (length store)).state)
       × (receive_memory (receiver_bytes c) p store ≡ receive_store c p store)))
-  pub hands_out_lem : (r : ℕ) (store out : List ℕ)
+  pub handing_out : (r : ℕ) (store out : List ℕ)
       → (hand_out_refused (receiver_bytes c) r store out ≡ (hand_out_of c r (length store) (length out)).refusal)
       × ((hand_out_packets (receiver_bytes c) r store out ≡ (hand_out_of c r (length store) (length out)).packets)
       × (hand_out_memory (receiver_bytes c) r store out ≡ hand_out_buffer c r store out))

@@ -100,8 +100,8 @@ module _ (a b c d : ℕ) (ha : a < 2 ^ 64) (hb : b < 2 ^ 64) (hc : c < 2 ^ 64) (
   units_of m h e =
       sym (joined-halves m h) ∙ ap (joined 4) (sym e) ∙ units_are (halves_of m) ∙ ap (λ (k : ℕ). 8 * units k (halves_of m)) (length-halves m)
 
-  slots_of_lem : (m : ℕ) → count 16 (halves_of m) ≡ slots_for 8 (halves_of m)
-  slots_of_lem m = ap (λ (k : ℕ). count k (halves_of m)) (sym (length-halves m)) ∙ count_is (halves_of m)
+  count-slots_for : (m : ℕ) → count 16 (halves_of m) ≡ slots_for 8 (halves_of m)
+  count-slots_for m = ap (λ (k : ℕ). count k (halves_of m)) (sym (length-halves m)) ∙ count_is (halves_of m)
 
   pub four_words : (a + b / 2 + c / 4 + d / 8 < 2 ^ 64)
       × (ones (a + b / 2 + c / 4 + d / 8) ≡ slots_for 8 (halves_of a) + slots_for 8 (halves_of b) + slots_for 8 (halves_of c) + slots_for 8 (halves_of d))
@@ -112,8 +112,8 @@ module _ (a b c d : ℕ) (ha : a < 2 ^ 64) (hb : b < 2 ^ 64) (hc : c < 2 ^ 64) (
       let ud = units_of d hd md in
       let e : a + b / 2 + c / 4 + d / 8 ≡ sum 16 (halves_of a) (halves_of b) (halves_of c) (halves_of d) = omega arith in
       let all = sum_ones 16 (halves_of a) (halves_of b) (halves_of c) (halves_of d) in
-      let sa = slots_of_lem a in
-      let sb = slots_of_lem b in
-      let sc = slots_of_lem c in
-      let sd = slots_of_lem d in
+      let sa = count-slots_for a in
+      let sb = count-slots_for b in
+      let sc = count-slots_for c in
+      let sd = count-slots_for d in
       (omega (arith, e, all.0), ap ones e ∙ all.1 ∙ omega (arith, sa, sb, sc, sd))

@@ -171,9 +171,9 @@ marked_fit r (n ∷ ns) = more (small (eqb n r)) (marked_fit r ns)
     small true = lit< tt
     small false = lit< tt
 
-pub marks_of_lem : (w r : ℕ) → w < 2 ^ 64 → r < 16 → halves_of (where_zero (bit_xor w (r * rep 1 16)) (rep 7 16) (rep 8 16)) ≡ marked r (halves_of w)
+pub halves_of-marks : (w r : ℕ) → w < 2 ^ 64 → r < 16 → halves_of (where_zero (bit_xor w (r * rep 1 16)) (rep 7 16) (rep 8 16)) ≡ marked r (halves_of w)
 unfolding rep
-marks_of_lem w r hw hr =
+halves_of-marks w r hw hr =
     let hs = halves_of w in
     let all : r * rep 1 16 ≡ rep r 16 = omega arith in
     ap halves_of

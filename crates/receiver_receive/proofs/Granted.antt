@@ -50,15 +50,15 @@ module _ (b : List ℕ) (l : length b ≡ receiver_length) (k : get_or b kind_at
       list : (at : ℕ) → at + packed_length ≤ receiver_length → length (part at packed_length b) ≡ packed_length
       list at h = length-take-le packed_length (drop at b) (rw length-drop (omega (arith, l, h)))
 
-      open_checks_lem : NoneHolds (stage_checks last_slot (Stage.Open (get_or b counter_at 0) (get_or b stored_at 0)))
+      open_stage_checks : NoneHolds (stage_checks last_slot (Stage.Open (get_or b counter_at 0) (get_or b stored_at 0)))
       unfolding stage_checks
-      open_checks_lem = more (lt-leb 16 (get_or b counter_at 0) (omega (arith, f))) (more (le-ltb last_slot (get_or b stored_at 0) (omega (arith, s))) none)
+      open_stage_checks = more (lt-leb 16 (get_or b counter_at 0) (omega (arith, f))) (more (le-ltb last_slot (get_or b stored_at 0) (omega (arith, s))) none)
 
       sound : NoneHolds (receiver_checks (receiver_of b))
       unfolding receiver_checks receiver_of
       sound =
           let long = long-kind (get_or b kind_at 0) k in
-          let stage = subst (λ (n : ℕ). NoneHolds (stage_checks n (stage_in b))) (sym (long-slots long)) (rw open_stage open_checks_lem) in
+          let stage = subst (λ (n : ℕ). NoneHolds (stage_checks n (stage_in b))) (sym (long-slots long)) (rw open_stage open_stage_checks) in
           more (ap not allowed)
           (none_append stage
           (none_append (none_wrong long (part numbers_at packed_length b) (list numbers_at (omega arith))) (none_wrong long (part before_at packed_length b) (list before_at (omega arith)))))

@@ -153,7 +153,7 @@ hand_outs_accepted pid kind d r out from to e room =
     let coded = codable (kind_of kind) pid v (set pid kind d) in
     let back = ap receiver_of t.state_is ∙ receiver_back v.state coded in
     ap₂ (λ (x y : List ℕ). hand_out_refused x r y out) t.state_is t.store_is
-    ∙ ((receiver-on-bytes v.state coded).0.hands_out_lem r v.store out).0
+    ∙ ((receiver-on-bytes v.state coded).0.handing_out r v.store out).0
     ∙ not_refused (kind_of kind) pid r out v (set pid kind d)
     (record { from = from; to = to; room = subst (λ (l : List ℕ). packet_length * slots_for r l ≤ length out) (before_is (kind_of kind) pid (reached_by d) v t) room })
     (sym (ap (λ (x : Receiver). is_ready x.stage) back) ∙ e)

@@ -36,9 +36,9 @@ by_slot P none full empty (n ∷ ns) lent = by (λ l. by_slot P none full empty 
 
 -- ---- numbers and lengths
 
-pub numbers_filled_lem : (plan : List ℕ) (lent : ℕ → List ℕ) → numbers_of plan (marks_filled plan lent) ≡ numbers_filled plan lent
+pub numbers_of-filled : (plan : List ℕ) (lent : ℕ → List ℕ) → numbers_of plan (marks_filled plan lent) ≡ numbers_filled plan lent
 unfolding numbers_of marks_filled numbers_filled
-numbers_filled_lem =
+numbers_of-filled =
     by_slot (λ plan lent. numbers_of plan (marks_filled plan lent) ≡ numbers_filled plan lent) (λ lent. refl)
     (λ n ns lent z q ih. rw (ne_eqb n 0 z, le-leb packet_length (length (lent n)) q) (ap (λ (l : List ℕ). n ∷ l) ih))
     (λ n ns lent e ih. rw e (ap (λ (l : List ℕ). 0 ∷ l) ih))

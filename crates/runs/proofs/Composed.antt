@@ -33,7 +33,7 @@ use Rattle.runs.specs.Runs.{Call, Each, none, more, OfTypes, started, frames_of}
 use Rattle.runs.specs.Work.{Work, no_work, works_of, slots_filled, numbers_filled, said, headed_behind, headed, frame_of}
 use Rattle.runs.specs.Composed.{headed_by, FramesHold, HeadersRead, FrontsPlaced, PacketsFit}
 use Rattle.runs.proofs.Filled.{marks_filled, length_null}
-use Rattle.runs.proofs.Carried.{numbers_filled_lem, length-slots, length-marks, front_lent, slot-first, slot_next, each_fit}
+use Rattle.runs.proofs.Carried.{numbers_of-filled, length-slots, length-marks, front_lent, slot-first, slot_next, each_fit}
 use Rattle.runs.proofs.Front.{front_fit, front_for, front-numbered}
 use Rattle.runs.proofs.Said.{version_narrow, said_meets, said_types}
 use Rattle.runs.proofs.Held.{Sound, Done, holds, all_done}
@@ -103,23 +103,23 @@ module _ (kind : Kind) (pid : ℕ) (e : pid_allowed pid ≡ true) where
       let marks = marks_filled plan k.lent in
       record {
         numbers_are = refl;
-        typed = subst (λ (ns : List ℕ). OfItsTypes (saying counter version ns k.setting)) (numbers_filled_lem plan k.lent)
+        typed = subst (λ (ns : List ℕ). OfItsTypes (saying counter version ns k.setting)) (numbers_of-filled plan k.lent)
             (said_types k.setting counter version marks (length-marks plan k.lent) d.typed);
-        meets = subst (λ (ns : List ℕ). MeetsRules kind pid (saying counter version ns k.setting)) (numbers_filled_lem plan k.lent)
+        meets = subst (λ (ns : List ℕ). MeetsRules kind pid (saying counter version ns k.setting)) (numbers_of-filled plan k.lent)
             (said_meets kind pid k.setting counter version marks e c v (length-marks plan k.lent) d.widths d.rules);
         done = d;
       }
 
   -- a version behind one of three bits has three bits
-  pub version_behind_lem : (version : ℕ) (last : Announced) (s : Setting) → version < 2 ^ 3 → version_behind version last s < 2 ^ 3
-  version_behind_lem version last s = version_narrow (differ (announced s) last) version
+  pub version_behind_bound : (version : ℕ) (last : Announced) (s : Setting) → version < 2 ^ 3 → version_behind version last s < 2 ^ 3
+  version_behind_bound version last s = version_narrow (differ (announced s) last) version
 
   behind_good : (counter version : ℕ) (last : Announced) (ks : List Work) → version < 2 ^ 3 → Each (Done kind pid) ks → Each (Good kind pid) (headed_behind counter version last ks)
   unfolding headed_behind
   behind_good counter version last [] v none = none
   behind_good counter version last (k ∷ ks) v (more d ds) =
-      more (said_good ((counter + 1) % 16) (version_behind version last k.setting) k (omega arith) (version_behind_lem version last k.setting v) d)
-      (behind_good ((counter + 1) % 16) (version_behind version last k.setting) (announced k.setting) ks (version_behind_lem version last k.setting v) ds)
+      more (said_good ((counter + 1) % 16) (version_behind version last k.setting) k (omega arith) (version_behind_bound version last k.setting v) d)
+      (behind_good ((counter + 1) % 16) (version_behind version last k.setting) (announced k.setting) ks (version_behind_bound version last k.setting v) ds)
 
   headed_good : (ks : List Work) → Each (Done kind pid) ks → Each (Good kind pid) (headed ks)
   unfolding headed
@@ -173,9 +173,9 @@ module _ (kind : Kind) (pid : ℕ) (h : Setting × Work) (g : Good kind pid h) w
       ∙ front_lent r z front h.1.lent g.done.whole
       ∙ ap (λ (n : ℕ). take (packet_length * n) (h.1.lent r)) (sym (front_for (slots_of kind) plan room behind r z))
 
-  pub frame_length_lem : length (frame_of kind pid h) ≡ frame_length (slots_of kind)
+  pub length_frame_of : length (frame_of kind pid h) ≡ frame_length (slots_of kind)
   unfolding frame_of
-  frame_length_lem =
+  length_frame_of =
       length-append (header kind pid h.0) (slots_filled front h.1.lent)
       ∙ omega (arith, length-header kind pid h.0, length-slots front h.1.lent, length-resized (slots_of kind) plan)
 
@@ -204,4 +204,4 @@ fronts_placed kind pid calls e t = each (front-placed kind pid) (each_good kind 
 pub packets_fit : PacketsFit
 packets_fit kind pid calls e t =
     rw (hold kind pid calls e t)
-    (each_map (frame_of kind pid) (each (λ h g. (frame_length_lem kind pid h g, packet_fit kind pid h g e)) (each_good kind pid calls e t)))
+    (each_map (frame_of kind pid) (each (λ h g. (length_frame_of kind pid h g, packet_fit kind pid h g e)) (each_good kind pid calls e t)))

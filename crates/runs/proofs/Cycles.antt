@@ -110,7 +110,7 @@ module _ (type carriers sequence frames position : ℕ) where
   unfolding one_slot some_at_least any_below
   one_types =
       record {
-        ts_id_lem = (refl, fit_some 16 (replicate last_stream 0) refl);
+        ts_ids = (refl, fit_some 16 (replicate last_stream 0) refl);
         network_id = (refl, fit_some 16 (replicate last_stream 0) refl);
         statuses = (refl, fit_some 8 (replicate last_stream 0) refl);
         numbers = (refl, fit_some 8 plan refl);
@@ -254,17 +254,17 @@ module _ (kind : Kind) (t : Setting) (takes : Takes kind t) (w : Run) (k : Work)
       ∙ ap (λ (l : List Work). l ++ works_of (after w₂ close) (work_after w₂ k₂ close) (cycles kind ss)) (close_one w₂ k₂ close_goes).1
       ∙ ap (λ (x : Work). x ∷ works_of (after w₂ close) (work_after w₂ k₂ close) (cycles kind ss)) work_is
 
-works_of_lem : (kind : Kind) (ss : List Setting) → Each (Takes kind) ss → (w : Run) (k : Work) → Sound kind the_pid w k → InOrder kind w.state → works_of w k (cycles kind ss) ≡ map work_of ss
+works_of-cycles : (kind : Kind) (ss : List Setting) → Each (Takes kind) ss → (w : Run) (k : Work) → Sound kind the_pid w k → InOrder kind w.state → works_of w k (cycles kind ss) ≡ map work_of ss
 unfolding works_of cycles
-works_of_lem kind [] none w k s i = refl
-works_of_lem kind (t ∷ ss) (more p ps) w k s i =
+works_of-cycles kind [] none w k s i = refl
+works_of-cycles kind (t ∷ ss) (more p ps) w k s i =
     one_more kind t p w k s i ss
     ∙ ap (λ (l : List Work). work_of t ∷ l)
-    (works_of_lem kind ss ps (after (w₂ kind t p w k s i) close) (work_after (w₂ kind t p w k s i) (k₂ kind t p w k s i) close) (sound₃ kind t p w k s i) (order₃ kind t p w k s i))
+    (works_of-cycles kind ss ps (after (w₂ kind t p w k s i) close) (work_after (w₂ kind t p w k s i) (k₂ kind t p w k s i) close) (sound₃ kind t p w k s i) (order₃ kind t p w k s i))
 
 pub works_are : (kind : Kind) (ss : List Setting) → Each (Takes kind) ss → works_of (started kind the_pid) no_work (cycles kind ss) ≡ map work_of ss
 unfolding started
-works_are kind ss ts = works_of_lem kind ss ts (started kind the_pid) no_work (sound_start kind the_pid) (fresh-order kind the_pid)
+works_are kind ss ts = works_of-cycles kind ss ts (started kind the_pid) no_work (sound_start kind the_pid) (fresh-order kind the_pid)
 
 -- ---- the run, by firmware's calls
 

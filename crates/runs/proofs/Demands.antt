@@ -32,8 +32,8 @@ use Rattle.setting_bytes.proofs.Typed.{blank_types}
 use Rattle.runs.proofs.Table.{Asked}
 use Rattle.runs.proofs.Lost.{InRow, end, here}
 use Rattle.runs.proofs.Composed.{sound_start}
-use Rattle.runs.proofs.Values.{From, stretch, in_row, waiting-set, stretch_comes_out, first_of_lem, each_rest, map_append}
-use Rattle.runs.proofs.Tuned.{Tuned, given_out_lem, room_always}
+use Rattle.runs.proofs.Values.{From, stretch, in_row, waiting-set, stretch_comes_out, first_of_each, each_rest, map_append}
+use Rattle.runs.proofs.Tuned.{Tuned, given_out-tuned, room_always}
 use Rattle.runs.specs.Composed.{valued, FramesAlike}
 use Rattle.runs.proofs.Made.{valued_typed, Alike, TrueTo, frames_alike}
 
@@ -52,7 +52,7 @@ tuned_allowed state pid kind e =
 
 fresh_types : (kind : Kind) (pid : ℕ) → StateOfItsTypes (fresh kind pid)
 unfolding fresh announced
-fresh_types kind pid = record { ts_id_lem = blank_types.ts_id_lem; network_id = blank_types.network_id; statuses = blank_types.statuses; setting = blank_types; marks = refl }
+fresh_types kind pid = record { ts_ids = blank_types.ts_ids; network_id = blank_types.network_id; statuses = blank_types.statuses; setting = blank_types; marks = refl }
 
 pub started_alike : (state : List ℕ) (pid kind : ℕ) → start_refused state pid kind ≡ 0 → Alike (kind_of kind) pid (started_as state pid kind) (started (kind_of kind) pid) no_work
 unfolding started_as start_state leaves started fresh
@@ -105,7 +105,7 @@ module _ (pid kind : ℕ) (run : RunOfCalls pid kind) where
       → (a : FreshAndAsked pid kind r (arriving sent)) → hands_out a ≡ wanted (kind_of kind) pid r sent
   stretch_given r before after sent q h row a =
       let asked : Asked (kind_of kind) r a.store a.store = record { from = a.from; to = a.to; store_long = a.store_long; room = omega (arith, a.store_long) } in
-      given_out_lem (kind_of kind) pid r a.store a.store asked (tuned_to a.state pid kind a.store) (fresh_with (kind_of kind) pid a.store)
+      given_out-tuned (kind_of kind) pid r a.store a.store asked (tuned_to a.state pid kind a.store) (fresh_with (kind_of kind) pid a.store)
       (tuned_fresh a.state pid kind a.store a.accepted a.store_long) a.buffers (arriving sent) a.room
       ∙ stretch_comes_out (kind_of kind) pid (map valued run.calls) run-allowed (each_valued run.calls run.lent) before after sent (sym run_alike.0 ∙ q) h row
       r a.store a.store asked
@@ -132,7 +132,7 @@ packet_for_packet pid kind r run earlier later f next q a =
     let frame : Closed → List ℕ = λ x. x.frame in
     let sent = whole kind f.frame ∷ header_alone kind next.frame ∷ [] in
     let frames = ap (map frame) q ∙ map_append frame earlier (f ∷ next ∷ later) in
-    let true-to = first_of_lem (each_rest earlier (f ∷ next ∷ later) (subst (Each (TrueTo (kind_of kind) pid)) q (frames_true pid kind run))) in
+    let true-to = first_of_each (each_rest earlier (f ∷ next ∷ later) (subst (Each (TrueTo (kind_of kind) pid)) q (frames_true pid kind run))) in
     let given : hands_out a ≡ f.placed r =
     stretch_given pid kind run r (map frame earlier) (map frame later) sent frames (more (length-replicate (slots_of (kind_of kind)) true, tt) (more (length-replicate (slots_of (kind_of kind)) false, tt) none)) (here refl (here refl end)) a
     ∙ rw (all_arrive (slots_of (kind_of kind))) (append-nil (numbered r (numbers_in (kind_of kind) pid f.frame) (drop packet_length f.frame))) ∙ true-to.own r a.from in

@@ -29,7 +29,7 @@ use Rattle.composer_close.proofs.Passed.{ClosePassed, close_passed}
 use Rattle.runs.specs.Runs.{Call, begin, put, close, Each, none, more, OfTypes, Run, refusal_of, after, closed_by, frames_of}
 use Rattle.runs.specs.Work.{Work, added, work_after, done_by, works_of, slots_filled, said, headed_behind, frame_of}
 use Rattle.runs.proofs.Filled.{marks_filled, unfit_filled, EachWhole, whole-added, put_adds}
-use Rattle.runs.proofs.Carried.{numbers_filled_lem, slots_none, marks_none, unfit_none}
+use Rattle.runs.proofs.Carried.{numbers_of-filled, slots_none, marks_none, unfit_none}
 use Rattle.runs.proofs.Front.{front-put}
 
 -- ---- a refused call changes nothing
@@ -227,7 +227,7 @@ module _ (kind : Kind) (pid : ℕ) (w : Run) (k : Work) (o : Sound kind pid w k)
   -- its header says what the work describes
   closing-said : closing w.state ≡ said ((w.state.counter + 1) % 16) (version_behind w.state.version w.state.last k.setting) k
   unfolding closing said next_counter next_version
-  closing-said = rw (open_as.setting_is, open_as.marks_are, numbers_filled_lem k.setting.relative_ts_number k.lent)
+  closing-said = rw (open_as.setting_is, open_as.marks_are, numbers_of-filled k.setting.relative_ts_number k.lent)
 
   -- and the frame is the one that carries it
   pub closed_as : header w.state.kind w.state.pid (closing w.state) ++ drop packet_length w.frame
@@ -238,13 +238,13 @@ module _ (kind : Kind) (pid : ℕ) (w : Run) (k : Work) (o : Sound kind pid w k)
       ∙ ap₂ (λ (s : Setting) (l : List ℕ). header kind pid s ++ l) closing-said open_as.slots_are
 
   -- the next header stands behind this one
-  next_counter_lem : (closed w.state).counter ≡ (w.state.counter + 1) % 16
+  closed_counter : (closed w.state).counter ≡ (w.state.counter + 1) % 16
   unfolding closed closed_with next_counter
-  next_counter_lem = refl
+  closed_counter = refl
 
-  next_version_lem : (closed w.state).version ≡ version_behind w.state.version w.state.last k.setting
+  closed_version : (closed w.state).version ≡ version_behind w.state.version w.state.last k.setting
   unfolding closed closed_with next_version
-  next_version_lem = rw open_as.setting_is
+  closed_version = rw open_as.setting_is
 
   next_last : (closed w.state).last ≡ announced k.setting
   unfolding closed closed_with
@@ -293,8 +293,8 @@ unfolding frames_of works_of headed_behind
 loud kind pid w k cs o e ih =
     let one = close_one w k e in
     let s = ap (λ (x : Run). x.state) (closed_run w e) in
-    let p = ap (λ (x : Composer). x.counter) s ∙ next_counter_lem kind pid w k o e in
-    let q = ap (λ (x : Composer). x.version) s ∙ next_version_lem kind pid w k o e in
+    let p = ap (λ (x : Composer). x.counter) s ∙ closed_counter kind pid w k o e in
+    let q = ap (λ (x : Composer). x.version) s ∙ closed_version kind pid w k o e in
     let r = ap (λ (x : Composer). x.last) s ∙ next_last kind pid w k o e in
     let later = works_of (after w close) (work_after w k close) cs in
     ap (λ (l : List (List ℕ)). l ++ frames_of (after w close) cs) one.0

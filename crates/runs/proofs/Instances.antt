@@ -20,7 +20,7 @@ use Rattle.runs.specs.Work.{headed_behind, headed, frame_of}
 use Rattle.runs.specs.Firmware.{Closed}
 use Rattle.runs.specs.Demands.{frames_closed}
 use Rattle.runs.specs.Instances.{long, short, LongDemandThree, ShortDemandThree, LongPacketForPacket, ShortPacketForPacket, LongRunForRun, ShortRunForRun, TwoFrames, LongRun, ShortRun}
-use Rattle.runs.proofs.Composed.{each, each_map, frame_length_lem}
+use Rattle.runs.proofs.Composed.{each, each_map, length_frame_of}
 use Rattle.runs.proofs.Cycles.{the_pid, one_slot, Takes, one_takes, work_of, run_of, run-frames, run_good}
 use Rattle.runs.proofs.Demands.{nothing_mixed, packet_for_packet, run_for_run}
 
@@ -61,7 +61,7 @@ two_frames kind s t packets e =
     let frame : Closed → List ℕ = λ f. f.frame in
     let frames : map frame (frames_closed run) ≡ map (frame_of kind the_pid) hs = run-frames kind ss ts in
     let as_long : Each (λ f. length f ≡ packet_length * packets) (map (frame_of kind the_pid) hs) =
-    each_map (frame_of kind the_pid) (each (λ h g. frame_length_lem kind the_pid h g ∙ e) (run_good kind ss ts)) in
+    each_map (frame_of kind the_pid) (each (λ h g. length_frame_of kind the_pid h g ∙ e) (run_good kind ss ts)) in
     record {
       pid = the_pid;
       run = run;

@@ -86,13 +86,13 @@ unfolding is_waiting
 not-waiting (open_at _ _) = refl
 not-waiting (ready_at _) = refl
 
-is_waiting_lem : {stage : Stage} → stage ≡ Stage.Waiting → is_waiting stage ≡ true
+is_waiting_from : {stage : Stage} → stage ≡ Stage.Waiting → is_waiting stage ≡ true
 unfolding is_waiting
-is_waiting_lem e = ap is_waiting e
+is_waiting_from e = ap is_waiting e
 
 waits_on : {slots : ℕ} {a b : Stage} → a ≡ Stage.Waiting → Follows slots a b → b ≡ Stage.Waiting
 waits_on e dropped = refl
-waits_on e (goes_on from k j o p h l) = absurd (true≢false (sym (is_waiting_lem e) ∙ not-waiting o))
+waits_on e (goes_on from k j o p h l) = absurd (true≢false (sym (is_waiting_from e) ∙ not-waiting o))
 
 data Goes (slots : ℕ) (next : Stage) (from : ℕ) : Type 0 where
   stops : next ≡ Stage.Waiting → Goes slots next from

@@ -35,7 +35,7 @@ use Rattle.setting_bytes.proofs.Typed.{setting_typed}
 use Rattle.runs.proofs.Filled.{marks_filled}
 use Rattle.runs.proofs.Placed.{front-more}
 use Rattle.runs.proofs.Held.{refused_same, refused_work, closed_run, begun_work, put_work, closed_work, put_facts, close_facts, Sound, sound_after, done, closed_as}
-use Rattle.runs.proofs.Composed.{said_good, version_behind_lem}
+use Rattle.runs.proofs.Composed.{said_good, version_behind_bound}
 use Rattle.runs.proofs.Values.{placed_in_frame, map_append}
 
 pub valued_typed : (c : FirmwareCall) → OfBytes c → OfTypes (valued c)
@@ -100,9 +100,9 @@ module _ (kind : Kind) (pid : ℕ) (m : Multiplexer) (w : Run) (k : Work) (a : A
   unfolding answered refusal_of
   begin_answered = ap (λ (x : List ℕ). begin_refused x setting frame) a.state_is ∙ begun_here.refusal_is
 
-  begin_state_lem : (after_call m begin_call).state ≡ composer_bytes (after w (valued begin_call)).state
+  state_after_begin : (after_call m begin_call).state ≡ composer_bytes (after w (valued begin_call)).state
   unfolding after_call after
-  begin_state_lem = ap (λ (x : List ℕ). begin_state x setting frame) a.state_is ∙ begun_here.state_then
+  state_after_begin = ap (λ (x : List ℕ). begin_state x setting frame) a.state_is ∙ begun_here.state_then
 
   begin_typed : StateOfItsTypes (after w (valued begin_call)).state
   unfolding after
@@ -133,7 +133,7 @@ module _ (kind : Kind) (pid : ℕ) (m : Multiplexer) (w : Run) (k : Work) (a : A
   after_begin =
       let test = ℕ_discrete (refusal_of w (valued begin_call)) 0 in
       record {
-        state_is = begin_state_lem;
+        state_is = state_after_begin;
         typed = begin_typed;
         frame_is = begin_frame test;
         sound = sound_after kind pid w k (valued begin_call) (setting_typed setting f) a.sound;
@@ -163,18 +163,18 @@ module _ (kind : Kind) (pid : ℕ) (m : Multiplexer) (w : Run) (k : Work) (a : A
   counted_within (no d) = omega (arith, counted_none d)
   counted_within (yes e) = omega (arith, counted_some e, placed-within r plan w.state.filled stream)
 
-  put_state_lem : (after_call m (puts stream r)).state ≡ composer_bytes (after w (put stream r)).state
+  state_after_put : (after_call m (puts stream r)).state ≡ composer_bytes (after w (put stream r)).state
   unfolding after_call after
-  put_state_lem =
+  state_after_put =
       ap₂ (λ (x y : List ℕ). put_state x r stream y) a.state_is a.frame_is ∙ ((calls_on_bytes w.state a.typed).0.puts r stream w.frame).1.1.0
 
   put_typed : StateOfItsTypes (after w (put stream r)).state
   unfolding after
   put_typed = (calls_on_bytes w.state a.typed).1.filled r stream (length w.frame)
 
-  put_frame_lem : (after_call m (puts stream r)).frame ≡ (after w (put stream r)).frame
+  frame_after_put : (after_call m (puts stream r)).frame ≡ (after w (put stream r)).frame
   unfolding after_call after
-  put_frame_lem =
+  frame_after_put =
       ap₂ (λ (x y : List ℕ). put_memory x r stream y) a.state_is a.frame_is ∙ ((calls_on_bytes w.state a.typed).0.puts r stream w.frame).1.1.1
 
   -- what it adds for another stream, and for its own
@@ -228,9 +228,9 @@ module _ (kind : Kind) (pid : ℕ) (m : Multiplexer) (w : Run) (k : Work) (a : A
   after-put : Alike kind pid (after_call m (puts stream r)) (after w (put stream r)) (work_after w k (put stream r))
   after-put =
       record {
-        state_is = put_state_lem;
+        state_is = state_after_put;
         typed = put_typed;
-        frame_is = put_frame_lem;
+        frame_is = frame_after_put;
         sound = sound_after kind pid w k (put stream r) tt a.sound;
         placed_are = put-placed (ℕ_discrete (refusal_of w (put stream r)) 0);
         counts = λ n. put-counts n (ℕ_discrete n r);
@@ -293,7 +293,7 @@ module _ (kind : Kind) (pid : ℕ) (allowed : pid_allowed pid ≡ true) (m : Mul
       let counter = (w.state.counter + 1) % 16 in
       let version = version_behind w.state.version w.state.last k.setting in
       let p = (close_facts w e).open_state in
-      let g = said_good kind pid allowed counter version k (omega arith) (version_behind_lem kind pid allowed w.state.version w.state.last k.setting p.version) (done kind pid w k a.sound e) in
+      let g = said_good kind pid allowed counter version k (omega arith) (version_behind_bound kind pid allowed w.state.version w.state.last k.setting p.version) (done kind pid w k a.sound e) in
       let is : close_memory m.state m.frame ≡ frame_of kind pid (said counter version k, k) = close_frame kind pid m w k a ∙ rw e (closed_as kind pid w k a.sound e) in
       record {
         own = λ r l.

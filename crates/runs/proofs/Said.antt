@@ -126,7 +126,7 @@ unfolding saying
 said_types s counter version marks l t =
     let plan = s.relative_ts_number in
     record {
-      ts_id_lem = t.ts_id_lem;
+      ts_ids = t.ts_ids;
       network_id = t.network_id;
       statuses = t.statuses;
       numbers = (

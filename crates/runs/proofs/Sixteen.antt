@@ -44,8 +44,8 @@ use Rattle.runs.proofs.Composed.{Good, header_read, hold, each_good}
 use Rattle.runs.proofs.Table.{Asked, Set, Plain, after_all, StoredAll, stored_all}
 use Rattle.runs.proofs.Vouched.{GoodFrame, good_set, good_opens, good_numbers, Owes, nothing, something, vouches}
 use Rattle.runs.proofs.Lost.{slot-behind, arrive_plain, arrive_entire, Counted, and_then, each_append, wanted_missing}
-use Rattle.runs.proofs.Values.{counted_run, first_of_lem, waiting-set, waiting-stage, map_append}
-use Rattle.runs.proofs.Tuned.{given_out_lem}
+use Rattle.runs.proofs.Values.{counted_run, first_of_each, waiting-set, waiting-stage, map_append}
+use Rattle.runs.proofs.Tuned.{given_out-tuned}
 use Rattle.runs.proofs.Demands.{tuned_fresh, always_room}
 use Rattle.runs.proofs.Cycles.{the_pid, the_packet, plan, one_slot, Takes, one_takes, cycles, cycles_typed, work_of, works_are, run_of, run-frames}
 
@@ -369,7 +369,7 @@ first_numbers : g₀.header.setting.relative_ts_number ≡ numbers_filled plan t
 unfolding said saying work_of one_slot
 first_numbers =
     ap (λ (x : Reading). x.setting.relative_ts_number)
-    (sym g₀.header.read ∙ header_read Kind.Plain the_pid h₀ (first_of_lem (subst (Each (Good Kind.Plain the_pid)) headed_is (each_good Kind.Plain the_pid eighteen refl (cycles_typed (each_taken 18))))))
+    (sym g₀.header.read ∙ header_read Kind.Plain the_pid h₀ (first_of_each (subst (Each (Good Kind.Plain the_pid)) headed_is (each_good Kind.Plain the_pid eighteen refl (cycles_typed (each_taken 18))))))
 
 none_for : (n : ℕ) → slots_for 1 (replicate n 0) ≡ 0
 unfolding slots_for
@@ -401,9 +401,9 @@ mixed-long =
 wanted_gone : (s : Sent) (ss : List Sent) → is_kept s.fate ≡ false → wanted Kind.Plain the_pid 1 (s ∷ ss) ≡ wanted Kind.Plain the_pid 1 ss
 wanted_gone s ss k = sym (wanted_missing Kind.Plain the_pid 1 zeros zeros asked s ss k)
 
-all_gone_lem : (fs : List (List ℕ)) (rest : List Sent) → wanted Kind.Plain the_pid 1 (map all_gone fs ++ rest) ≡ wanted Kind.Plain the_pid 1 rest
-all_gone_lem [] rest = refl
-all_gone_lem (f ∷ fs) rest = wanted_gone (all_gone f) (map all_gone fs ++ rest) refl ∙ all_gone_lem fs rest
+when_all_gone : (fs : List (List ℕ)) (rest : List Sent) → wanted Kind.Plain the_pid 1 (map all_gone fs ++ rest) ≡ wanted Kind.Plain the_pid 1 rest
+when_all_gone [] rest = refl
+when_all_gone (f ∷ fs) rest = wanted_gone (all_gone f) (map all_gone fs ++ rest) refl ∙ when_all_gone fs rest
 
 wanted_alone : (s : Sent) → wanted Kind.Plain the_pid 1 (s ∷ []) ≡ []
 unfolding wanted
@@ -417,7 +417,7 @@ wanted_torn s (t ∷ ss) k = rw (k, and-false (is_kept s.fate))
 nothing_wanted : wanted Kind.Plain the_pid 1 sent ≡ []
 nothing_wanted =
     wanted_torn (record { frame = f₀; fate = kept; arrived = false ∷ replicate 51 true }) (map all_gone middle ++ (record { frame = f₁₆; fate = lost; arrived = true ∷ replicate 51 false } ∷ header_alone plain_kind f₁₇ ∷ [])) refl
-    ∙ all_gone_lem middle (record { frame = f₁₆; fate = lost; arrived = true ∷ replicate 51 false } ∷ header_alone plain_kind f₁₇ ∷ [])
+    ∙ when_all_gone middle (record { frame = f₁₆; fate = lost; arrived = true ∷ replicate 51 false } ∷ header_alone plain_kind f₁₇ ∷ [])
     ∙ wanted_gone (record { frame = f₁₆; fate = lost; arrived = true ∷ replicate 51 false }) (header_alone plain_kind f₁₇ ∷ []) refl
     ∙ wanted_alone (header_alone plain_kind f₁₇)
 
@@ -457,7 +457,7 @@ the_ask =
 -- what comes out of it is mixed
 given-mixed : hands_out the_ask ≡ mixed ++ []
 given-mixed =
-    given_out_lem (kind_of plain_kind) the_pid 1 zeros zeros asked_too (tuned_to receiver_zeros the_pid plain_kind zeros) (fresh_with (kind_of plain_kind) the_pid zeros)
+    given_out-tuned (kind_of plain_kind) the_pid 1 zeros zeros asked_too (tuned_to receiver_zeros the_pid plain_kind zeros) (fresh_with (kind_of plain_kind) the_pid zeros)
     (tuned_fresh receiver_zeros the_pid plain_kind zeros tuned_accepted asked_too.store_long) (λ n. zeros) (arriving sent) the_ask.room
     ∙ ap (λ (k : Kind). handed_out 1 zeros (fresh_with k the_pid zeros) (arriving sent)) plain ∙ comes
 

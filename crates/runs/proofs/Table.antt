@@ -169,13 +169,13 @@ bad_moved c r true stage said = refl
 bad_moved c r false stage said = refl
 
 module _ (kind : Kind) (pid : ℕ) (w : Reception) (s : Set kind pid w) (p : List ℕ) (l : length p ≡ packet_length) (d : read_refusal kind pid p ≡ 0 → ⊥) where
-  bad_sort_lem : sort_of w.state.kind w.state.pid p ≡ bad_sort (shown_remainder kind pid p) (unfit pid p)
+  sort_of-bad : sort_of w.state.kind w.state.pid p ≡ bad_sort (shown_remainder kind pid p) (unfit pid p)
   unfolding sort_of
-  bad_sort_lem = ap₂ (λ (a : Kind) (b : ℕ). cond (eqb (read_refusal a b p) 0) good (cond (unfit b p) (broken (shown_remainder a b p)) other)) s.kind_is s.pid_is ∙ rw (ne_eqb (read_refusal kind pid p) 0 d)
+  sort_of-bad = ap₂ (λ (a : Kind) (b : ℕ). cond (eqb (read_refusal a b p) 0) good (cond (unfit b p) (broken (shown_remainder a b p)) other)) s.kind_is s.pid_is ∙ rw (ne_eqb (read_refusal kind pid p) 0 d)
 
   pub bad_row : row_for w.state p ≡ row_of (slots_of kind) w.state.stage (bad_sort (shown_remainder kind pid p) (unfit pid p)) (reading w.state.kind p).continuity_counter
   unfolding row_for
-  bad_row = rw (bad_sort_lem, s.kind_is) refl
+  bad_row = rw (sort_of-bad, s.kind_is) refl
 
   -- the receiver and its store then
   bad_after : after_packet w p
@@ -188,7 +188,7 @@ module _ (kind : Kind) (pid : ℕ) (w : Reception) (s : Set kind pid w) (p : Lis
       ∙ ap₂ (λ (a : Sort) (r : Row). record {
         state = receiver_after w.state a r.stage (reading w.state.kind p).relative_ts_number;
         store = store_after (slots_of kind) w.state.stage a p w.store;
-      }) bad_sort_lem bad_row
+      }) sort_of-bad bad_row
       ∙ ap (λ (c : Receiver). record { state = c; store = store_after (slots_of kind) w.state.stage (bad_sort (shown_remainder kind pid p) (unfit pid p)) p w.store })
       (bad_moved w.state (shown_remainder kind pid p) (unfit pid p) (row_of (slots_of kind) w.state.stage (bad_sort (shown_remainder kind pid p) (unfit pid p)) (reading w.state.kind p).continuity_counter).stage
       (reading w.state.kind p).relative_ts_number)

@@ -105,8 +105,8 @@ module _ (kind : Kind) (pid : ℕ) (b : Demultiplexer) (w : Reception) (t : Tune
   ready_number Event.Long = refl
   ready_number (Event.Broken r) = refl
 
-  pub says_ready_lem : (p : List ℕ) → says_ready b p ≡ makes_ready (receive_of w.state p (length w.store)).event
-  says_ready_lem p =
+  pub says_ready-tuned : (p : List ℕ) → says_ready b p ≡ makes_ready (receive_of w.state p (length w.store)).event
+  says_ready-tuned p =
       let on = (calls_on_bytes w.state (codable kind pid w t.set)).0.receives p w.store in
       ap (λ (n : ℕ). eqb n (event_number Event.Ready)) (ap (λ (d : Told). d.event) (ap₂ (λ (x y : List ℕ). receive_told x p y) t.state_is t.store_is ∙ on.1.0))
       ∙ ready_number (receive_of w.state p (length w.store)).event
@@ -114,7 +114,7 @@ module _ (kind : Kind) (pid : ℕ) (b : Demultiplexer) (w : Reception) (t : Tune
   given_is : (r : ℕ) (out : List ℕ) → given r out b ≡ handed r out w
   unfolding given handed
   given_is r out =
-      let on = (calls_on_bytes w.state (codable kind pid w t.set)).0.hands_out_lem r w.store out in
+      let on = (calls_on_bytes w.state (codable kind pid w t.set)).0.handing_out r w.store out in
       ap₂ (λ (x y : List ℕ). take (packet_length * hand_out_packets x r y out) (hand_out_memory x r y out)) t.state_is t.store_is
       ∙ ap₂ (λ (n : ℕ) (l : List ℕ). take (packet_length * n) l) on.1.0 on.1.1
 
@@ -184,24 +184,24 @@ module _ (kind : Kind) (pid r : ℕ) (store big : List ℕ) (a : Asked kind r st
       ∙ handed_is kind pid r out w t.set (record { from = a.from; to = a.to; room = room }) e
       ∙ sym (handed_is kind pid r big w t.set (fits_all kind pid r store big w t.set a) e)
 
-  pub given_out_lem : (b : Demultiplexer) (w : Reception) → Tuned kind pid b w → (buffers : ℕ → List ℕ) (ps : List (List ℕ)) → WithRoom r buffers b ps
+  pub given_out-tuned : (b : Demultiplexer) (w : Reception) → Tuned kind pid b w → (buffers : ℕ → List ℕ) (ps : List (List ℕ)) → WithRoom r buffers b ps
       → given_out r buffers b ps ≡ handed_out r big w ps
   unfolding given_out handed_out WithRoom
-  given_out_lem b w t buffers [] room = refl
-  given_out_lem b w t buffers (p ∷ ps) room =
+  given_out-tuned b w t buffers [] room = refl
+  given_out-tuned b w t buffers (p ∷ ps) room =
       let next = tuned_heard kind pid b w t p in
       ap₂ (λ (x y : List ℕ). x ++ y)
       (by_event (makes_ready (receive_of w.state p (length w.store)).event) refl (given_same (heard b p) (after_packet w p) next) room.0)
-      (given_out_lem (heard b p) (after_packet w p) next (λ n. buffers (suc n)) ps room.1)
+      (given_out-tuned (heard b p) (after_packet w p) next (λ n. buffers (suc n)) ps room.1)
     where
       by_event : (c : Bool) → makes_ready (receive_of w.state p (length w.store)).event ≡ c
           → (is_ready (after_packet w p).state.stage ≡ true → (out : List ℕ) → ready_bytes r (heard b p) ≤ length out → given r out (heard b p) ≡ handed r big (after_packet w p))
           → (says_ready b p ≡ true → ready_bytes r (heard b p) ≤ length (buffers 0))
           → cond (says_ready b p) (given r (buffers 0) (heard b p)) [] ≡ cond (makes_ready (receive_of w.state p (length w.store)).event) (handed r big (after_packet w p)) []
       by_event true e same h =
-          let says = says_ready_lem kind pid b w t p ∙ e in
+          let says = says_ready-tuned kind pid b w t p ∙ e in
           rw (says, e) (same (ready_then kind pid w t.set p e) (buffers 0) (h says))
-      by_event false e same h = rw (says_ready_lem kind pid b w t p ∙ e, e)
+      by_event false e same h = rw (says_ready-tuned kind pid b w t p ∙ e, e)
 
 -- buffers for all packets of a frame have room for every ask for a stream: none has more slots than the kind
 pub room_always : (kind : Kind) (pid r : ℕ) → first_stream ≤ r

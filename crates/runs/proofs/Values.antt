@@ -34,7 +34,7 @@ use Rattle.runs.specs.Work.{Work, no_work, works_of, slots_filled, said, headed_
 use Rattle.runs.specs.Losses.{is_kept, Sent, MayHappen, InARowAtMost, arriving, numbers_in, wanted}
 use Rattle.runs.proofs.Reception.{Reception, fresh_with, handed_out}
 use Rattle.runs.proofs.Held.{Done}
-use Rattle.runs.proofs.Composed.{Good, said_good, version_behind_lem, header_read, front-placed, frame_length_lem, packet_fit, works_done, hold}
+use Rattle.runs.proofs.Composed.{Good, said_good, version_behind_bound, header_read, front-placed, length_frame_of, packet_fit, works_done, hold}
 use Rattle.runs.proofs.Table.{Asked, Set, waits}
 use Rattle.runs.proofs.Vouched.{GoodFrame, nothing}
 use Rattle.runs.proofs.Lost.{slot-behind, Counted, no_more, and_then, InRow, end, here, gone, comes_out, first_none}
@@ -57,9 +57,9 @@ good_frame kind pid n h e c l g =
         small = l;
         numbers_fit = fit_four kind (narrow kind (none_before (width_checks kind h.0) (rule_checks kind h.0) g.meets.fields)).numbers;
         numbers_long = g.typed.numbers.0;
-        long = length-first (frame_of kind pid h) (slots_of kind) (frame_length_lem kind pid h g);
+        long = length-first (frame_of kind pid h) (slots_of kind) (length_frame_of kind pid h g);
       };
-      long = frame_length_lem kind pid h g;
+      long = length_frame_of kind pid h g;
       fit = λ i q. ap (unfit pid) (slot-behind i (frame_of kind pid h)) ∙ packet_fit kind pid h g e (suc i) (omega arith) (omega arith);
     }
 
@@ -77,7 +77,7 @@ module _ (kind : Kind) (pid : ℕ) (e : pid_allowed pid ≡ true) where
   unfolding headed_behind
   counted_behind counter version last [] v none = no_more
   counted_behind counter version last (k ∷ ks) v (more d ds) =
-      let u = version_behind_lem kind pid e version last k.setting v in
+      let u = version_behind_bound kind pid e version last k.setting v in
       and_then (said_frame ((counter + 1) % 16) (version_behind version last k.setting) k (omega arith) u d)
       (counted_behind ((counter + 1) % 16) (version_behind version last k.setting) (announced k.setting) ks u ds)
 
@@ -209,8 +209,8 @@ placed_in_frame kind pid r h g l =
     ap₂ (numbered r) (ap (λ (x : Reading). x.setting.relative_ts_number) (header_read kind pid h g)) (behind-header kind pid h)
     ∙ front-placed kind pid h g r l
 
-pub first_of_lem : {A : Type 0} {P : A → Type 0} {x : A} {xs : List A} → Each P (x ∷ xs) → P x
-first_of_lem (more p ps) = p
+pub first_of_each : {A : Type 0} {P : A → Type 0} {x : A} {xs : List A} → Each P (x ∷ xs) → P x
+first_of_each (more p ps) = p
 
 pub each_rest : {A : Type 0} {P : A → Type 0} (xs ys : List A) → Each P (xs ++ ys) → Each P ys
 each_rest [] ys p = p

@@ -67,7 +67,7 @@ pub record Narrow (kind : Kind) (s : Setting) : Type 0 where
   pub counter : s.continuity_counter < 2 ^ 4
   pub version : s.version_number < 2 ^ 3
   pub slot_type : s.slot_allocation_type < 2 ^ 1
-  pub frame_type_lem : s.frame_type < 2 ^ 4
+  pub frame_type_fits : s.frame_type < 2 ^ 4
   pub streams : s.availability < 2 ^ last_stream
   pub statuses : Fit 2 s.receive_status
   pub emergency : s.emergency_indicator < 2 ^ 1
@@ -86,7 +86,7 @@ narrow kind {s} h =
       counter = leb-false (2 ^ 4) s.continuity_counter (none_at h 0);
       version = leb-false (2 ^ 3) s.version_number (none_at h 1);
       slot_type = leb-false (2 ^ 1) s.slot_allocation_type (none_at h 2);
-      frame_type_lem = leb-false (2 ^ 4) s.frame_type (none_at h 3);
+      frame_type_fits = leb-false (2 ^ 4) s.frame_type (none_at h 3);
       streams = leb-false (2 ^ last_stream) s.availability (none_at h 4);
       statuses = fit_some 2 s.receive_status (none_at h 5);
       emergency = leb-false (2 ^ 1) s.emergency_indicator (none_at h 6);

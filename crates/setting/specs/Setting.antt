@@ -18,7 +18,7 @@ Array n w vs = (length vs ≡ n) × Fit w vs
 
 -- what the code's types say of a setting, and nothing more
 pub record OfItsTypes (s : Setting) : Type 0 where
-  pub ts_id_lem : Array last_stream 16 s.ts_id
+  pub ts_ids : Array last_stream 16 s.ts_id
   pub network_id : Array last_stream 16 s.original_network_id
   pub statuses : Array last_stream 8 s.receive_status
   pub numbers : Array last_slot 8 s.relative_ts_number

@@ -36,7 +36,7 @@ byte_from j i k a r h e = ap (λ (n : ℕ). get_or (a ++ r) n 0) e ∙ byte_behi
 pub long : (s : Setting) → OfItsTypes s → Long s
 long s t =
     record {
-      ts_id_lem = t.ts_id_lem.0;
+      ts_ids = t.ts_ids.0;
       network_id = t.network_id.0;
       statuses = t.statuses.0;
       numbers = t.numbers.0;

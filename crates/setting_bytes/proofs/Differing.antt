@@ -42,16 +42,16 @@ same_said : (a b : Announced) → Streams a → Streams b → differ a b ≡ fal
 unfolding differ
 same_said a b l m e =
     let slot_type = neither _ _ e in
-    let frame_type_lem = neither _ _ slot_type.1 in
-    let streams = neither _ _ frame_type_lem.1 in
-    let ts_id_lem = neither _ _ streams.1 in
-    let network_id = neither _ _ ts_id_lem.1 in
+    let same_frame_type = neither _ _ slot_type.1 in
+    let streams = neither _ _ same_frame_type.1 in
+    let ts_ids = neither _ _ streams.1 in
+    let network_id = neither _ _ ts_ids.1 in
     let statuses = neither _ _ network_id.1 in
     rw (
       equal a.slot_allocation_type b.slot_allocation_type slot_type.0,
-      equal a.frame_type b.frame_type frame_type_lem.0,
+      equal a.frame_type b.frame_type same_frame_type.0,
       equal a.availability b.availability streams.0,
-      same_lists a.ts_id b.ts_id (l.0 ∙ sym m.0) ts_id_lem.0,
+      same_lists a.ts_id b.ts_id (l.0 ∙ sym m.0) ts_ids.0,
       same_lists a.original_network_id b.original_network_id (l.1 ∙ sym m.1) network_id.0,
       same_lists a.receive_status b.receive_status (l.2 ∙ sym m.2) statuses.0,
       equal a.emergency_indicator b.emergency_indicator statuses.1,

@@ -47,9 +47,9 @@ setting_in b =
       frame_position = record { 0 = get_or b position_at 0 };
     }
 
-pub setting_in_lem : (b : List ℕ) → length b ≡ setting_length → setting_of b ≡ setting_in b
+pub setting_of-in : (b : List ℕ) → length b ≡ setting_length → setting_of b ≡ setting_in b
 unfolding setting_of announced_of
-setting_in_lem b whole =
+setting_of-in b whole =
     rw (
       eq-eqb (length b) setting_length whole,
       eq-eqb (length (part announced_at announced_length b)) announced_length (length_part announced_at announced_length b (omega arith)),

@@ -111,8 +111,8 @@ length_words (suc n) (x ∷ []) h = absurd (omega arith)
 length_words (suc n) (x ∷ y ∷ b) h = ap suc (length_words n b (omega arith))
 
 -- the two bytes of a number, again
-pub word_bytes_lem : (b : List ℕ) (k : ℕ) → Fit 8 b → 2 * k + 2 ≤ length b
+pub words_of-bytes : (b : List ℕ) (k : ℕ) → Fit 8 b → 2 * k + 2 ≤ length b
     → (get_or (words_of b) k 0 / 256 ≡ get_or b (2 * k) 0) × (get_or (words_of b) k 0 % 256 ≡ get_or b (2 * k + 1) 0)
-word_bytes_lem b k f h =
+words_of-bytes b k f h =
     let low = fit_get_d f (2 * k + 1) in
     rw (words_at b k h) (omega arith, omega arith)

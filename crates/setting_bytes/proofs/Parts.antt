@@ -70,7 +70,7 @@ length-announced a streams =
 
 -- how long a setting's lists are, which the types say
 pub record Long (s : Setting) : Type 0 where
-  pub ts_id_lem : length s.ts_id ≡ last_stream
+  pub ts_ids : length s.ts_id ≡ last_stream
   pub network_id : length s.original_network_id ≡ last_stream
   pub statuses : length s.receive_status ≡ last_stream
   pub numbers : length s.relative_ts_number ≡ last_slot
@@ -80,7 +80,7 @@ pub record Long (s : Setting) : Type 0 where
 -- and those of what it announces
 pub streams : (s : Setting) → Long s → Streams (announced s)
 unfolding announced
-streams s long = (long.ts_id_lem, long.network_id, long.statuses)
+streams s long = (long.ts_ids, long.network_id, long.statuses)
 
 -- the bytes of a setting before its private ones: what it announces and the slots' numbers, then the two bytes before them
 pub setting_front : (s : Setting) (bytes a n : List ℕ) → length bytes ≡ private_at → length a ≡ announced_length → length n ≡ last_slot
@@ -137,7 +137,7 @@ setting_parts s bytes f p b whole lf lp lb pf pp pb =
     (s.auxiliary ++ (s.group_id ∷ s.number_of_carriers ∷ s.carrier_sequence ∷ s.number_of_frames ∷ s.frame_position.0 ∷ []))
 
 -- a setting read: what its bytes announce, and three parts copied over zeros
-pub setting_read_lem : (b n p x : List ℕ) (a : Announced) → length b ≡ setting_length
+pub setting_of-read : (b n p x : List ℕ) (a : Announced) → length b ≡ setting_length
     → a ≡ announced_of (part announced_at announced_length b)
     → n ≡ copied (replicate last_slot 0) (part numbers_at last_slot b)
     → p ≡ copied (replicate private_bytes 0) (part private_at private_bytes b)
@@ -163,7 +163,7 @@ pub setting_read_lem : (b n p x : List ℕ) (a : Announced) → length b ≡ set
       frame_position = record { 0 = get_or b position_at 0 };
     }
 unfolding setting_of
-setting_read_lem b n p x a whole pa pn pp px =
+setting_of-read b n p x a whole pa pn pp px =
     rw (
       eq-eqb (length b) setting_length whole,
       pa,

@@ -26,7 +26,7 @@ pub blank_types : OfItsTypes blank
 unfolding blank
 blank_types =
     record {
-      ts_id_lem = (refl, zeros_fit 16 last_stream);
+      ts_ids = (refl, zeros_fit 16 last_stream);
       network_id = (refl, zeros_fit 16 last_stream);
       statuses = (refl, zeros_fit 8 last_stream);
       numbers = (refl, zeros_fit 8 last_slot);
@@ -66,7 +66,7 @@ module _ (b : List ℕ) (f : Fit 8 b) where
       let fa = fit_part announced_at announced_length b f in
       rw (eq-eqb (length b) setting_length l, eq-eqb (length a) announced_length la)
       (record {
-        ts_id_lem = words_part ts_id_at last_stream a fa (omega arith);
+        ts_ids = words_part ts_id_at last_stream a fa (omega arith);
         network_id = words_part network_id_at last_stream a fa (omega arith);
         statuses = array_part statuses_at last_stream a fa (omega arith);
         numbers = array_part numbers_at last_slot b f (omega arith);

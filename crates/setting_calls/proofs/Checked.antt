@@ -16,9 +16,9 @@ use Rattle.setting_calls.specs.Calls.{call_refused, checks_refused}
 
 module _ (checks : Kind → Setting → List Check) (setting : List ℕ) (kind call : ℕ) (e : call ≡ call_refused (length setting) kind) where
   -- the call itself is refused
-  pub call_refused_lem : (call ≡ 0 → ⊥) → call ≡ checks_refused checks setting kind
+  pub when_call_refused : (call ≡ 0 → ⊥) → call ≡ checks_refused checks setting kind
   unfolding checks_refused
-  call_refused_lem h = rw (sym e, ne_eqb call 0 h)
+  when_call_refused h = rw (sym e, ne_eqb call 0 h)
 
   -- it is not: the checks decide
   pub then_checked : (k : Kind) (answer : ℕ) → call ≡ 0 → k ≡ kind_of kind → answer ≡ of_length setting_length (length setting) (first_of (checks k (setting_of setting))) → answer ≡ checks_refused checks setting kind

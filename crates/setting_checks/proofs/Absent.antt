@@ -73,11 +73,11 @@ module _ (b : List ℕ) (long : length b ≡ setting_from auxiliary_at) where
       by false false false false false false h = absurd (h refl)
 
 -- the last bytes of a setting
-pub absent_in_lem : (kind : Kind) (b : List ℕ) → length b ≡ setting_length
+pub absent_checks-in : (kind : Kind) (b : List ℕ) → length b ≡ setting_length
     → absent_in kind (part private_at (setting_from private_at) b)
     ≡ absent_checks kind (part private_at private_bytes b) (part auxiliary_at auxiliary_bytes b)
     (get_or b group_at 0) (get_or b carriers_at 0) (get_or b sequence_at 0) (get_or b frames_at 0) (get_or b position_at 0)
-absent_in_lem kind b h =
+absent_checks-in kind b h =
     λ i. absent_checks kind (privates i) (auxiliaries i) (byte 159 (omega arith) i) (byte 160 (omega arith) i) (byte 161 (omega arith) i) (byte 162 (omega arith) i) (byte 163 (omega arith) i)
   where
     l : List ℕ

@@ -19,7 +19,7 @@ use Rattle.setting.proofs.Refusals.{first_none}
 use Rattle.setting_bytes.specs.Words.{word_at}
 use Rattle.setting_bytes.specs.Settings.{part, availability_at, ts_id_at, network_id_at, statuses_at, emergency_at, announced_length, announced_of}
 use Rattle.setting_bytes.proofs.Parts.{length_part}
-use Rattle.setting_checks.proofs.Rows.{behind_of, behind_in, behind_in_lem}
+use Rattle.setting_checks.proofs.Rows.{behind_of, behind_in, behind_of-in}
 
 module _ (b : List ℕ) (long : length b ≡ announced_length) where
   -- the statuses, and the emergency bit behind them
@@ -62,4 +62,4 @@ module _ (b : List ℕ) (long : length b ≡ announced_length) where
       (NoneHolds.more (none_left 1 last_stream statuses (length_part statuses_at last_stream b (omega arith))) NoneHolds.none)))
 
   pub nothing_behind : first_of (behind_of last_stream (announced_of b)) ≡ 0
-  nothing_behind = ap first_of (behind_in_lem last_stream b long) ∙ first_none none_behind
+  nothing_behind = ap first_of (behind_of-in last_stream b long) ∙ first_none none_behind

@@ -23,7 +23,7 @@ use Rattle.setting_bytes.specs.Settings.{part, slot_type_at, frame_type_at, avai
 use Rattle.setting_bytes.specs.Settings.{counter_at, version_at, announced_at, numbers_at, private_at, auxiliary_at, group_at, carriers_at, sequence_at, frames_at, position_at}
 use Rattle.setting_bytes.specs.Settings.{setting_length, setting_of}
 use Rattle.setting_bytes.proofs.Parts.{length_part}
-use Rattle.setting_bytes.proofs.InBytes.{in_setting, setting_in_lem}
+use Rattle.setting_bytes.proofs.InBytes.{in_setting, setting_of-in}
 use Rattle.setting_pairs.specs.Identifiers.{ids_apart}
 
 -- ---- 17
@@ -93,9 +93,9 @@ behind_in streams b =
     ∷ (17, some_behind streams (part statuses_at last_stream b))
     ∷ []
 
-pub behind_in_lem : (streams : ℕ) (b : List ℕ) → length b ≡ announced_length → behind_of streams (announced_of b) ≡ behind_in streams b
+pub behind_of-in : (streams : ℕ) (b : List ℕ) → length b ≡ announced_length → behind_of streams (announced_of b) ≡ behind_in streams b
 unfolding announced_of
-behind_in_lem streams b whole =
+behind_of-in streams b whole =
     let ts = part ts_id_at (2 * last_stream) b in
     let os = part network_id_at (2 * last_stream) b in
     let long-ts : length ts ≡ 2 * last_stream = length_part ts_id_at (2 * last_stream) b (omega (arith, whole)) in
@@ -113,9 +113,9 @@ abbrev pub widths_in : Kind → List ℕ → List Check
 widths_in kind b =
     (17, leb (2 ^ 4) (get_or b counter_at 0)) ∷ (17, leb (2 ^ 3) (get_or b version_at 0)) ∷ (announced_checks kind (announced_of (part announced_at announced_length b)) ++ rest_in kind b)
 
-pub widths_in_lem : (kind : Kind) (b : List ℕ) → length b ≡ setting_length → width_checks kind (setting_of b) ≡ widths_in kind b
+pub width_checks-in : (kind : Kind) (b : List ℕ) → length b ≡ setting_length → width_checks kind (setting_of b) ≡ widths_in kind b
 unfolding width_checks setting_of announced_checks
-widths_in_lem kind b whole = rw (eq-eqb (length b) setting_length whole) refl
+width_checks-in kind b whole = rw (eq-eqb (length b) setting_length whole) refl
 
 -- ---- 8 to 11
 
@@ -136,6 +136,6 @@ rules_in kind b =
     ∷ (10, pair_twice (word_at (in_setting availability_at) b) (words_of (part (in_setting ts_id_at) (2 * last_stream) b)) (words_of (part (in_setting network_id_at) (2 * last_stream) b)))
     ∷ bonding_checks kind (get_or b carriers_at 0) (get_or b sequence_at 0) (get_or b frames_at 0) (get_or b position_at 0)
 
-pub rules_in_lem : (kind : Kind) (b : List ℕ) → length b ≡ setting_length → rule_checks kind (setting_of b) ≡ rules_in kind b
+pub rule_checks-in : (kind : Kind) (b : List ℕ) → length b ≡ setting_length → rule_checks kind (setting_of b) ≡ rules_in kind b
 unfolding rule_checks
-rules_in_lem kind b whole = ap (rule_checks kind) (setting_in_lem b whole)
+rule_checks-in kind b whole = ap (rule_checks kind) (setting_of-in b whole)

@@ -11,7 +11,7 @@ use Rattle.refusals.proofs.Refusals.{is_some_number}
 use Rattle.header_check.proofs.Asked.{refused_bare}
 use Rattle.bond_group.specs.Standing.{refused_header, group_refusal}
 use Rattle.bond.specs.Bonding.{moved_in, gathered}
-use Rattle.bond.proofs.Outcomes.{Known, refusal-shown, refusal_is, no_refusal, known, not_of_gather, gather_refused, gather_left, gather_headed, gather_rest_lem, gather_granted, gather_made, to_gather, listed_by}
+use Rattle.bond.proofs.Outcomes.{Known, refusal-shown, refusal_is, no_refusal, known, not_of_gather, gather_refused, gather_left, gather_headed, gather_refusal-rest, gather_granted, gather_made, to_gather, listed_by}
 use Rattle.bond.proofs.gather.Goals as goal
 use Rattle.bond.proofs.gather.Goals.{In_ok-headers}
 
@@ -43,7 +43,7 @@ returns-in_err-packets c =
     let passed_up : c.from_residual-in_err-packets.result ≡ Err (record { refusal = why; remainder = 0 }) = search rules in
     let said = c.in_err-packets.ensures.value in
     let k = planned (goal.at.returns-in_err-packets c).In_ok-headers in
-    let e = gather_rest_lem a.b a.group.now a.out.now k ∙ sym said in
+    let e = gather_refusal-rest a.b a.group.now a.out.now k ∙ sym said in
     let d = is_some_number why in
     let shown = refused_bare (number why) (refused_header a.b a.group.now) refl (λ z. not_of_gather c.in_ok-headers.field-0 (length a.out.now) (sym said ∙ z)) refl in
     record {
@@ -55,14 +55,14 @@ pub gather_over-requires : goal.gather_over-requires
 gather_over-requires c =
     let a = c.args in
     let k = planned (goal.at.gather_over-requires c).In_ok-headers in
-    let all = to_gather a.b a.group.now a.out.now k (gather_rest_lem a.b a.group.now a.out.now k ∙ sym c.in_ok-packets.ensures.value) in
+    let all = to_gather a.b a.group.now a.out.now k (gather_refusal-rest a.b a.group.now a.out.now k ∙ sym c.in_ok-packets.ensures.value) in
     record { listable = all.0; slots_in_bounds = all.1.0; within = all.1.1 }
 
 pub returns : goal.returns
 returns c =
     let a = c.args in
     let k = planned (goal.at.returns c).In_ok-headers in
-    let granted = gather_rest_lem a.b a.group.now a.out.now k ∙ sym c.in_ok-packets.ensures.value in
+    let granted = gather_refusal-rest a.b a.group.now a.out.now k ∙ sym c.in_ok-packets.ensures.value in
     let are = sym (ap (λ (o : Option ℕ). unwrap_or o 0) (c.in_ok-packets.ensures.packets c.in_ok-packets.packets refl)) ∙ k.packets_are in
     record {
       value = gather_granted a.b a.group.now a.out.now c.in_ok-packets.packets granted are (no_refusal a.b a.group.now c.in_ok-headers.field-0 c.in_ok-headers.ensures.value);

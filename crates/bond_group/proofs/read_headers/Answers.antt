@@ -7,7 +7,7 @@ use Rattle.setting.specs.Refusal.{NoneHolds}
 use Rattle.header_check.specs.declared.Refused.{Refused}
 use Rattle.bond_group.specs.Standing.{call_checks}
 use Rattle.bond_group.specs.Plan.{nothing_seen}
-use Rattle.bond_group.proofs.Passing.{called, call_none, call_refused_lem, headers_answer}
+use Rattle.bond_group.proofs.Passing.{called, call_none, when_call_refused, headers_answer}
 use Rattle.bond_group.proofs.Lent.{leaves_by}
 use Rattle.bond_group.proofs.read_headers.Goals as goal
 use Rattle.bond_group.proofs.read_headers.Goals.{In_default}
@@ -18,7 +18,7 @@ returns-in-Err c =
     let a = c.args in
     let refusal = c.in-Err.refusal in
     let shown = ap (λ (why : Refused). record { number = number why.refusal; remainder = why.remainder }) c.from.ensures in
-    let all = leaves_by a.frames.now a.slots.now (call_refused_lem a.b a.group.now (number refusal) shown c.in-Err.ensures (is_some_number refusal)) (refl, (c.clear.ensures.frames_after, c.clear.ensures.slots_after)) in record {
+    let all = leaves_by a.frames.now a.slots.now (when_call_refused a.b a.group.now (number refusal) shown c.in-Err.ensures (is_some_number refusal)) (refl, (c.clear.ensures.frames_after, c.clear.ensures.slots_after)) in record {
       value = all.0;
       frames_after = all.1.0;
       slots_after = all.1.1;

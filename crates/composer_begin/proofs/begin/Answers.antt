@@ -16,7 +16,7 @@ use Rattle.composer.specs.States.{composer_length, composer_of}
 use Rattle.composer.proofs.Same.{opened-bytes, all-bytes, coded_by_counter}
 use Rattle.composer.specs.Calls.{begin_refused, begin_state, begin_memory}
 use Rattle.composer.proofs.There.{kind_there}
-use Rattle.composer.proofs.Calls.{begin_refused_lem, begin_done}
+use Rattle.composer.proofs.Calls.{when_begin_refused, begin_done}
 use Rattle.composer_begin.proofs.Passed.{begin_passed, begin_counter}
 use Rattle.composer_begin.proofs.begin.Goals as goal
 use Rattle.composer_begin.proofs.begin.Goals.{After-size_of-size}
@@ -43,7 +43,7 @@ returns-in_err-begin_refusal c =
     let a = c.args in
     let refusal = c.in_err-begin_refusal.field-0.0 in
     let passed_up : answer c.from_residual.result ≡ number refusal = search rules in
-    let all = begin_refused_lem a.state.now a.setting.now a.frame.now c.if-state-ne-COMPOSER_BYTES.false c.if-setting-ne-SETTING_BYTES.false c.in_err-begin_refusal.ensures (is_some_number refusal) in record {
+    let all = when_begin_refused a.state.now a.setting.now a.frame.now c.if-state-ne-COMPOSER_BYTES.false c.if-setting-ne-SETTING_BYTES.false c.in_err-begin_refusal.ensures (is_some_number refusal) in record {
       value = passed_up ∙ all.0;
       state_after = all.1.0;
       frame_after = all.1.1;

@@ -15,7 +15,7 @@ use Rattle.setting_bytes.proofs.Parts.{length_part}
 use Rattle.composer.specs.States.{counter_at, setting_at, open_length, composer_length, composer_of}
 use Rattle.composer.specs.Calls.{close_refused, close_state, close_memory}
 use Rattle.composer.proofs.Same.{counter_there}
-use Rattle.composer.proofs.Calls.{close_refused_lem, close_done}
+use Rattle.composer.proofs.Calls.{when_close_refused, close_done}
 use Rattle.composer_close.proofs.Passed.{close_passed}
 use Rattle.composer_close.proofs.Saying.{opened_length, setting_said, state_said}
 use Rattle.composer_close.proofs.Closing.{closed_memory, closed_state}
@@ -31,7 +31,7 @@ returns-in_err-close_refusal c =
     let a = c.args in
     let refusal = c.in_err-close_refusal.field-0.0 in
     let passed_up : answer c.from_residual.result ≡ number refusal = search rules in
-    let all = close_refused_lem a.state.now a.frame.now c.if-state-ne-COMPOSER_BYTES.false c.in_err-close_refusal.ensures (is_some_number refusal) in
+    let all = when_close_refused a.state.now a.frame.now c.if-state-ne-COMPOSER_BYTES.false c.in_err-close_refusal.ensures (is_some_number refusal) in
     record { value = passed_up ∙ all.0; state_after = all.1.0; frame_after = all.1.1 }
 
 pub overflow_add-counter : goal.overflow_add-counter

@@ -25,7 +25,7 @@ use Rattle.composer.specs.States.{composer_length, mark_byte, marks_of, is_coded
 use Rattle.composer.proofs.Same.{marked-bytes, marks_low, all-bytes, coded_by_counter}
 use Rattle.composer.proofs.There.{put_end, plan_there, marks_there}
 use Rattle.composer.specs.Calls.{put_refused, put_placed, put_state, put_memory}
-use Rattle.composer.proofs.Calls.{put_refused_lem, put_done}
+use Rattle.composer.proofs.Calls.{when_put_refused, put_done}
 use Rattle.slot_bits.specs.Bits.{slots_as_bits}
 use Rattle.composer.proofs.Slots.{length-empty}
 use Rattle.composer_put.specs.Placing.{placed_in, rest_in}
@@ -42,7 +42,7 @@ module _ (state : List ℕ) (r : ℕ) (stream frame : List ℕ) (long : length s
       × ((0 ≡ put_placed state r stream frame) × ((state ≡ put_state state r stream frame) × (frame ≡ put_memory state r stream frame))))
   unfolding rest_of
   refused e h =
-      let kept = put_refused_lem state r stream frame long (sym e) h in
+      let kept = when_put_refused state r stream frame long (sym e) h in
       (ap (rest_of stream) kept.1.0, kept)
 
   -- where the frame's checks let pass, the answer to the stream's is the refusal of the put

@@ -9,7 +9,7 @@ use Rattle.header_check.specs.declared.Refused.{Refused}
 use Rattle.header_check.specs.OnPaper.{Refusal, refusal_in}
 use Rattle.header_read.specs.Reader.{into_refused, into_memory}
 use Rattle.header_calls.proofs.Called.{called}
-use Rattle.header_calls.proofs.ReadCall.{call_refused_lem, call_granted}
+use Rattle.header_calls.proofs.ReadCall.{when_call_refused, call_granted}
 use Rattle.header_calls.proofs.read.Goals as goal
 
 pub returns-in_err-call_refusal : goal.returns-in_err-call_refusal
@@ -18,7 +18,7 @@ returns-in_err-call_refusal c =
     let refusal = c.in_err-call_refusal.field-0.0 in
     let why : Refused = record { refusal = refusal; remainder = 0 } in
     let passed_up : c.from_residual.result ≡ Err why = search rules in
-    let all = call_refused_lem s.packet.now s.pid s.kind s.setting.now c.in_err-call_refusal.ensures (is_some_number refusal) in record {
+    let all = when_call_refused s.packet.now s.pid s.kind s.setting.now c.in_err-call_refusal.ensures (is_some_number refusal) in record {
       value = ap (λ r. (refusal_in {T = Unit} r).number) passed_up ∙ all.0;
       remainder_shown = ap (λ r. (refusal_in {T = Unit} r).remainder) passed_up ∙ all.1.0;
       setting_after = all.1.1;

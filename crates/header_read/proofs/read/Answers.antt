@@ -11,7 +11,7 @@ use Rattle.setting_bytes.specs.Settings.{setting_length, setting_of}
 use Rattle.header_check.specs.OnPaper.{Refusal}
 use Rattle.header_check.specs.Checking.{read_refusal, refusal_by}
 use Rattle.header_read.specs.Reader.{reading_in, into_refused, into_memory}
-use Rattle.header_read.proofs.Calls.{refused, accepted, refusal_into, said_by_lem}
+use Rattle.header_read.proofs.Calls.{refused, accepted, refusal_into, when_accepted}
 use Rattle.header_read.proofs.read.Goals as goal
 
 -- what was answered is the packet's refusal, and its number
@@ -40,4 +40,4 @@ returns c =
     let none = number_shown s.kind s.pid s.packet.now _ told in
     let left : c.read_into.new.setting ≡ into_memory s.kind s.pid s.packet.now (replicate setting_length 0) = c.read_into.ensures.setting_after in
     accepted s.kind s.pid s.packet.now none _ (shows s.kind s.pid s.packet.now _ told)
-    (c.setting_of.ensures ∙ ap setting_of left ∙ said_by_lem s.kind s.pid s.packet.now (replicate setting_length 0) refl none)
+    (c.setting_of.ensures ∙ ap setting_of left ∙ when_accepted s.kind s.pid s.packet.now (replicate setting_length 0) refl none)

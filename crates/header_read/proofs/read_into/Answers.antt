@@ -12,7 +12,7 @@ use Rattle.header_check.specs.OnPaper.{refusal_in, on_paper}
 use Rattle.header_check.specs.Checking.{read_refusal, checked_of}
 use Rattle.header_check.proofs.Asked.{refusal-shown, refusal_is, parts_are}
 use Rattle.header_check.proofs.Accepted.{shown}
-use Rattle.header_read.proofs.Calls.{other_length, refusal_into, kept_by_lem, written_by}
+use Rattle.header_read.proofs.Calls.{other_length, refusal_into, when_refused, written_by}
 use Rattle.header_read.proofs.read_into.Goals as goal
 
 pub returns-then-setting-ne-SETTING_BYTES : goal.returns-then-setting-ne-SETTING_BYTES
@@ -31,7 +31,7 @@ returns-in_err-said c =
     let passed_up : c.from_residual.result ≡ Err why = search rules in
     let told = c.in_err-said.ensures in record {
       value = ap refusal_in passed_up ∙ refusal-shown s.kind s.pid s.packet.now (on_paper (Err why)) told ∙ sym (refusal_into s.kind s.pid s.packet.now s.setting.now long);
-      setting_after = sym (kept_by_lem s.kind s.pid s.packet.now s.setting.now long (λ none. is_some_number why.refusal (sym (refusal_is s.kind s.pid s.packet.now (on_paper (Err why)) told) ∙ none)));
+      setting_after = sym (when_refused s.kind s.pid s.packet.now s.setting.now long (λ none. is_some_number why.refusal (sym (refusal_is s.kind s.pid s.packet.now (on_paper (Err why)) told) ∙ none)));
     }
 
 -- what the check says of a header that it lets through

@@ -13,7 +13,7 @@ use Rattle.setting.specs.Refusal.{first_of}
 use Rattle.setting.proofs.Refusals.{answers, passed}
 use Rattle.header_layout.specs.Layout.{sync_byte, Field}
 use Rattle.header_layout.specs.Header.{start_value}
-use Rattle.header_layout.proofs.Packet.{differs, agrees, sync_byte_lem, header-pid}
+use Rattle.header_layout.proofs.Packet.{differs, agrees, reads_sync_byte, header-pid}
 use Rattle.packet.specs.Packets.{packet_length, unfit, place_refusal}
 use Rattle.packet.proofs.place_refusal.Goals as goal
 
@@ -28,7 +28,7 @@ module _ (pid : ℕ) (packet : List ℕ) (long : length packet ≡ packet_length
 
   lacks_sync : (get_or packet 0 0 ≡ sync_byte → ⊥) → unfit pid packet ≡ true
   unfolding unfit
-  lacks_sync e = ap (λ (b : Bool). b || eqb (start_value packet Field.header-pid) pid) (differs sync_byte (sync_byte_lem packet bytes long) e)
+  lacks_sync e = ap (λ (b : Bool). b || eqb (start_value packet Field.header-pid) pid) (differs sync_byte (reads_sync_byte packet bytes long) e)
 
   -- thirteen bits of two bytes
   low_bits : (a b : ℕ) → b < 256 → (a * 256 + b) % 8192 ≡ a % 32 * 256 + b
@@ -40,7 +40,7 @@ module _ (pid : ℕ) (packet : List ℕ) (long : length packet ≡ packet_length
   -- with 0x47 it is unfit by its PID alone
   by_pid : get_or packet 0 0 ≡ sync_byte → {b : Bool} → eqb (start_value packet Field.header-pid) pid ≡ b → unfit pid packet ≡ b
   unfolding unfit
-  by_pid sync e = ap₂ ◌||◌ (agrees sync_byte (sync_byte_lem packet bytes long) sync) e
+  by_pid sync e = ap₂ ◌||◌ (agrees sync_byte (reads_sync_byte packet bytes long) sync) e
 
 pub returns-then-packet-ne-PACKET_BYTES : goal.returns-then-packet-ne-PACKET_BYTES
 unfolding place_refusal

@@ -24,7 +24,7 @@ use Rattle.receiver.specs.Receiving.{Receiver, receiver_checks}
 use Rattle.receiver.specs.Bytes.{kind_at, stage_at, receiver_length, receiver_of}
 use Rattle.receiver.specs.Calls.{lent_refusal, state_refused}
 use Rattle.receiver.proofs.LentRefusal.{no_length, own_refusal, lent_accepted, one_anyway}
-use Rattle.receiver.proofs.Standing.{is_ready_lem, not_ready}
+use Rattle.receiver.proofs.Standing.{ready_from_byte, not_ready}
 use Rattle.receiver_hand_out.specs.Ready.{ready_checks}
 use Rattle.receiver_hand_out.proofs.Frames.{at_least, outside_less, receiver_none, state_first}
 use Rattle.receiver_hand_out.proofs.ready_refusal.Goals as goal
@@ -94,7 +94,7 @@ module _ (b : List ℕ) (r store : ℕ) where
 
             one_ready : get_or b stage_at 0 ≡ 2 → 0 ≡ all
             unfolding first_of
-            one_ready e = sym (past_number ∙ passed 16 [] (ap not (is_ready_lem b accepted.1 e)))
+            one_ready e = sym (past_number ∙ passed 16 [] (ap not (ready_from_byte b accepted.1 e)))
 
 pub returns-then-state-ne-RECEIVER_BYTES : goal.returns-then-state-ne-RECEIVER_BYTES
 returns-then-state-ne-RECEIVER_BYTES c = no_length _ _ c.if-state-ne-RECEIVER_BYTES.true

@@ -16,7 +16,7 @@ use Rattle.packet.proofs.Fit.{may_stand, may_not_stand}
 use Rattle.receiver.specs.Receiving.{receive_refusal, receive_of}
 use Rattle.receiver.specs.Bytes.{pid_at, receiver_length, receiver_of, told, receiver_bytes}
 use Rattle.receiver.specs.Calls.{lent_refusal}
-use Rattle.receiver.proofs.Answers.{receive_refused_lem, receives}
+use Rattle.receiver.proofs.Answers.{when_receive_refused, receives}
 use Rattle.receiver.proofs.LentRefusal.{lent_accepted}
 use Rattle.receiver_receive.specs.Receive.{told_in}
 use Rattle.receiver_receive.specs.Usual.{Usual}
@@ -50,7 +50,7 @@ returns-in_err-receive_refusal c =
     let a = c.args in
     let refusal = c.in_err-receive_refusal.field-0.0 in
     let passed_up : c.from_residual.result ≡ Err refusal = search rules in
-    let all = receive_refused_lem a.state.now a.packet.now a.store.now c.in_err-receive_refusal.ensures (is_some_number refusal) in
+    let all = when_receive_refused a.state.now a.packet.now a.store.now c.in_err-receive_refusal.ensures (is_some_number refusal) in
     record {
       value = ap answer passed_up ∙ all.0;
       event = ap (λ r. (told_in r).event) passed_up ∙ all.1.0;

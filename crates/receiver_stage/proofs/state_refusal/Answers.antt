@@ -17,7 +17,7 @@ use Rattle.setting_bytes.specs.Words.{word_at}
 use Rattle.setting_bytes.specs.Kinds.{kind_of}
 use Rattle.receiver.specs.Table.{stage_checks}
 use Rattle.receiver.specs.Bytes.{pid_at, kind_at, stage_at, counter_at, stored_at, stage_of, receiver_of}
-use Rattle.receiver.proofs.Refused.{no_state, no_pid, no_kind, no_stage_lem, its_numbers}
+use Rattle.receiver.proofs.Refused.{no_state, no_pid, no_kind, when_no_stage, its_numbers}
 use Rattle.receiver_stage.proofs.state_refusal.Goals as goal
 use Rattle.receiver_stage.proofs.state_refusal.Goals.{After-pid_allowed}
 
@@ -51,7 +51,7 @@ returns-in_err-stage_refusal c =
     let refusal = c.in_err-stage_refusal.field-0.0 in
     let passed_up : answer c.from_residual.result ≡ number refusal = search rules in
     passed_up
-    ∙ no_stage_lem b c.if-state-ne-RECEIVER_BYTES.false (said (goal.at.returns-in_err-stage_refusal c).After-pid_allowed ∙ not-false _ c.if-not-pid_allowed.false-raw) (omega (arith, c.if-state-gt-LAST_KIND.false))
+    ∙ when_no_stage b c.if-state-ne-RECEIVER_BYTES.false (said (goal.at.returns-in_err-stage_refusal c).After-pid_allowed ∙ not-false _ c.if-not-pid_allowed.false-raw) (omega (arith, c.if-state-gt-LAST_KIND.false))
     (staged b c.size_of-size.ensures c.kind_of-kind.ensures c.in_err-stage_refusal.ensures) (is_some_number refusal)
 
 pub returns : goal.returns

@@ -5,7 +5,7 @@ use Rattle.refusals.specs.Refusals.{number, answer}
 use Rattle.refusals.proofs.Refusals.{is_some_number}
 use Rattle.setting.specs.Rules.{width_checks}
 use Rattle.setting_calls.specs.Calls.{widths_refused}
-use Rattle.setting_calls.proofs.Checked.{call_refused_lem, then_checked}
+use Rattle.setting_calls.proofs.Checked.{when_call_refused, then_checked}
 use Rattle.setting_calls.proofs.check_widths.Goals as goal
 
 pub returns-in_err-call_refusal : goal.returns-in_err-call_refusal
@@ -13,7 +13,7 @@ unfolding widths_refused
 returns-in_err-call_refusal c =
     let refusal = c.in_err-call_refusal.field-0.0 in
     let passed_up : answer c.from_residual.result ≡ number refusal = search rules in
-    passed_up ∙ call_refused_lem width_checks _ _ _ c.in_err-call_refusal.ensures (is_some_number refusal)
+    passed_up ∙ when_call_refused width_checks _ _ _ c.in_err-call_refusal.ensures (is_some_number refusal)
 
 pub returns : goal.returns
 unfolding widths_refused

@@ -13,7 +13,7 @@ use Rattle.setting.specs.Refusal.{Check, first_of}
 use Rattle.setting.proofs.Refusals.{Past, answers, passed}
 use Rattle.setting_bytes.specs.Words.{word_at}
 use Rattle.setting_bytes.specs.Settings.{availability_at, announced_of}
-use Rattle.setting_checks.proofs.Rows.{behind_of, behind_in, behind_in_lem}
+use Rattle.setting_checks.proofs.Rows.{behind_of, behind_in, behind_of-in}
 use Rattle.setting_checks.proofs.has_more_streams.Statement.{statement}
 use Rattle.setting_checks.proofs.has_more_streams.Tie as tie
 
@@ -22,7 +22,7 @@ abbrev rows : tie.Start → List Check
 rows c = behind_in c.args.streams c.args.bytes.now
 
 told : (c : tie.Start) → first_of (behind_of c.args.streams (announced_of c.args.bytes.now)) ≡ first_of (rows c)
-told c = ap first_of (behind_in_lem c.args.streams c.args.bytes.now c.requires.0)
+told c = ap first_of (behind_of-in c.args.streams c.args.bytes.now c.requires.0)
 
 -- the bits behind the last stream's: as many as there are streams fewer than fifteen
 bits : (c : tie.Start) → 1 * 2 ^ (last_stream - c.args.streams) % 2 ^ 16 ≡ 2 ^ (last_stream - c.args.streams)

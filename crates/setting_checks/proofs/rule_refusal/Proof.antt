@@ -14,7 +14,7 @@ use Rattle.setting_bytes.specs.Settings.{part, availability_at, ts_id_at, networ
 use Rattle.setting.proofs.Refusals.{Past, answers, passed, at_length, off_length}
 use Rattle.setting_bytes.proofs.Parts.{length_part}
 use Rattle.setting_bytes.proofs.InBytes.{in_setting}
-use Rattle.setting_checks.proofs.Rows.{rules_in, rules_in_lem, words_apart}
+use Rattle.setting_checks.proofs.Rows.{rules_in, rule_checks-in, words_apart}
 use Rattle.setting_checks.proofs.rule_refusal.Statement.{statement}
 use Rattle.setting_checks.proofs.rule_refusal.Tie as tie
 
@@ -23,7 +23,7 @@ abbrev rows : tie.Start → List Check
 rows c = rules_in c.args.kind c.args.bytes.now
 
 told : (c : tie.Else-bytes-ne-SETTING_BYTES) → let s = c.before.before.args in of_length setting_length (length s.bytes.now) (first_of (rule_checks s.kind (setting_of s.bytes.now))) ≡ first_of (rows c.before.before)
-told c = let s = c.before.before.args in at_length _ _ _ c.if-bytes-ne-SETTING_BYTES.false ∙ ap first_of (rules_in_lem s.kind s.bytes.now c.if-bytes-ne-SETTING_BYTES.false)
+told c = let s = c.before.before.args in at_length _ _ _ c.if-bytes-ne-SETTING_BYTES.false ∙ ap first_of (rule_checks-in s.kind s.bytes.now c.if-bytes-ne-SETTING_BYTES.false)
 
 past_1 : (c : tie.Else-not-frame_type_allowed) → Past 1 (rows c.before.before.before.before.before)
 past_1 c = passed _ _ (ap not (sym c.before.frame_type_allowed.ensures) ∙ c.if-not-frame_type_allowed.false-raw)

@@ -21,8 +21,8 @@ use Rattle.setting_bytes.specs.Settings.{part, announced_length, announced_of, a
 use Rattle.setting.proofs.Refusals.{answers, passed, none_first, onward, at_once, at_length, off_length}
 use Rattle.setting.proofs.Sizes.{sized}
 use Rattle.setting_bytes.proofs.Parts.{length_part}
-use Rattle.setting_checks.proofs.Absent.{absent_in_lem}
-use Rattle.setting_checks.proofs.Rows.{rest_in, widths_in, widths_in_lem}
+use Rattle.setting_checks.proofs.Absent.{absent_checks-in}
+use Rattle.setting_checks.proofs.Rows.{rest_in, widths_in, width_checks-in}
 use Rattle.setting_checks.proofs.width_refusal.Goals as goal
 
 module _ (kind : Kind) (b : List ℕ) (long : length b ≡ setting_length) where
@@ -34,7 +34,7 @@ module _ (kind : Kind) (b : List ℕ) (long : length b ≡ setting_length) where
   answered = of_length setting_length (length b) (first_of (width_checks kind (setting_of b)))
 
   rows : answered ≡ first_of (widths_in kind b)
-  rows = at_length _ _ _ long ∙ ap first_of (widths_in_lem kind b long)
+  rows = at_length _ _ _ long ∙ ap first_of (width_checks-in kind b long)
 
   announced : {n : ℕ} → n ≡ of_length announced_length (length (part announced_at announced_length b)) (first_of shown) → n ≡ first_of shown
   announced e = e ∙ at_length _ _ _ (length_part announced_at announced_length b (omega (arith, long)))
@@ -100,5 +100,5 @@ returns c =
     let b = c.args.bytes.now in
     let long = c.if-bytes-ne-SETTING_BYTES.false in
     let past = past_shown c.args.kind b long c.if-bytes-ge-COUNTERS.false c.if-bytes-ge-VERSIONS.false (sym (announced c.args.kind b long c.in_ok-announced_refusal.ensures)) in
-    c.absent_refusal.ensures ∙ ap first_of (absent_in_lem c.args.kind b long)
+    c.absent_refusal.ensures ∙ ap first_of (absent_checks-in c.args.kind b long)
     ∙ sym (past_large c.args.kind b long past c.size_of-size.ensures c.if-some_at_least.ensures ∙ passed _ _ (rw (sym c.size_of-size.ensures) (sym c.if-some_behind.ensures)))

@@ -3,7 +3,7 @@ use mathlib.Core.Path.{sym}
 use borrow.Author.Tests.{ne_eqb}
 use lib.ListN.{length}
 use Rattle.setting_bytes.specs.Settings.{setting_length, setting_of}
-use Rattle.setting_bytes.proofs.Parts.{setting_read_lem}
+use Rattle.setting_bytes.proofs.Parts.{setting_of-read}
 use Rattle.setting_read.proofs.setting_of.Goals as goal
 
 pub returns-then-bytes-ne-SETTING_BYTES : goal.returns-then-bytes-ne-SETTING_BYTES
@@ -13,5 +13,5 @@ returns-then-bytes-ne-SETTING_BYTES c = rw (ne_eqb (length c.args.bytes.now) set
 pub returns : goal.returns
 returns c =
     sym
-    (setting_read_lem c.args.bytes.now _ _ _ _ c.if-bytes-ne-SETTING_BYTES.false c.announced_of-a.ensures c.copy.ensures
+    (setting_of-read c.args.bytes.now _ _ _ _ c.if-bytes-ne-SETTING_BYTES.false c.announced_of-a.ensures c.copy.ensures
     c.copy-2.ensures c.copy-3.ensures)

@@ -27,7 +27,7 @@ use Rattle.bond_group.proofs.Grouping.{sequence_few, frames_fit}
 use Rattle.bond_group.proofs.Planned.{packets_few}
 use Rattle.bond_group.proofs.Uncarried.{uncarried}
 use Rattle.bond_group.proofs.Lent.{Leaves, leaves_by, Written, written_none, written_lent, written-more, written_all, written_refused}
-use Rattle.bond_group.proofs.Through.{Through, through_none, part, part-long, part-said, said_is, read_refused_lem, read_shows, standing_refused, not_of_standing, stand_each, through_more, behind_few, missing, none_missing, planned_refused, planned_all}
+use Rattle.bond_group.proofs.Through.{Through, through_none, part, part-long, part-said, said_is, when_read_refused, read_shows, standing_refused, not_of_standing, stand_each, through_more, behind_few, missing, none_missing, planned_refused, planned_all}
 use Rattle.bond_group.proofs.headers.plan_of.Goals as goal
 use Rattle.bond_group.proofs.headers.plan_of.Goals.{After-standing_refusal, then-j-eq0, else-j-eq0}
 
@@ -79,7 +79,7 @@ returns-in-Err c =
     let d = is_some_number why.refusal in
     let all = left_refused a.b a.group.now a.frames.now a.slots.now c.loop-j.invariant.written (number why.refusal) why
     (read_shows a.b a.group.now c.requires.last_slot_len.1 c.loop-j.j (omega arith) c.loop-j.behind c.loop-j.group_id t (on_paper (Err why)) e d)
-    (read_refused_lem a.b a.group.now c.requires.last_slot_len.1 c.loop-j.j (omega arith) c.loop-j.behind c.loop-j.group_id t (on_paper (Err why)) e d)
+    (when_read_refused a.b a.group.now c.requires.last_slot_len.1 c.loop-j.j (omega arith) c.loop-j.behind c.loop-j.group_id t (on_paper (Err why)) e d)
     d c.clear-in-Err.ensures.frames_after c.clear-in-Err.ensures.slots_after in
     record { value = all.0; frames_after = all.1.0; slots_after = all.1.1 }
 

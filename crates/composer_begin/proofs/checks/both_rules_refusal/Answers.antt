@@ -17,7 +17,7 @@ use Rattle.setting_bytes.specs.Kinds.{kind_of}
 use Rattle.setting_bytes.specs.Settings.{setting_length, setting_of}
 use Rattle.composer.specs.States.{composer_length, kind_at, composer_of}
 use Rattle.composer.proofs.There.{kind_there}
-use Rattle.composer_begin.proofs.Turns.{lesser, in_turn_lem, rules_rise}
+use Rattle.composer_begin.proofs.Turns.{lesser, first_of-in_turn, rules_rise}
 use Rattle.composer_begin.proofs.checks.both_rules_refusal.Goals as goal
 
 -- what both answered, once the second was asked
@@ -32,7 +32,7 @@ module _ (state setting : List ℕ) (k : Kind) (kind : k ≡ kind_of (get_or sta
       ap₂ lesser
       (old ∙ at_length _ _ _ long)
       (new ∙ at_length _ _ _ whole ∙ ap (λ (x : Kind). first_of (rule_checks x said)) (kind ∙ sym (kind_there state)))
-      ∙ sym (in_turn_lem (omega arith) (rules_rise run.kind run.setting said run.is_open))
+      ∙ sym (first_of-in_turn (omega arith) (rules_rise run.kind run.setting said run.is_open))
 
 pub returns-in_default : goal.returns-in_default
 returns-in_default c =

@@ -11,7 +11,7 @@ use Rattle.setting_bytes.specs.Settings.{part, numbers_at, setting_length}
 use Rattle.setting_bytes.proofs.Parts.{length_part}
 use Rattle.composer.specs.Slots.{numbers_of}
 use Rattle.composer.specs.States.{marks_of}
-use Rattle.composer_close.proofs.Numbers.{numbers_at_lem, length_numbers}
+use Rattle.composer_close.proofs.Numbers.{numbers_of-at, length_numbers}
 use Rattle.composer_close.proofs.Pasted.{paste_behind, paste_next, paste_all}
 use Rattle.composer_close.proofs.header.number.Goals as goal
 use Rattle.composer_close.proofs.header.number.Goals.{else-opened-i-ne1, then-opened-i-ne1}
@@ -51,7 +51,7 @@ loop-i-preserved c =
     unread b long i (setting_length + i) (omega arith) c.loop-i.invariant (omega arith) ∙ sym (get_or-drop setting_length b i 0) in
     let kept : get_or c.loop-i.opened (numbers_at + i) 0 ≡ get_or (plan b) i 0 =
     unread b long i (numbers_at + i) (omega arith) c.loop-i.invariant (omega arith) ∙ sym (get_or-take last_slot (drop numbers_at b) i 0 (omega arith) ∙ get_or-drop numbers_at b i 0) in
-    let at = numbers_at_lem (plan b) (drop setting_length b) i (omega (arith, planned b long)) (omega (arith, marked b long)) in
+    let at = numbers_of-at (plan b) (drop setting_length b) i (omega (arith, planned b long)) (omega (arith, marked b long)) in
     let said : c.if-opened-i-ne1.n ≡ get_or (numbers b) i 0 =
     elim c.if-opened-i-ne1.branch [ then-opened-i-ne1 w ↦ w.n-is ∙ sym (at ∙ rw (ne_eqb _ _ (λ e. w.if-opened-i-ne1.true (mark ∙ e)))) | else-opened-i-ne1 w ↦ w.n-is ∙ kept ∙ sym (at ∙ rw (eq-eqb _ _ (sym mark ∙ w.if-opened-i-ne1.false))) ] in
     paste_next b numbers_at (numbers b) i _ c.loop-i.invariant said (omega (arith, long)) (omega (arith, enough b long))

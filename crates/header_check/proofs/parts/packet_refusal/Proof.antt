@@ -10,7 +10,7 @@ use Rattle.setting.specs.Refusal.{Check, first_of}
 use Rattle.setting.proofs.Refusals.{Past, answers, passed}
 use Rattle.header_layout.specs.Layout.{sync_byte, tsmf_sync, Field}
 use Rattle.header_layout.specs.Header.{start_value, packet_checks}
-use Rattle.header_layout.proofs.Packet.{differs, agrees, first_differs, second_differs, both_agree, sync_byte_lem, zeros, header-pid, one, tsmf_sync_lem}
+use Rattle.header_layout.proofs.Packet.{differs, agrees, first_differs, second_differs, both_agree, reads_sync_byte, zeros, header-pid, one, reads_tsmf_sync}
 use Rattle.header_check.specs.Checking.{refusal_by}
 use Rattle.header_check.proofs.Asked.{refused_bare, refused_from}
 use Rattle.refusals.specs.declared.Refusal.{Refusal}
@@ -45,7 +45,7 @@ known₅ c = known₄ c.before.before
 
 past₁ : (c : tie.Else-packet-ne71) → Past 1 (checks (known₁ c))
 unfolding packet_checks
-past₁ c = passed 3 _ (agrees sync_byte (sync_byte_lem (packet (known₁ c)) (bytes (known₁ c)) (known₁ c).before.requires) c.if-packet-ne71.false)
+past₁ c = passed 3 _ (agrees sync_byte (reads_sync_byte (packet (known₁ c)) (bytes (known₁ c)) (known₁ c).before.requires) c.if-packet-ne71.false)
 
 past₂ : (c : tie.Else-word_at-pid) → Past 2 (checks (known₂ c))
 unfolding packet_checks
@@ -66,7 +66,7 @@ unfolding packet_checks
 past₄ c =
     let k = known₅ c in
     past₃ c.before.before
-    ∙ passed 6 _ (agrees tsmf_sync (tsmf_sync_lem (packet k) (bytes k) k.before.requires ∙ ap (λ (n : ℕ). n % 8192) (sym c.before.word_at-2.ensures)) c.if-word_at-ne6790.false)
+    ∙ passed 6 _ (agrees tsmf_sync (reads_tsmf_sync (packet k) (bytes k) k.before.requires ∙ ap (λ (n : ℕ). n % 8192) (sym c.before.word_at-2.ensures)) c.if-word_at-ne6790.false)
 
 shared_slice_read_if1 : tie.Need-bounds-packet-0
 shared_slice_read_if1 c = omega arith
@@ -79,7 +79,7 @@ unfolding packet_checks
 returns c =
     let k = c.before.before.before in
     refused_from Refusal.SyncByte (packet k) c.from.ensures (omega arith)
-    (sym (answers 3 _ (differs sync_byte (sync_byte_lem (packet k) (bytes k) k.before.requires) c.before.if-packet-ne71.true)))
+    (sym (answers 3 _ (differs sync_byte (reads_sync_byte (packet k) (bytes k) k.before.requires) c.before.if-packet-ne71.true)))
 
 word_at_requires : tie.Need-word_at-requires
 word_at_requires c κs = omega arith
@@ -133,7 +133,7 @@ unfolding packet_checks
 returns_5 c =
     let k = known₄ c.before.before.before in
     refused_from Refusal.SyncBits (packet k) c.from-then-word_at-ne6790.ensures (omega arith)
-    (sym (past₃ c.before.before.before ∙ answers 6 _ (differs tsmf_sync (tsmf_sync_lem (packet k) (bytes k) k.before.requires ∙ ap (λ (n : ℕ). n % 8192) (sym c.before.before.word_at-2.ensures)) c.before.if-word_at-ne6790.true)))
+    (sym (past₃ c.before.before.before ∙ answers 6 _ (differs tsmf_sync (reads_tsmf_sync (packet k) (bytes k) k.before.requires ∙ ap (λ (n : ℕ). n % 8192) (sym c.before.before.word_at-2.ensures)) c.before.if-word_at-ne6790.true)))
 
 remainder_of_requires : tie.Need-remainder_of-remainder-requires
 remainder_of_requires c κs = omega arith

@@ -59,9 +59,9 @@ identifiers-at : (c : tie.After-places_of-at) → c.places_of-at.result.identifi
 unfolding places_of
 identifiers-at c = ap (λ (t : Places). t.identifiers) c.places_of-at.ensures.0
 
-numbers_at_lem : (c : tie.After-places_of-at) → c.places_of-at.result.numbers ≡ numbers_start (size_of (known₁ c.before).before.args.kind)
+numbers_begin : (c : tie.After-places_of-at) → c.places_of-at.result.numbers ≡ numbers_start (size_of (known₁ c.before).before.args.kind)
 unfolding places_of
-numbers_at_lem c = ap (λ (t : Places). t.numbers) c.places_of-at.ensures.0
+numbers_begin c = ap (λ (t : Places). t.numbers) c.places_of-at.ensures.0
 
 -- so the bits behind the availability and before the emergency bit are those that the code reads
 stream_bit : (c : tie.After-places_of-at)
@@ -70,7 +70,7 @@ stream_bit c = ap (λ (n : ℕ). get_or (packet (known₁ c.before)) (n - 1) 0 %
 
 control-bit : (c : tie.After-places_of-at)
     → let k = known₁ c.before in get_or (packet k) (numbers_start (size_of k.before.args.kind) - 1) 0 / 2 % 2 ≡ get_or (packet k) (c.places_of-at.result.numbers - 1) 0 / 2 % 2
-control-bit c = ap (λ (n : ℕ). get_or (packet (known₁ c.before)) (n - 1) 0 / 2 % 2) (sym (numbers_at_lem c))
+control-bit c = ap (λ (n : ℕ). get_or (packet (known₁ c.before)) (n - 1) 0 / 2 % 2) (sym (numbers_begin c))
 
 behind_two : (c : tie.Else-packet-at-ne1) → Behind 2 (known₂ c)
 behind_two c =

@@ -15,7 +15,7 @@ use Rattle.setting.specs.Size.{size_of, resized}
 use Rattle.setting.proofs.Sizes.{sized}
 use Rattle.setting_bytes.specs.Settings.{part, ts_id_at, network_id_at, numbers_at, setting_length, setting_of}
 use Rattle.setting_bytes.proofs.Parts.{length_part}
-use Rattle.setting_bytes.proofs.InBytes.{in_setting, setting_in, setting_in_lem}
+use Rattle.setting_bytes.proofs.InBytes.{in_setting, setting_in, setting_of-in}
 use Rattle.header_layout.specs.declared.Places.{Places}
 use Rattle.header_layout.specs.Layout.{streams_start, identifiers_start, control_start, numbers_start, private_start}
 use Rattle.header_layout.specs.Places.{places_of}
@@ -289,7 +289,7 @@ returns c =
     let up = rising p in
     let kind = s.args.kind in
     let bytes = s.args.setting.now in
-    let said = sym (setting_in_lem bytes s.requires.1) in
+    let said = sym (setting_of-in bytes s.requires.1) in
     body_parts kind s.args.pid (setting_of bytes) s.args.part.now _ _ _ _ _ _ streams_start r.identifiers r.control r.numbers r.private s.requires.0
     (first.write_start.auto.part ∙ mid_len 0 streams_start s.args.part.now (omega (arith, s.requires.0)))
     (streams.write_streams.auto.part ∙ mid_len streams_start r.identifiers (after₁ first) (omega (arith, whole₁ first)))

@@ -10,7 +10,7 @@ use Rattle.counters.specs.Counters.{last_stream}
 use Rattle.setting.specs.declared.Setting.{Setting}
 use Rattle.setting_bytes.specs.Settings.{part, statuses_at, setting_length}
 use Rattle.setting_bytes.proofs.Parts.{length_part}
-use Rattle.setting_bytes.proofs.InBytes.{in_setting, setting_in, setting_in_lem}
+use Rattle.setting_bytes.proofs.InBytes.{in_setting, setting_in, setting_of-in}
 use Rattle.header_layout.specs.Layout.{control_table}
 use Rattle.header_layout.specs.Header.{line_bits}
 use Rattle.header_layout.proofs.Control.{control-next, control-last, control_bits}
@@ -47,4 +47,4 @@ returns c z pid n =
     ∙ rw c.four-2.ensures (control-last (take last turn.part) r last (setting_in b).emergency_indicator room (rw all at turn.invariant))
     ∙ ap (λ (m : ℕ). run 2 (take m r) ++ (bits_of 1 1 ++ bits_of 1 (setting_in b).emergency_indicator)) streams
     ∙ control_bits z pid (setting_in b) (omega (arith, room))
-    ∙ ap (λ (s : Setting). line_bits z pid s (control_table z)) (sym (setting_in_lem b c.requires.2))
+    ∙ ap (λ (s : Setting). line_bits z pid s (control_table z)) (sym (setting_of-in b c.requires.2))

@@ -8,7 +8,7 @@ use Rattle.setting.specs.declared.Setting.{Setting}
 use Rattle.setting.specs.Setting.{auxiliary_bytes}
 use Rattle.setting_bytes.specs.Settings.{auxiliary_at}
 use Rattle.setting_bytes.proofs.Parts.{length_part}
-use Rattle.setting_bytes.proofs.InBytes.{setting_in, setting_in_lem}
+use Rattle.setting_bytes.proofs.InBytes.{setting_in, setting_of-in}
 use Rattle.header_layout.specs.Layout.{private_table}
 use Rattle.header_layout.specs.Bytes.{bonding_bytes}
 use Rattle.header_layout.specs.Header.{line_bits}
@@ -82,9 +82,9 @@ returns c z pid =
     let auxiliaries = length_part auxiliary_at auxiliary_bytes b (omega (arith, start.requires)) in
     extended_parts z pid (setting_in b) part _ _ _ start.requires.0 auxiliaries
     (copied.copy.ensures ∙ copied_all (take 28 part) (setting_in b).auxiliary (length-take-le 28 part (omega (arith, start.requires)) ∙ sym auxiliaries))
-    (bonded.write_bonding.ensures ∙ ap bonding_bytes (setting_in_lem b start.requires.1))
+    (bonded.write_bonding.ensures ∙ ap bonding_bytes (setting_of-in b start.requires.1))
     filled.fill.ensures
-    ∙ ap (λ (s : Setting). line_bits z pid s (private_table Kind.Extended)) (sym (setting_in_lem b start.requires.1))
+    ∙ ap (λ (s : Setting). line_bits z pid s (private_table Kind.Extended)) (sym (setting_of-in b start.requires.1))
 
 pub write_extended_spec : {M : Type 1} → statement M
 write_extended_spec =

@@ -10,7 +10,7 @@ use Rattle.bits.proofs.Laws.{fit_of}
 use Rattle.counters.specs.Counters.{last_stream}
 use Rattle.setting.proofs.Sizes.{resized-take}
 use Rattle.setting_bytes.specs.Words.{words_of}
-use Rattle.setting_bytes.proofs.Numbers.{length_words, word_bytes_lem}
+use Rattle.setting_bytes.proofs.Numbers.{length_words, words_of-bytes}
 use Rattle.header_layout.specs.Header.{paired}
 use Rattle.header_layout.proofs.Identifiers.{stream_written}
 use Rattle.header_write.proofs.writer.write_identifiers.Goals as goal
@@ -25,8 +25,8 @@ loop-k-preserved c =
     let args = c.args in
     let pre = c.requires in
     let k = turn.k in
-    let t = word_bytes_lem args.ts.now k (fit_of 8 args.ts.now (λ i. (c.type_inv.ts i).fits)) (omega (arith, pre)) in
-    let o = word_bytes_lem args.os.now k (fit_of 8 args.os.now (λ i. (c.type_inv.os i).fits)) (omega (arith, pre)) in
+    let t = words_of-bytes args.ts.now k (fit_of 8 args.ts.now (λ i. (c.type_inv.ts i).fits)) (omega (arith, pre)) in
+    let o = words_of-bytes args.os.now k (fit_of 8 args.os.now (λ i. (c.type_inv.os i).fits)) (omega (arith, pre)) in
     let next = stream_written turn.part (words_of args.ts.now) (words_of args.os.now) k (4 * k)
     (omega (arith, pre, length_words last_stream args.ts.now pre.ts_len.0)) (omega (arith, pre, length_words last_stream args.os.now pre.ts_len.1))
     (omega (arith, pre)) turn.invariant in

@@ -16,7 +16,7 @@ use Rattle.setting.specs.Size.{size_of, resized}
 use Rattle.setting.proofs.Sizes.{resized-take}
 use Rattle.setting_bytes.specs.Settings.{part, private_at, setting_length, setting_of}
 use Rattle.setting_bytes.proofs.Parts.{length_part}
-use Rattle.setting_bytes.proofs.InBytes.{setting_in_lem}
+use Rattle.setting_bytes.proofs.InBytes.{setting_of-in}
 use Rattle.header_layout.specs.Rows.{pack}
 use Rattle.header_layout.specs.Layout.{private_table, private_start}
 use Rattle.header_layout.specs.Header.{held, line_bits}
@@ -42,7 +42,7 @@ privates n into b few l whole {own} h =
     all_lent n into own l ∙ h
     ∙ copied-over (take n into) (part private_at n b) (length-take-le n into (omega arith) ∙ sym (length_part private_at n b (omega arith)))
     ∙ sym (resized-take n (part private_at private_bytes b) (omega (arith, all)) ∙ take-take n private_bytes _ few)
-    ∙ ap (λ (s : Setting). resized n s.private_data) (sym (setting_in_lem b whole))
+    ∙ ap (λ (s : Setting). resized n s.private_data) (sym (setting_of-in b whole))
 
 enum_told : tie.Need-enum_told-1
 enum_told c = search rules

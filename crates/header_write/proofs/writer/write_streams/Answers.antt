@@ -8,7 +8,7 @@ use Rattle.bits.specs.Fields.{run}
 use Rattle.counters.specs.Counters.{last_stream, last_short_stream}
 use Rattle.setting.specs.declared.Setting.{Setting}
 use Rattle.setting.specs.Size.{size_of}
-use Rattle.setting_bytes.proofs.InBytes.{setting_in, setting_in_lem}
+use Rattle.setting_bytes.proofs.InBytes.{setting_in, setting_of-in}
 use Rattle.slices.proofs.Front.{stored}
 use Rattle.header_layout.specs.Layout.{stream_table}
 use Rattle.header_layout.specs.Header.{line_bits}
@@ -46,7 +46,7 @@ returns-in-Plain c pid =
     let z = size_of c.args.kind in
     let b = c.args.setting.now in
     ap (run 8) (rw c.word-availability.ensures (stored (fifteen_bytes (setting_in b)) c.args.part.now (two_bytes at))) ∙ fifteen_bits z pid (setting_in b) (fifteen at)
-    ∙ ap (λ (s : Setting). line_bits z pid s (stream_table z)) (sym (setting_in_lem b c.requires.1))
+    ∙ ap (λ (s : Setting). line_bits z pid s (stream_table z)) (sym (setting_of-in b c.requires.1))
 
 pub returns-in-Short : goal.returns-in-Short
 returns-in-Short c pid =
@@ -54,4 +54,4 @@ returns-in-Short c pid =
     let z = size_of c.args.kind in
     let b = c.args.setting.now in
     ap (run 8) (rw c.word-availability.ensures (stored (seven_bytes (setting_in b)) c.args.part.now (one_byte at))) ∙ seven_bits z pid (setting_in b) (seven at)
-    ∙ ap (λ (s : Setting). line_bits z pid s (stream_table z)) (sym (setting_in_lem b c.requires.1))
+    ∙ ap (λ (s : Setting). line_bits z pid s (stream_table z)) (sym (setting_of-in b c.requires.1))
