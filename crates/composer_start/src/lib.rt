@@ -9,17 +9,9 @@ ghost use Rattle.composer.specs.States.{composer_length, composer_bytes};
 ghost use Rattle.composer.specs.Calls.{start_refused, start_state};
 
 use composer::{COMPOSER_BYTES, COUNTER, KIND, PID, PID_LOW, VERSION};
-use refusals::Refusal;
+use refusals::{Refusal, Started};
 use setting::Kind;
 use setting_bytes::LAST_KIND;
-
-// What a start by value answers. A refused start has a state too, the fresh plain one of PID 0, so this is no Result: the scope document
-// promises it, and the wrong program `refused_start_that_keeps_the_pid` breaks it.
-#[derive(Clone, Copy)]
-pub struct Started {
-    pub checked: Result<(), Refusal>,
-    pub state: [u8; COMPOSER_BYTES],
-}
 
 // The counter and the version are the ones before those of the first header.
 fn write_fresh(state: &mut [u8], pid: u16, kind: u8)
@@ -27,15 +19,16 @@ fn write_fresh(state: &mut [u8], pid: u16, kind: u8)
     ensures { state.new ≡ composer_bytes (fresh (kind_of kind) pid) }
 {
     slices::fill(state, 0);
-    state[PID] = (pid / 256) as u8;
-    state[PID_LOW] = (pid % 256) as u8;
+    let [high, low] = pid.to_be_bytes();
+    state[PID] = high;
+    state[PID_LOW] = low;
     state[KIND] = kind;
     state[COUNTER] = 15;
     state[VERSION] = 7;
 }
 
 // Starts a run with this header PID and kind. Answers the state as a value.
-pub fn start(pid: u16, kind: Kind) -> Started
+pub fn start(pid: u16, kind: Kind) -> Started<COMPOSER_BYTES>
     ensures refusal_value { answer result.checked ≡ (start_of kind pid).refusal }
     ensures state_value { result.state ≡ composer_bytes (start_of kind pid).state }
 {

@@ -35,7 +35,7 @@ pub fn place_refusal(packet: &[u8], pid: u16) -> Result<(), Refusal>
     if packet[0] != 0x47 {
         return Err(Refusal::UnfitPacket);
     }
-    if u16::from(packet[1] % 32) * 256 + u16::from(packet[2]) == pid {
+    if bits::word(packet[1] % 32, packet[2]) == pid {
         return Err(Refusal::UnfitPacket);
     }
     Ok(())

@@ -9,32 +9,23 @@ ghost use Rattle.receiver.specs.Bytes.{receiver_length, receiver_bytes};
 ghost use Rattle.receiver.specs.Calls.{start_refused, start_state};
 
 use receiver::RECEIVER_BYTES;
-use refusals::Refusal;
+use refusals::{Refusal, Started};
 use setting::Kind;
 use setting_bytes::LAST_KIND;
-
-// What a start by value answers. A refused start has a state too, the fresh plain one of PID 0, so this is no Result: the scope document
-// promises it, and the wrong program `refused_start_that_keeps_the_pid` breaks it.
-#[derive(Clone, Copy)]
-pub struct Started {
-    pub checked: Result<(), Refusal>,
-    pub state: [u8; RECEIVER_BYTES],
-}
 
 // Writes a fresh state: the PID and the kind, then zeros, which say that the receiver waits and that no slot has a number.
 fn write_fresh(state: &mut [u8], pid: u16, kind: u8)
     requires { (length state.old ≡ receiver_length) × (kind < kinds) }
     ensures { state.new ≡ receiver_bytes (waiting (kind_of kind) pid) }
 {
-    let high = (pid / 256) as u8;
-    let low = (pid % 256) as u8;
+    let [high, low] = pid.to_be_bytes();
     let front = [high, low, kind];
     slices::fill(state, 0);
     slices::copy(state, &front);
 }
 
 // Starts a receiver for this header PID and kind. Answers the state as a value.
-pub fn start(pid: u16, kind: Kind) -> Started
+pub fn start(pid: u16, kind: Kind) -> Started<RECEIVER_BYTES>
     ensures refusal_value { answer result.checked ≡ (start_of kind pid).refusal }
     ensures state_value { result.state ≡ receiver_bytes (start_of kind pid).state }
 {

@@ -1,9 +1,9 @@
 -- `write_fresh` meets its contract: five bytes over zeros. Assumes nothing.
-use Prim.Native.Nat.{ℕ}
+use Prim.Native.Nat.{ℕ, ◌/◌, ◌%◌}
 use mathlib.Core.Path.{◌≡◌, refl, ap, ◌∙◌}
-use borrow.Author.Rules.{rules}
+use native.Mathlib.Omega.{arith}
 use lib.Dec.{lit<}
-use lib.ListN.{replicate}
+use lib.ListN.{get_or, replicate}
 use Rattle.setting_bytes.specs.Kinds.{kind_of}
 use Rattle.setting_bytes.specs.Words.{word_bytes}
 use Rattle.composer.specs.States.{composer_length}
@@ -32,4 +32,7 @@ bounds-state-4 c = rw (zeros (goal.at.bounds-state-4 c).After-slice_known-2-1) (
 pub returns : goal.returns
 unfolding word_bytes
 returns c =
-    rw (fresh-bytes (kind_of c.args.kind) c.args.pid, kind_same c.args.kind c.requires.1, zeros (goal.at.returns c).After-slice_known-2-1) refl
+    let pid = c.args.pid in
+    let high : get_or c.to_be_bytes.result 0 0 ≡ pid / 256 = rw c.to_be_bytes.ensures (omega arith) in
+    let low : get_or c.to_be_bytes.result 1 0 ≡ pid % 256 = rw c.to_be_bytes.ensures (omega arith) in
+    rw (fresh-bytes (kind_of c.args.kind) pid, kind_same c.args.kind c.requires.1, zeros (goal.at.returns c).After-slice_known-2-1, high, low) refl

@@ -53,12 +53,12 @@ returns-then-packet-ne71 c =
     let long = c.if-packet-ne-PACKET_BYTES.false in
     sym (past_1 c.args.pid p long byte ∙ answers 12 [] (lacks_sync c.args.pid p long byte c.if-packet-ne71.true))
 
-pub returns-then-from-pid : goal.returns-then-from-pid
-returns-then-from-pid c =
+pub returns-then-word-pid : goal.returns-then-word-pid
+returns-then-word-pid c =
     let p = c.args.packet.now in
     let byte = λ (i : ℕ). (c.type_inv.packet i).fits in
     let long = c.if-packet-ne-PACKET_BYTES.false in
-    let same : start_value p Field.header-pid ≡ c.args.pid = its_pid c.args.pid p long byte ∙ rw (← c.from.ensures, ← c.from-2.ensures) c.if-from-pid.true in
+    let same : start_value p Field.header-pid ≡ c.args.pid = its_pid c.args.pid p long byte ∙ sym c.word.ensures ∙ c.if-word-pid.true in
     sym (past_1 c.args.pid p long byte ∙ answers 12 [] (by_pid c.args.pid p long byte c.if-packet-ne71.false (eq-eqb _ _ same)))
 
 pub returns : goal.returns
@@ -67,5 +67,5 @@ returns c =
     let p = c.args.packet.now in
     let byte = λ (i : ℕ). (c.type_inv.packet i).fits in
     let long = c.if-packet-ne-PACKET_BYTES.false in
-    let other : start_value p Field.header-pid ≡ c.args.pid → ⊥ = λ e. c.if-from-pid.false (rw (c.from.ensures, c.from-2.ensures) (sym (its_pid c.args.pid p long byte) ∙ e)) in
+    let other : start_value p Field.header-pid ≡ c.args.pid → ⊥ = λ e. c.if-word-pid.false (c.word.ensures ∙ sym (its_pid c.args.pid p long byte) ∙ e) in
     sym (past_1 c.args.pid p long byte ∙ passed 12 [] (by_pid c.args.pid p long byte c.if-packet-ne71.false (ne_eqb _ _ other)))

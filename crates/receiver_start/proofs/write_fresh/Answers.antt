@@ -1,8 +1,14 @@
 -- `write_fresh` meets its contract: PID and kind over zeros. Assumes nothing.
-use borrow.Author.Rules.{rules}
+use Prim.Native.Nat.{◌/◌, ◌%◌}
+use mathlib.Core.Path.{◌≡◌}
+use native.Mathlib.Omega.{arith}
+use lib.ListN.{get_or}
 use Rattle.receiver.proofs.Answers.{fresh-bytes}
 use Rattle.receiver_start.proofs.write_fresh.Goals as goal
 
 pub returns : goal.returns
 returns c =
-    fresh-bytes c.args.state.now c.args.pid c.args.kind c.requires.0 c.requires.1 c.fill.ensures c.copy.ensures
+    let pid = c.args.pid in
+    let high : get_or c.to_be_bytes.result 0 0 ≡ pid / 256 = rw c.to_be_bytes.ensures (omega arith) in
+    let low : get_or c.to_be_bytes.result 1 0 ≡ pid % 256 = rw c.to_be_bytes.ensures (omega arith) in
+    fresh-bytes c.args.state.now pid c.args.kind c.requires.0 c.requires.1 c.fill.ensures (rw (high, low) at c.copy.ensures)
