@@ -14,8 +14,8 @@ use setting::Kind;
 use setting_bytes::LAST_KIND;
 
 // The counter and the version are the ones before those of the first header.
-fn write_fresh(state: &mut [u8], pid: u16, kind: u8)
-    requires { (length state.old ≡ composer_length) × (kind < kinds) }
+fn write_fresh(state: &mut [u8; COMPOSER_BYTES], pid: u16, kind: u8)
+    requires { kind < kinds }
     ensures { state.new ≡ composer_bytes (fresh (kind_of kind) pid) }
 {
     slices::fill(state, 0);
@@ -51,9 +51,7 @@ fn write_start(state: &mut [u8], pid: u16, kind: u8) -> Result<(), Refusal>
     ensures value { answer result ≡ start_refused state.old pid kind }
     ensures state_after { state.new ≡ start_state state.old pid kind }
 {
-    if state.len() != COMPOSER_BYTES {
-        return Err(Refusal::Length);
-    }
+    let state: &mut [u8; COMPOSER_BYTES] = state.as_mut_array().ok_or(Refusal::Length)?;
     if !setting::pid_allowed(pid) {
         return Err(Refusal::HeaderPid);
     }

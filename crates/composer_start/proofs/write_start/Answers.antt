@@ -1,5 +1,5 @@
 -- `write_start` meets its contract. Assumes nothing.
-use mathlib.Core.Path.{refl, sym, ◌∙◌}
+use mathlib.Core.Path.{◌≡◌, refl, sym, ◌∙◌}
 use native.Mathlib.Omega.{arith}
 use borrow.Author.Rules.{rules}
 use borrow.Author.Tests.{eq-eqb, ne_eqb, lt-ltb, le-ltb, not-true, not-false}
@@ -10,33 +10,34 @@ use Rattle.composer.specs.States.{composer_length}
 use Rattle.composer.specs.Calls.{start_refused, start_state}
 use Rattle.composer_start.proofs.write_start.Goals as goal
 
-pub returns-then-state-ne-COMPOSER_BYTES : goal.returns-then-state-ne-COMPOSER_BYTES
+pub returns-in_err-state : goal.returns-in_err-state
 unfolding start_refused start_state first_of leaves
-returns-then-state-ne-COMPOSER_BYTES c = rw (ne_eqb (length c.args.state.now) composer_length c.if-state-ne-COMPOSER_BYTES.true) (record {
-  value = refl;
-  state_after = refl;
-})
+returns-in_err-state c =
+    let other : length c.args.state.now ≡ composer_length → ⊥ = search rules in rw (ne_eqb (length c.args.state.now) composer_length other) (record {
+      value = search rules;
+      state_after = refl;
+    })
 
 pub returns-then-not-pid_allowed : goal.returns-then-not-pid_allowed
 unfolding start_refused start_state first_of leaves
 returns-then-not-pid_allowed c =
-    let state = c.args.state.now in rw (eq-eqb (length state) composer_length c.if-state-ne-COMPOSER_BYTES.false, sym c.pid_allowed.ensures ∙ not-true _ c.if-not-pid_allowed.true-raw) (record {
+    let long : length c.args.state.now ≡ composer_length = search rules in rw (eq-eqb (length c.args.state.now) composer_length long, sym c.pid_allowed.ensures ∙ not-true _ c.if-not-pid_allowed.true-raw) (record {
       value = refl;
-      state_after = refl;
+      state_after = search rules;
     })
 
 pub returns-then-kind-gt-LAST_KIND : goal.returns-then-kind-gt-LAST_KIND
 unfolding start_refused start_state first_of leaves
 returns-then-kind-gt-LAST_KIND c =
-    let state = c.args.state.now in rw (eq-eqb (length state) composer_length c.if-state-ne-COMPOSER_BYTES.false, sym c.pid_allowed.ensures ∙ not-false _ c.if-not-pid_allowed.false-raw, le-ltb _ kinds c.if-kind-gt-LAST_KIND.true) (record {
+    let long : length c.args.state.now ≡ composer_length = search rules in rw (eq-eqb (length c.args.state.now) composer_length long, sym c.pid_allowed.ensures ∙ not-false _ c.if-not-pid_allowed.false-raw, le-ltb _ kinds c.if-kind-gt-LAST_KIND.true) (record {
       value = refl;
-      state_after = refl;
+      state_after = search rules;
     })
 
 pub returns : goal.returns
 unfolding start_refused start_state first_of leaves
 returns c =
-    let args = c.args in rw (eq-eqb (length args.state.now) composer_length c.if-state-ne-COMPOSER_BYTES.false, sym c.pid_allowed.ensures ∙ not-false _ c.if-not-pid_allowed.false-raw, lt-ltb args.kind kinds (omega (arith, c.if-kind-gt-LAST_KIND.false))) (record {
+    let long : length c.args.state.now ≡ composer_length = search rules in rw (eq-eqb (length c.args.state.now) composer_length long, sym c.pid_allowed.ensures ∙ not-false _ c.if-not-pid_allowed.false-raw, lt-ltb c.args.kind kinds (omega (arith, c.if-kind-gt-LAST_KIND.false))) (record {
       value = refl;
       state_after = c.write_fresh.ensures;
     })
