@@ -14,8 +14,8 @@ use setting::Kind;
 use setting_bytes::LAST_KIND;
 
 // Writes a fresh state: the PID and the kind, then zeros, which say that the receiver waits and that no slot has a number.
-fn write_fresh(state: &mut [u8], pid: u16, kind: u8)
-    requires { (length state.old ≡ receiver_length) × (kind < kinds) }
+fn write_fresh(state: &mut [u8; RECEIVER_BYTES], pid: u16, kind: u8)
+    requires { kind < kinds }
     ensures { state.new ≡ receiver_bytes (waiting (kind_of kind) pid) }
 {
     let [high, low] = pid.to_be_bytes();
@@ -48,9 +48,7 @@ fn write_start(state: &mut [u8], pid: u16, kind: u8) -> Result<(), Refusal>
     ensures value { answer result ≡ start_refused state.old pid kind }
     ensures state_after { state.new ≡ start_state state.old pid kind }
 {
-    if state.len() != RECEIVER_BYTES {
-        return Err(Refusal::Length);
-    }
+    let state: &mut [u8; RECEIVER_BYTES] = state.as_mut_array().ok_or(Refusal::Length)?;
     if !setting::pid_allowed(pid) {
         return Err(Refusal::HeaderPid);
     }

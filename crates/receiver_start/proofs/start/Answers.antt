@@ -19,7 +19,7 @@ returns-then-not-pid_allowed c = rw (sym c.pid_allowed.ensures ∙ not-true _ c.
 })
 
 pub write_fresh-requires-2 : goal.write_fresh-requires-2
-write_fresh-requires-2 c = (refl, rw c.kind_number.ensures (kind_low _))
+write_fresh-requires-2 c = rw c.kind_number.ensures (kind_low _)
 
 pub returns : goal.returns
 unfolding start_of first_of
