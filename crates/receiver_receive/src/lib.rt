@@ -28,13 +28,14 @@ use setting::{Kind, limits};
 use setting_bytes::LAST_KIND;
 
 // 1, 2 and 17: the lengths of what is lent, then what the state is refused for.
-fn receive_refusal(state: &[u8], packet: usize, store: usize) -> Result<(), Refusal>
+fn receive_refusal(
+    state: &[u8; RECEIVER_BYTES],
+    packet: usize,
+    store: usize,
+) -> Result<(), Refusal>
     ensures { answer result ≡ lent_refusal state.now (receive_refusal (receiver_of state.now) packet store) }
 {
     if packet != PACKET_BYTES {
-        return Err(Refusal::Length);
-    }
-    if state.len() != RECEIVER_BYTES {
         return Err(Refusal::Length);
     }
     if store != receiver_stage::store_bytes(setting_bytes::kind_of(state[KIND])) {
@@ -44,8 +45,8 @@ fn receive_refusal(state: &[u8], packet: usize, store: usize) -> Result<(), Refu
 }
 
 // Puts the packet into the next slot of the open frame, and counts it. From then on the frame before it is no longer ready.
-fn store_next(state: &mut [u8], packet: &[u8], store: &mut [u8])
-    requires state_len { (length state.old ≡ receiver_length) × (get_or state.old stored_at 0 < last_slot) }
+fn store_next(state: &mut [u8; RECEIVER_BYTES], packet: &[u8], store: &mut [u8])
+    requires room { get_or state.old stored_at 0 < last_slot }
     requires packet_len { (length packet.now ≡ packet_length) × (packet_length * (get_or state.old stored_at 0 + 1) ≤ length store.old) }
     ensures state_after { state.new ≡ set (set state.old stage_at 1) stored_at (get_or state.old stored_at 0 + 1) }
     ensures store_after { store.new ≡ over (packet_length * get_or state.old stored_at 0) packet.now store.old }
@@ -59,13 +60,10 @@ fn store_next(state: &mut [u8], packet: &[u8], store: &mut [u8])
 
 // Whether a packet is the usual one: nothing is refused, a frame of 52 slots is open and has room, and the packet may stand in a slot. This is asked
 // first, since most packets are so, and the compiler makes far fewer steps of it than of the checks for every kind and stage.
-fn is_usual(state: &[u8], packet: &[u8], store: usize) -> bool
+fn is_usual(state: &[u8; RECEIVER_BYTES], packet: &[u8], store: usize) -> bool
     ensures { result ≡ true → Usual state.now packet.now store }
 {
     if packet.len() != PACKET_BYTES {
-        return false;
-    }
-    if state.len() != RECEIVER_BYTES {
         return false;
     }
     if store != STORE_BYTES {
@@ -92,8 +90,8 @@ fn is_usual(state: &[u8], packet: &[u8], store: usize) -> bool
 }
 
 // Takes a packet that may stand in a slot: stores it if a frame is open and has room. Answers what it did.
-fn take_packet(state: &mut [u8], packet: &[u8], store: &mut [u8]) -> Event
-    requires state_len { (length state.old ≡ receiver_length) × (some_at_least (2 ^ 8) state.old ≡ false) }
+fn take_packet(state: &mut [u8; RECEIVER_BYTES], packet: &[u8], store: &mut [u8]) -> Event
+    requires bytes { some_at_least (2 ^ 8) state.old ≡ false }
     requires packet_value { (unfit (receiver_of state.old).pid packet.now ≡ false) × (receive_refusal (receiver_of state.old) (length packet.now) (length store.old) ≡ 0) }
     ensures value { told result ≡ told (receive_of (receiver_of state.old) packet.now (length store.old)).event }
     ensures state_after { state.new ≡ receiver_bytes (receive_of (receiver_of state.old) packet.now (length store.old)).state }
@@ -149,8 +147,7 @@ fn renumber(numbers: &mut [u8], packet: &[u8], kind: Kind)
 }
 
 // Writes the stage that a row of the table gives. Answers what happened.
-fn move_on(state: &mut [u8], row: Row) -> Event
-    requires { length state.old ≡ receiver_length }
+fn move_on(state: &mut [u8; RECEIVER_BYTES], row: Row) -> Event
     ensures value { result ≡ row.event }
     ensures state_after { state.new ≡ over stage_at (stage_bytes row.stage) state.old }
 {
@@ -159,8 +156,8 @@ fn move_on(state: &mut [u8], row: Row) -> Event
 }
 
 // Takes a packet that may not stand in a slot: a good header, which opens a frame, or a broken packet. Answers what it did.
-fn take_header(state: &mut [u8], packet: &[u8]) -> Event
-    requires state_len { (length state.old ≡ receiver_length) × (some_at_least (2 ^ 8) state.old ≡ false) }
+fn take_header(state: &mut [u8; RECEIVER_BYTES], packet: &[u8]) -> Event
+    requires bytes { some_at_least (2 ^ 8) state.old ≡ false }
     requires packet_value { (unfit (receiver_of state.old).pid packet.now ≡ true) × (receive_refusal (receiver_of state.old) (length packet.now) (store_length (slots_of (receiver_of state.old).kind)) ≡ 0) }
     ensures value { told result ≡ told (receive_of (receiver_of state.old) packet.now (store_length (slots_of (receiver_of state.old).kind))).event }
     ensures state_after { state.new ≡ receiver_bytes (receive_of (receiver_of state.old) packet.now (store_length (slots_of (receiver_of state.old).kind))).state }
@@ -190,6 +187,7 @@ pub fn receive(state: &mut [u8], packet: &[u8], store: &mut [u8]) -> Result<Even
     ensures state_after { state.new ≡ receive_state state.old packet.now store.old }
     ensures store_after { store.new ≡ receive_memory state.old packet.now store.old }
 {
+    let state: &mut [u8; RECEIVER_BYTES] = state.as_mut_array().ok_or(Refusal::Length)?;
     slices::are_bytes(state);
     if is_usual(state, packet, store.len()) {
         store_next(state, packet, store);

@@ -150,8 +150,7 @@ fn list_refusal(list: &[u8]) -> Result<(), Refusal>
 
 // 17: the slots' numbers, by the open frame's header and by the header before it. Those of a plain or an extended frame are not looked at,
 // since every number of four bits is in range.
-fn numbers_refusal(kind: Kind, state: &[u8]) -> Result<(), Refusal>
-    requires { length state.now ≡ receiver_length }
+fn numbers_refusal(kind: Kind, state: &[u8; RECEIVER_BYTES]) -> Result<(), Refusal>
     ensures { answer result ≡ first_of (number_checks (size_of kind) (receiver_of state.now).numbers ++ number_checks (size_of kind) (receiver_of state.now).before) }
 {
     match kind {
@@ -167,9 +166,7 @@ fn numbers_refusal(kind: Kind, state: &[u8]) -> Result<(), Refusal>
 pub fn state_refusal(state: &[u8]) -> Result<(), Refusal>
     ensures { answer result ≡ state_refused state.now }
 {
-    if state.len() != RECEIVER_BYTES {
-        return Err(Refusal::Length);
-    }
+    let state: &[u8; RECEIVER_BYTES] = state.as_array().ok_or(Refusal::Length)?;
     if !setting::pid_allowed(bits::word(state[PID], state[PID_LOW])) {
         return Err(Refusal::HeaderPid);
     }

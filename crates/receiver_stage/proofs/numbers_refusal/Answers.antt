@@ -2,6 +2,8 @@
 use mathlib.Core.Path.{◌≡◌, sym, subst, ◌∙◌}
 use mathlib.Core.Logic.{inl, inr}
 use borrow.Author.Rules.{rules}
+use lib.ListN.{length}
+use Rattle.receiver.specs.Bytes.{receiver_length}
 use Rattle.refusals.specs.Refusals.{number, answer}
 use Rattle.refusals.proofs.Refusals.{is_some_number}
 use Rattle.receiver.proofs.Packing.{Long, plain, extended}
@@ -17,9 +19,10 @@ returns-in_err-list_refusal-in-Short c =
 
 pub returns-in-Plain : goal.returns-in-Plain
 returns-in-Plain c =
+    let long : length c.args.state.now ≡ receiver_length = search rules in
     elim c.in-Plain.is [
-      | inl e ↦ unasked c.args.state.now c.requires (subst Long (sym e) plain)
-      | inr e ↦ unasked c.args.state.now c.requires (subst Long (sym e) extended)
+      | inl e ↦ unasked c.args.state.now long (subst Long (sym e) plain)
+      | inr e ↦ unasked c.args.state.now long (subst Long (sym e) extended)
     ]
 
 pub returns-in_ok-list_refusal-in-Short : goal.returns-in_ok-list_refusal-in-Short
