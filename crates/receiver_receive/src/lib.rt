@@ -28,11 +28,7 @@ use setting::{Kind, limits};
 use setting_bytes::LAST_KIND;
 
 // 1, 2 and 17: the lengths of what is lent, then what the state is refused for.
-fn receive_refusal(
-    state: &[u8; RECEIVER_BYTES],
-    packet: usize,
-    store: usize,
-) -> Result<(), Refusal>
+fn receive_refusal(state: &[u8; RECEIVER_BYTES], packet: usize, store: usize) -> Result<(), Refusal>
     ensures { answer result ≡ lent_refusal state.now (receive_refusal (receiver_of state.now) packet store) }
 {
     if packet != PACKET_BYTES {

@@ -20,9 +20,6 @@ returns-then-packet-ne-PACKET_BYTES c =
     let a = c.args in
     no_packet a.state.now a.packet a.store c.if-packet-ne-PACKET_BYTES.true
 
-pub returns-then-state-ne-RECEIVER_BYTES : goal.returns-then-state-ne-RECEIVER_BYTES
-returns-then-state-ne-RECEIVER_BYTES c = no_length _ _ c.if-state-ne-RECEIVER_BYTES.true
-
 pub returns-then-store-store_bytes : goal.returns-then-store-store_bytes
 returns-then-store-store_bytes c =
     let a = c.args in

@@ -59,15 +59,16 @@ its_pid b e = e
 pub returns-in-Err : goal.returns-in-Err
 returns-in-Err c =
     let b = c.args.state.now in
+    let long : length b ≡ receiver_length = search rules in
     let p = c.args.packet.now in
     let w = receiver_of b in
     let long_store = store_length (slots_of w.kind) in
     let kind = its_kind b c.kind_of-kind.ensures in
     let pid = its_pid b c.word-pid.ensures in
-    let stage = its_stage b c.requires.state_len.0 c.stage_in-stage.ensures in
+    let stage = its_stage b long c.stage_in-stage.ensures in
     let why = c.in-Err.why in
     let sort = broken_sort w.kind w.pid p c.requires.packet_value.0 (λ e. is_some_number why.refusal (said-refusal b p kind pid (on_paper (Err why)) c.in-Err.ensures ∙ e)) in
-    let all = keeps b p long_store c.requires.state_len.0 c.requires.state_len.1 c.requires.packet_value.1 c.broken_row.result (ap told c.move_on.ensures.value)
+    let all = keeps b p long_store long c.requires.bytes c.requires.packet_value.1 c.broken_row.result (ap told c.move_on.ensures.value)
     (broken_receipt w p long_store c.requires.packet_value.1 (shown_remainder w.kind w.pid p) sort
     (c.broken_row.ensures (slots_of w.kind) ∙ ap₂ (λ (t : Stage) (n : ℕ). row_of (slots_of w.kind) t (broken n) 0) stage (said_remainder b p kind pid (on_paper (Err why)) c.in-Err.ensures)))
     (c.move_on.ensures.state_after ∙ over-stage b c.broken_row.result.stage) in
@@ -75,30 +76,29 @@ returns-in-Err c =
 
 pub renumber-requires : goal.renumber-requires
 renumber-requires c =
-    (length-take-le (packed_length + packed_length) (drop numbers_at c.args.state.now) (rw length-drop (omega (arith, c.requires.state_len.0))), whole_packet _ _ _ c.requires.packet_value.1)
-
-pub move_on-requires-in-Ok : goal.move_on-requires-in-Ok
-move_on-requires-in-Ok c = renewed_length c.args.state.now _ (packed _) c.requires.state_len.0 (length-packed _) c.renumber.ensures
+    let long : length c.args.state.now ≡ receiver_length = search rules in
+    (length-take-le (packed_length + packed_length) (drop numbers_at c.args.state.now) (rw length-drop (omega (arith, long))), whole_packet _ _ _ c.requires.packet_value.1)
 
 pub returns-in-Ok : goal.returns-in-Ok
 returns-in-Ok c =
     let b = c.args.state.now in
+    let long : length b ≡ receiver_length = search rules in
     let p = c.args.packet.now in
     let w = receiver_of b in
     let long_store = store_length (slots_of w.kind) in
     let kind = its_kind b c.kind_of-kind.ensures in
     let pid = its_pid b c.word-pid.ensures in
-    let stage = its_stage b c.requires.state_len.0 c.stage_in-stage.ensures in
+    let stage = its_stage b long c.stage_in-stage.ensures in
     let heard = on_paper (Ok c.in-Ok.said) in
     let slots = ap (λ (z : Size). z.slots) (c.size_of-size.ensures ∙ ap size_of kind) in
     let accepts : read_refusal w.kind w.pid p ≡ 0 = sym (said-refusal b p kind pid heard c.in-Ok.ensures) in
     let said = reading w.kind p in
     let lent = take (packed_length + packed_length) (drop numbers_at b) in
     let own = c.renumber.ensures ∙ ap (λ (k : Kind). packed (reading k p).relative_ts_number ++ take packed_length lent) kind in
-    let all = renews b p long_store c.requires.state_len.0 c.requires.state_len.1 c.requires.packet_value.1 c.header_row.result (ap told c.move_on-in-Ok.ensures.value) said
+    let all = renews b p long_store long c.requires.bytes c.requires.packet_value.1 c.header_row.result (ap told c.move_on-in-Ok.ensures.value) said
     (good_receipt w p long_store c.requires.packet_value.1 (good_sort w.kind w.pid p accepts) said refl
     (c.header_row.ensures ∙ ap (λ (n : ℕ). row_of n c.stage_in-stage.result good c.in-Ok.said.continuity_counter) slots
     ∙ ap₂ (λ (t : Stage) (n : ℕ). row_of (slots_of w.kind) t good n) stage (checked_counter w.kind w.pid p (checked b p kind pid heard c.in-Ok.ensures) accepts)))
     refl
-    (c.move_on-in-Ok.ensures.state_after ∙ renewed b _ (packed said.relative_ts_number) c.header_row.result.stage c.requires.state_len.0 own) in
+    (c.move_on-in-Ok.ensures.state_after ∙ renewed b _ (packed said.relative_ts_number) c.header_row.result.stage long own) in
     record { value = all.0; state_after = all.1 }

@@ -5,9 +5,10 @@ use borrow.Author.Rules.{rules}
 use Rattle.setting.specs.declared.Size.{Size}
 use Rattle.setting.specs.Size.{size_of, slots_of}
 use Rattle.setting.proofs.Sizes.{sized}
-use Rattle.receiver.specs.Bytes.{receiver_of, told}
+use Rattle.receiver.specs.Bytes.{receiver_of, told, receiver_length}
 use Rattle.receiver_receive.proofs.Receipts.{whole_packet, whole_store}
 use Rattle.receiver_receive.proofs.Taking.{waiting-on, too_long, stored_on}
+use lib.ListN.{length}
 use Rattle.receiver_receive.proofs.take_packet.Goals as goal
 use Rattle.receiver_receive.proofs.take_packet.Goals.{After-size_of-size}
 
@@ -19,7 +20,9 @@ said-slots c = ap (λ (z : Size). z.slots) (c.size_of-size.ensures ∙ ap size_o
 pub returns-then-state-eq0 : goal.returns-then-state-eq0
 unfolding told
 returns-then-state-eq0 c =
-    let a = c.args in let all = waiting-on a.state.now a.packet.now a.store.now c.requires.state_len.0 c.requires.state_len.1 c.requires.packet_value.0 c.requires.packet_value.1 c.if-state-eq0.true in record {
+    let a = c.args in
+    let long : length c.args.state.now ≡ receiver_length = search rules in
+    let all = waiting-on a.state.now a.packet.now a.store.now long c.requires.bytes c.requires.packet_value.0 c.requires.packet_value.1 c.if-state-eq0.true in record {
       value = sym all.0;
       state_after = all.1.0;
       store_after = all.1.1;
@@ -28,7 +31,9 @@ returns-then-state-eq0 c =
 pub returns-then-size-state : goal.returns-then-size-state
 unfolding told
 returns-then-size-state c =
-    let a = c.args in let all = too_long a.state.now a.packet.now a.store.now c.requires.state_len.0 c.requires.state_len.1 c.requires.packet_value.0 c.requires.packet_value.1 c.if-state-eq0.false
+    let a = c.args in
+    let long : length c.args.state.now ≡ receiver_length = search rules in
+    let all = too_long a.state.now a.packet.now a.store.now long c.requires.bytes c.requires.packet_value.0 c.requires.packet_value.1 c.if-state-eq0.false
     (omega (arith, said-slots (goal.at.returns-then-size-state c).After-size_of-size, c.if-size-state.true)) c.fill.ensures in record {
       value = sym all.0;
       state_after = all.1.0;
@@ -39,7 +44,7 @@ pub store_next-requires : goal.store_next-requires
 store_next-requires c =
     let kind = (receiver_of c.args.state.now).kind in
     let whole = whole_store _ _ _ c.requires.packet_value.1 in record {
-      state_len = (c.requires.state_len.0, omega (arith, said-slots (goal.at.store_next-requires c).After-size_of-size, c.if-size-state.false, (sized kind).slots));
+      room = omega (arith, said-slots (goal.at.store_next-requires c).After-size_of-size, c.if-size-state.false, (sized kind).slots);
       packet_len = (whole_packet _ _ _ c.requires.packet_value.1, omega (arith, said-slots (goal.at.store_next-requires c).After-size_of-size, c.if-size-state.false, whole));
     }
 
@@ -47,7 +52,8 @@ pub returns : goal.returns
 unfolding told
 returns c =
     let a = c.args in
-    let all = stored_on a.state.now a.packet.now a.store.now c.requires.state_len.0 c.requires.state_len.1 c.requires.packet_value.0 c.requires.packet_value.1 c.if-state-eq0.false
+    let long : length c.args.state.now ≡ receiver_length = search rules in
+    let all = stored_on a.state.now a.packet.now a.store.now long c.requires.bytes c.requires.packet_value.0 c.requires.packet_value.1 c.if-state-eq0.false
     (omega (arith, said-slots (goal.at.returns c).After-size_of-size, c.if-size-state.false)) in record {
       value = sym all.0;
       state_after = c.store_next.ensures.state_after ∙ all.1.0;
