@@ -1,5 +1,7 @@
 // Inputs and outputs. Each call of these is a call of the system: nothing is kept back or read ahead.
+ghost use Rattle.std.specs.Prelude.{◌≤◌, length};
 ghost use Rattle.std.specs.Io.{ReadsAtMost};
+ghost use Rattle.io.specs.Counts.{IsPrefixLen};
 
 use std::fs::File;
 use std::io::{Error, ErrorKind, Read, Result, Stdin, Write};
@@ -50,6 +52,37 @@ pub fn read(input: &Input, place: &mut [u8]) -> Result<usize>
             from.read(place)
         }
     }
+}
+
+// Reads once. A read that fails is told to `failed`, and counts as no bytes.
+fn read_once<F: Fn(Error)>(input: &Input, place: &mut [u8], failed: F) -> usize
+    requires { F.IsAlwaysCallable failed }
+    ensures { result ≤ length place.new }
+{
+    match read(input, place) {
+        Ok(got) => got,
+        Err(error) => {
+            failed(error);
+            0
+        }
+    }
+}
+
+// Reads until the block is full or a read brings nothing. A read that brings less than was asked for is not the end. It stays a `while`, since
+// how far a turn comes is what the read brings.
+pub fn read_block<F: Fn(Error)>(input: &Input, block: &mut [u8], failed: F) -> usize
+    requires { F.IsAlwaysCallable failed }
+    ensures { IsPrefixLen result block.new }
+{
+    let mut done = 0;
+    while done < block.len() {
+        let more = read_once(input, &mut block[done..], &failed);
+        if more == 0 {
+            return done;
+        }
+        done += more;
+    }
+    done
 }
 
 // Writes all of the bytes, or fails, when some of them may have been written.

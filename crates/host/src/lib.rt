@@ -8,6 +8,6 @@ mod place;
 mod says;
 
 pub use arguments::{argument, argument_count};
-pub use files::{Input, Output, create, open, print, read, write};
+pub use files::{Input, Output, create, open, print, read, read_block, write};
 pub use place::left;
 pub use says::fail;

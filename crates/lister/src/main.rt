@@ -15,35 +15,6 @@ const BLOCK_BYTES: usize = packet::PACKET_BYTES * BLOCK_PACKETS;
 
 const TEXT_BYTES: usize = listing::LINE_BYTES * (BLOCK_PACKETS + 1);
 
-// Reads once. A read that fails is reported, and counts as no bytes.
-fn read_once(input: &Input, name: &[u8], place: &mut [u8]) -> usize
-    ensures { result ≤ length place.new }
-{
-    match host::read(input, place) {
-        Ok(got) => got,
-        Err(error) => {
-            host::fail(name, error);
-            0
-        }
-    }
-}
-
-// Reads until the block is full or a read brings nothing. A read that brings less than was asked for is not the end. It stays a `while`, since
-// how far a turn comes is what the read brings.
-fn read_block(input: &Input, name: &[u8], block: &mut [u8]) -> usize
-    ensures { IsPrefixLen result block.new }
-{
-    let mut done = 0;
-    while done < block.len() {
-        let more = read_once(input, name, &mut block[done..]);
-        if more == 0 {
-            return done;
-        }
-        done += more;
-    }
-    done
-}
-
 // Puts the listing of a block to the front of a buffer, if no check refuses it. Answers its length.
 fn put_block(out: &mut [u8], block: &[u8], first: u64) -> usize
     requires block_in_bounds { room_for (length block.now) ≤ length out.old }
@@ -60,7 +31,7 @@ fn list_block(rt: HostRuntime, input: &Input, name: &[u8], first: u64) -> bool
     requires { first + 174 < 2 ^ 64 }
 {
     let mut block = [0u8; BLOCK_BYTES];
-    let got = read_block(input, name, &mut block);
+    let got = host::read_block(input, &mut block, |error| host::fail(name, error));
     let mut out = [0u8; TEXT_BYTES];
     let end = put_block(&mut out, &block[..got], first);
     if let Err(error) = host::print(rt, &out[..end]) {

@@ -6,33 +6,11 @@ use crate::problem::{About, Problem};
 use host::Input;
 use packet::PACKET_BYTES;
 
-// Reads once. A read that fails is reported, and counts as no bytes.
-fn read_once(rt: HostRuntime, input: &Input, place: &mut [u8]) -> usize
-    ensures { result ≤ length place.new }
-{
-    match host::read(input, place) {
-        Ok(got) => got,
-        Err(error) => {
-            Problem::Read(error).say(rt);
-            0
-        }
-    }
-}
-
-// Reads until the block is full or a read brings nothing. A read that brings less than was asked for is not the end. A `for` would be no
-// plainer: each step is as long as what its read brings.
+// Reads until the block is full or nothing more comes. A read that fails is reported, and counts as no bytes.
 pub(crate) fn read_block(rt: HostRuntime, input: &Input, block: &mut [u8]) -> usize
     ensures { IsPrefixLen result block.new }
 {
-    let mut done = 0;
-    while done < block.len() {
-        let more = read_once(rt, input, &mut block[done..]);
-        if more == 0 {
-            return done;
-        }
-        done += more;
-    }
-    done
+    host::read_block(input, block, |error| Problem::Read(error).say(rt))
 }
 
 // Reports it if the last block ends inside a packet.

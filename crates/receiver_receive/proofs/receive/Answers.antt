@@ -88,12 +88,6 @@ module _ (b p store : List ℕ) (passed : 0 ≡ lent_refusal b (receive_refusal 
   stands_not : {n m : ℕ} → n ≡ word_at pid_at b → m ≡ place_refusal n p → (m ≡ 0 → ⊥) → unfit (receiver_of b).pid p ≡ true
   stands_not e told h = may_not_stand _ p (whole_packet (receiver_of b) _ _ granted.1) (λ z. h (asked e told ∙ z))
 
-pub bounds-state-0 : goal.bounds-state-0
-bounds-state-0 c = omega (arith, (granted c.in_ok-state.field-0.now c.args.packet.now c.args.store.now c.in_ok-receive_refusal.ensures).0)
-
-pub bounds-state-1 : goal.bounds-state-1
-bounds-state-1 c = omega (arith, (granted c.in_ok-state.field-0.now c.args.packet.now c.args.store.now c.in_ok-receive_refusal.ensures).0)
-
 pub take_packet-requires : goal.take_packet-requires
 take_packet-requires c =
     let a = c.args in
