@@ -1,4 +1,5 @@
-// Text put into a lent buffer: each function answers the place behind it, and leaves all other bytes.
+// Text put into a lent buffer: each function answers the place behind it, and leaves all other bytes. Buffer and place go on as two
+// arguments: in a struct with methods over `&mut self` the proof no longer knew that it is the lent buffer which was written.
 ghost use Rattle.std.specs.Prelude.{◌≡◌, ◌+◌, ◌≤◌, ◌<◌, length};
 ghost use Rattle.listing.specs.Text.{decimal, hexadecimal, field, Puts};
 
