@@ -12,13 +12,14 @@ use mir.Syntax.{w16, w64}
 use mir.Val.{Fits}
 use borrow.Author.Tests.{lt-ltb, le-ltb, ltb-true, eq-eqb, ne_eqb, eqb-true, eqb-false}
 use lib.Dec.{ltb, eqb}
-use lib.ListN.{length, get_or, take, drop, set, length-drop, length-set}
-use lib.Seq.{drop-cons, length-take-le, get_or-set_same, get_or-set_other, take-set-le, take-suc-set}
+use lib.ListN.{length, get_or, take, drop, set, length-drop, length-set, length-take}
+use lib.Seq.{drop-cons, length-take-le, get_or-take, get_or-set_same, get_or-set_other, take-set-le, take-suc-set}
 use Rattle.slices.proofs.Any.{both}
 use Rattle.counters.specs.Counters.{last_position, last_carrier}
 use Rattle.bond_places.specs.Order.{picked, frame_packets}
 use Rattle.bond_places.specs.Walk.{most_frames, twelfths, share, place_at, frames_before, packet_at, is_stop, is_marked, stops, Walkable}
-use Rattle.bond.specs.Listing.{round_twelfths, round_steps, frames_of, is_due, due, Entry, Noted, packet_in, marked_in, places_from, Listable}
+use Rattle.bond.specs.declared.rounds.Note.{Note}
+use Rattle.bond.specs.Listing.{round_twelfths, round_steps, frames_of, is_due, due, no_note, Entry, Noted, packet_in, marked_in, places_from, Listable}
 use Rattle.bond_places.proofs.Frames.{frames-next, frames_few}
 use Rattle.bond_places.proofs.Sweep.{at_step}
 
@@ -112,13 +113,13 @@ due-from carriers frames v h e =
 -- ---- a round noted, one step after another
 
 module _ (carriers : ℕ) (frames : List ℕ) where
-  pub noted_none : {notes : List ℕ} → length notes ≡ 2 * round_steps → Noted carriers frames notes 0 0
+  pub noted_none : {notes : List Note} → length notes ≡ round_steps → Noted carriers frames notes 0 0
   noted_none h = record { left = refl; those = omega arith; few = omega arith; each = λ e l. absurd (omega arith); long = h }
 
-  module _ {notes : List ℕ} {n v : ℕ} (c : Noted carriers frames notes n v) (h : v < round_steps) where
+  module _ {notes : List Note} {n v : ℕ} (c : Noted carriers frames notes n v) (h : v < round_steps) where
     -- the step looks at a place
     pub noted_more : is_due carriers frames v ≡ true → (p f : ℕ) → p ≡ packet_at frames v → f ≡ frames_of frames v
-        → Noted carriers frames (set (set notes (2 * n) p) (2 * n + 1) f) (n + 1) (v + 1)
+        → Noted carriers frames (set notes n (record { packet = p; further = f })) (n + 1) (v + 1)
     noted_more t p f e g =
         let all = due carriers frames 0 in
         let next : drop n all ≡ v ∷ due carriers frames (v + 1) = c.left ∙ due-from carriers frames v h t in
@@ -135,28 +136,23 @@ module _ (carriers : ℕ) (frames : List ℕ) where
           long = wide ∙ c.long;
         }
       where
-        wide : length (set (set notes (2 * n) p) (2 * n + 1) f) ≡ length notes
-        wide = length-set (set notes (2 * n) p) (2 * n + 1) f ∙ length-set notes (2 * n) p
+        note : Note
+        note = record { packet = p; further = f }
 
-        at : (i : ℕ) → i < n + 1 → get_or (due carriers frames 0) n 0 ≡ v → Dec (i ≡ n)
-            → Entry carriers frames (set (set notes (2 * n) p) (2 * n + 1) f) i (get_or (due carriers frames 0) i 0)
+        wide : length (set notes n note) ≡ length notes
+        wide = length-set notes n note
+
+        at : (i : ℕ) → i < n + 1 → get_or (due carriers frames 0) n 0 ≡ v → Dec (i ≡ n) → Entry carriers frames (set notes n note) i (get_or (due carriers frames 0) i 0)
         at i l is (yes z) =
             rw (z, is)
             (record {
               early = h;
               looks = t;
-              packet = get_or-set_other (set notes (2 * n) p) (2 * n + 1) (2 * n) f 0 (λ x. omega arith) ∙ get_or-set_same notes (2 * n) p 0 (let few = c.few in let long = c.long in omega arith) ∙ e;
-              further = get_or-set_same (set notes (2 * n) p) (2 * n + 1) f 0 (let few = c.few in let long = c.long in rw (length-set notes (2 * n) p) (omega arith)) ∙ g;
+              is = get_or-set_same notes n note no_note (let few = c.few in let long = c.long in omega arith) ∙ (λ j. record { packet = e j; further = g j });
             })
         at i l is (no d) =
             let o = c.each i (omega arith) in
-            record {
-              early = o.early;
-              looks = o.looks;
-              packet = get_or-set_other (set notes (2 * n) p) (2 * n + 1) (2 * i) f 0 (λ x. omega arith) ∙ get_or-set_other notes (2 * n) (2 * i) p 0 (λ x. d (omega arith)) ∙ o.packet;
-              further =
-                  get_or-set_other (set notes (2 * n) p) (2 * n + 1) (2 * i + 1) f 0 (λ x. d (omega arith)) ∙ get_or-set_other notes (2 * n) (2 * i + 1) p 0 (λ x. omega arith) ∙ o.further;
-            }
+            record { early = o.early; looks = o.looks; is = get_or-set_other notes n i note no_note d ∙ o.is }
 
     -- it looks at none
     pub noted_less : is_due carriers frames v ≡ false → Noted carriers frames notes n (v + 1)
@@ -165,7 +161,7 @@ module _ (carriers : ℕ) (frames : List ℕ) where
         record { left = c.left ∙ due-from carriers frames v h t; those = c.those; few = omega arith; each = c.each; long = c.long }
 
   -- behind the last carrier of a twelfth are no places before the next twelfth
-  pub noted_behind : {notes : List ℕ} {n : ℕ} (t v m : ℕ) → t < round_twelfths → last_carrier * t + carriers ≤ v → v + m ≡ last_carrier * (t + 1)
+  pub noted_behind : {notes : List Note} {n : ℕ} (t v m : ℕ) → t < round_twelfths → last_carrier * t + carriers ≤ v → v + m ≡ last_carrier * (t + 1)
       → Noted carriers frames notes n v → Noted carriers frames notes n (last_carrier * (t + 1))
   noted_behind {notes} {n} t v zero h l e c = subst (Noted carriers frames notes n) (omega arith) c
   noted_behind t v (suc m) h l e c =
@@ -179,8 +175,6 @@ pub record Small (t k f n frame : ℕ) : Type 0 where
   pub packet : Fits w64 (frame_packets * frame + t * f / round_twelfths)
   pub noted : Fits w16 (frame_packets * frame + t * f / round_twelfths)
   pub further : Fits w16 f
-  pub twice : Fits w64 (2 * n)
-  pub beside : Fits w64 (2 * n + 1)
   pub more : Fits w64 (n + 1)
   pub frame_on : Fits w64 (frame + f)
   pub on : Fits w64 (k + 1)
@@ -211,7 +205,7 @@ module _ {carriers : ℕ} {frames : List ℕ} (a : Walkable carriers frames) (t 
   pub carrier-next : {frame : ℕ} → frame ≡ frames_before frames k → (frame + get_or frames k 0 ≡ frames_before frames (k + 1)) × (k + 1 ≤ carriers)
   carrier-next is = (ap (λ (n : ℕ). n + get_or frames k 0) is ∙ sym (ap (frames_before frames) (add-one k) ∙ frames-next frames k), omega arith)
 
-  module _ {notes : List ℕ} {n : ℕ} (c : Noted carriers frames notes n (last_carrier * t + k)) where
+  module _ {notes : List Note} {n : ℕ} (c : Noted carriers frames notes n (last_carrier * t + k)) where
     abbrev f : ℕ
     f = get_or frames k 0
 
@@ -230,8 +224,6 @@ module _ {carriers : ℕ} {frames : List ℕ} (a : Walkable carriers frames) (t 
           packet = omega arith;
           noted = omega arith;
           further = omega arith;
-          twice = omega arith;
-          beside = omega arith;
           more = omega arith;
           frame_on = omega arith;
           on = omega arith;
@@ -239,12 +231,12 @@ module _ {carriers : ℕ} {frames : List ℕ} (a : Walkable carriers frames) (t 
 
     pub here-more : t * get_or frames k 0 % round_twelfths ≡ 0
         → Noted carriers frames
-        (set (set notes (2 * n) (frame_packets * frames_before frames k + t * get_or frames k 0 / round_twelfths)) (2 * n + 1) (get_or frames k 0)) (n + 1)
+        (set notes n (record { packet = frame_packets * frames_before frames k + t * get_or frames k 0 / round_twelfths; further = get_or frames k 0 })) (n + 1)
         (last_carrier * t + (k + 1))
     here-more e =
         let few = a.few in
         let p = part-due f t (a.framed k l) e in
-        subst (Noted carriers frames (set (set notes (2 * n) (frame_packets * frames_before frames k + t * f / round_twelfths)) (2 * n + 1) f) (n + 1)) (omega arith)
+        subst (Noted carriers frames (set notes n (record { packet = frame_packets * frames_before frames k + t * f / round_twelfths; further = f })) (n + 1)) (omega arith)
         (noted_more carriers frames c (omega arith) (due-here ∙ eq-eqb (t % share f) 0 p.0) _ _
         (ap (λ (i : ℕ). frame_packets * frames_before frames k + i) (sym p.1) ∙ sym (at_step frames k t (omega arith))) (sym frames-here))
 
@@ -258,23 +250,31 @@ module _ {carriers : ℕ} {frames : List ℕ} (a : Walkable carriers frames) (t 
 
 -- what is reckoned for an entry e of x and y in round q
 pub record Reckoned (q e x y : ℕ) : Type 0 where
-  pub twice : Fits w64 (2 * e)
-  pub beside : Fits w64 (2 * e + 1)
   pub first : Fits w64 x
   pub on : Fits w64 (q * y)
   pub packet : Fits w64 (x + q * y)
   pub listed : Fits w16 (x + q * y)
   pub next : Fits w64 (e + 1)
 
--- which is there
-pub entry_in : (notes : List ℕ) (e n : ℕ) → e < n → n ≤ round_steps → length notes ≡ 2 * round_steps → (2 * e < length notes) × (2 * e + 1 < length notes)
-entry_in notes e n h l long = (omega arith, omega arith)
-
 pub reckoned : (q e x y : ℕ) → e < round_steps → x + q * y < frame_packets * most_frames → Reckoned q e x y
 reckoned q e x y h l =
-    record { twice = omega arith; beside = omega arith; first = omega arith; on = omega arith; packet = omega arith; listed = omega arith; next = omega arith }
+    record { first = omega arith; on = omega arith; packet = omega arith; listed = omega arith; next = omega arith }
 
-module _ (slots notes list₀ : List ℕ) (q noted : ℕ) where
+-- the entries of the first n notes are theirs in all notes
+module _ (slots : List ℕ) (notes : List Note) (q n : ℕ) where
+  pub front-packet : (e : ℕ) → e < n → packet_in (take n notes) q e ≡ packet_in notes q e
+  front-packet e h = ap (λ (x : Note). x.packet + q * x.further) (get_or-take n notes e no_note h)
+
+  front_marked : (e m : ℕ) → e + m ≤ n → marked_in slots (take n notes) q e m ≡ marked_in slots notes q e m
+  unfolding marked_in
+  front_marked e zero h = refl
+  front_marked e (suc m) h =
+      ap₂ (λ (p : ℕ) (ms : List ℕ). cond (is_marked slots p) (p ∷ []) [] ++ ms) (front-packet e (omega arith)) (front_marked (e + 1) m (omega arith))
+
+  pub front_is : n ≤ length notes → marked_in slots (take n notes) q 0 (length (take n notes)) ≡ marked_in slots notes q 0 n
+  front_is h = ap (marked_in slots (take n notes) q 0) (length-take-le n notes h) ∙ front_marked 0 n (omega arith)
+
+module _ (slots : List ℕ) (notes : List Note) (list₀ : List ℕ) (q noted : ℕ) where
   abbrev marked : ℕ → List ℕ
   marked e = marked_in slots notes q e (noted - e)
 
@@ -433,13 +433,13 @@ module _ (carriers : ℕ) (frames slots : List ℕ) (a : Listable carriers frame
   unfolding due
   due_all = refl
 
-  module _ {notes : List ℕ} {n : ℕ} (c : Noted carriers frames notes n round_steps) (q : ℕ) where
+  module _ {notes : List Note} {n : ℕ} (c : Noted carriers frames notes n round_steps) (q : ℕ) where
     abbrev all : List ℕ
     all = due carriers frames 0
 
     -- they look at what their steps look at
     entry_is : (e : ℕ) → e < n → packet_in notes q e ≡ looked q (get_or all e 0)
-    entry_is e l = let o = c.each e l in ap₂ (λ (x y : ℕ). x + q * y) o.packet o.further
+    entry_is e l = ap (λ (x : Note). x.packet + q * x.further) (c.each e l).is
 
     entries_from : (e m : ℕ) → e + m ≡ n → marked_in slots notes q e m ≡ found q (drop e all)
     unfolding marked_in found
@@ -463,6 +463,13 @@ module _ (carriers : ℕ) (frames slots : List ℕ) (a : Listable carriers frame
           let is = packet_round q v (due_from_test carriers frames v o.looks) in
           let same = entry_is e l in
           omega arith
+
+      -- of the notes up to the last entry, too
+      pub front_few : (e : ℕ) → e < length (take n notes) → packet_in (take n notes) q e < frame_packets * most_frames
+      front_few e l =
+          let within : e < n = omega (arith, length-take n notes) in
+          let same = front-packet slots notes q n e within in
+          omega (arith, entry_few e within)
 
       -- and what they find is what the walk does in the round
       pub round_is : places_from carriers frames slots (round_steps * q) ≡ marked_in slots notes q 0 n ++ places_from carriers frames slots (round_steps * (q + 1))

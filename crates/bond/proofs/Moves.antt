@@ -12,8 +12,9 @@ use Rattle.slices.proofs.Front.{put, copied-over, put-over}
 use Rattle.packet.specs.Packets.{packet_length, slot}
 use Rattle.bond.specs.Bonding.{spread_over, gathered}
 use Rattle.bond_places.specs.Order.{frame_packets}
+use Rattle.bond.specs.declared.rounds.Note.{Note}
 use Rattle.bond.specs.Listing.{Within, round_steps, Noted, marked_in, places_from, Listable}
-use Rattle.bond.proofs.ByRound.{places_none, round_is}
+use Rattle.bond.proofs.ByRound.{places_none, round_is, front_is}
 
 -- k bytes copied to k lent ones
 pub copied-part : (to from k : ℕ) (into bytes : List ℕ) → to + k ≤ length into → from + k ≤ length bytes
@@ -201,16 +202,18 @@ module _ {carriers : ℕ} {frames slots list : List ℕ} {moved q : ℕ} (a : Li
       take_all moved ms (omega (arith, length-drop moved ms, ap length none))
 
   -- what is listed of round q comes next
-  pub rounds_turn : {notes : List ℕ} {noted : ℕ} (next : List ℕ) (n : ℕ) → Noted carriers frames notes noted round_steps → q < frame_packets
-      → take n next ≡ marked_in slots notes q 0 noted → n ≡ length (marked_in slots notes q 0 noted)
+  pub rounds_turn : {notes : List Note} {noted : ℕ} (next : List ℕ) (n : ℕ) → Noted carriers frames notes noted round_steps → q < frame_packets
+      → take n next ≡ marked_in slots (take noted notes) q 0 (length (take noted notes)) → n ≡ length (marked_in slots (take noted notes) q 0 (length (take noted notes)))
       → Turn (places_from carriers frames slots 0) moved n (take (n - 0) next) (places_from carriers frames slots (round_steps * (q + 1)))
   rounds_turn {notes} {noted} next n i h e l =
       let all : n - 0 ≡ n = omega arith in
-      let is : take (n - 0) next ≡ marked_in slots notes q 0 noted = ap (λ (j : ℕ). take j next) all ∙ e in
+      let few = i.few in
+      let long = i.long in
+      let is : take (n - 0) next ≡ marked_in slots notes q 0 noted = ap (λ (j : ℕ). take j next) all ∙ e ∙ front_is slots notes q noted (omega arith) in
       record {
         few = r.turn.few;
         is = r.turn.is ∙ round_is carriers frames slots a i q h ∙ ap (λ (ms : List ℕ). ms ++ places_from carriers frames slots (round_steps * (q + 1))) (sym is);
-        long = ap length is ∙ sym l;
+        long = ap length (ap (λ (j : ℕ). take j next) all ∙ e) ∙ sym l;
       }
 
   -- and then the next round

@@ -4,6 +4,7 @@ use Rattle.slices.specs.Slices.{Among}
 use Rattle.packet.specs.Packets.{packet_length}
 use Rattle.bond_places.specs.Order.{frame_packets, picked}
 use Rattle.counters.specs.Counters.{last_carrier}
+use Rattle.bond.specs.declared.rounds.Note.{Note}
 use Rattle.bond_places.specs.Walk.{most_frames, share, frames_before, packet_at, is_marked, stops, Walkable}
 
 -- all of these packets lie in the group
@@ -34,29 +35,32 @@ is_due carriers frames v = ltb (v % last_carrier) carriers && eqb (v / last_carr
 unfoldable pub due : ℕ → List ℕ → ℕ → List ℕ
 due carriers frames v = picked (is_due carriers frames) v (round_steps - v)
 
+-- what stands where nothing is noted
+abbrev pub no_note : Note
+no_note = record { packet = 0; further = 0 }
+
 -- entry e of the notes is that of step v: its packet in the first round, and how many packets it moves on in each round
-pub record Entry (carriers : ℕ) (frames notes : List ℕ) (e v : ℕ) : Type 0 where
+pub record Entry (carriers : ℕ) (frames : List ℕ) (notes : List Note) (e v : ℕ) : Type 0 where
   pub early : v < round_steps
   pub looks : is_due carriers frames v ≡ true
-  pub packet : get_or notes (2 * e) 0 ≡ packet_at frames v
-  pub further : get_or notes (2 * e + 1) 0 ≡ frames_of frames v
+  pub is : get_or notes e no_note ≡ record { packet = packet_at frames v; further = frames_of frames v }
 
 -- the n steps before v that have a place are noted
-pub record Noted (carriers : ℕ) (frames notes : List ℕ) (n v : ℕ) : Type 0 where
+pub record Noted (carriers : ℕ) (frames : List ℕ) (notes : List Note) (n v : ℕ) : Type 0 where
   pub left : drop n (due carriers frames 0) ≡ due carriers frames v
   pub those : n ≤ length (due carriers frames 0)
   pub few : n ≤ v
   pub each : (e : ℕ) → e < n → Entry carriers frames notes e (get_or (due carriers frames 0) e 0)
-  pub long : length notes ≡ 2 * round_steps
+  pub long : length notes ≡ round_steps
 
 -- ---- its list
 
 -- the packet of entry e in round q
-abbrev pub packet_in : List ℕ → ℕ → ℕ → ℕ
-packet_in notes q e = get_or notes (2 * e) 0 + q * get_or notes (2 * e + 1) 0
+abbrev pub packet_in : List Note → ℕ → ℕ → ℕ
+packet_in notes q e = (get_or notes e no_note).packet + q * (get_or notes e no_note).further
 
 -- the marked packets among n entries from e on, in round q
-unfoldable pub marked_in : List ℕ → List ℕ → ℕ → ℕ → ℕ → List ℕ
+unfoldable pub marked_in : List ℕ → List Note → ℕ → ℕ → ℕ → List ℕ
 marked_in slots notes q e zero = []
 marked_in slots notes q e (suc n) =
     cond (is_marked slots (packet_in notes q e)) (packet_in notes q e ∷ []) [] ++ marked_in slots notes q (e + 1) n

@@ -7,7 +7,7 @@ ghost use Rattle.bond.specs.Bonding.{spread_over, gathered};
 ghost use Rattle.bond.specs.Listing.{Within, places_from, Listable};
 
 use crate::rounds;
-use crate::rounds::{FRAME_PACKETS, LISTED, NOTES, Plan};
+use crate::rounds::{FRAME_PACKETS, LISTED, NOTES, Note, Plan};
 use packet::PACKET_BYTES;
 
 // Copies the packet that starts at `place` in `from` over the one that starts at `at` in `to`.
@@ -54,11 +54,11 @@ pub(crate) fn spread_over(group: &mut [u8], stream: &[u8], plan: Plan)
     ensures { group.new ≡ spread_over (places_from plan.entry.carriers plan.entry.frames.now plan.entry.slots.now 0) stream.now group.old }
 {
     let mut list = [0u16; LISTED];
-    let mut notes = [0u16; NOTES];
+    let mut notes = [Note::NONE; NOTES];
     let noted = rounds::note_round(&mut notes, plan);
     let mut moved = 0;
     for round in 0..FRAME_PACKETS {
-        let n = rounds::list_round(&mut list, round, noted, &notes, plan.slots);
+        let n = rounds::list_round(&mut list, round, &notes[..noted], plan.slots);
         spread_listed(
             group,
             &stream[PACKET_BYTES * moved..PACKET_BYTES * (moved + n)],
@@ -77,11 +77,11 @@ pub(crate) fn gather_over(out: &mut [u8], group: &[u8], plan: Plan)
     ensures { out.new ≡ copied out.old (gathered (places_from plan.entry.carriers plan.entry.frames.now plan.entry.slots.now 0) group.now) }
 {
     let mut list = [0u16; LISTED];
-    let mut notes = [0u16; NOTES];
+    let mut notes = [Note::NONE; NOTES];
     let noted = rounds::note_round(&mut notes, plan);
     let mut moved = 0;
     for round in 0..FRAME_PACKETS {
-        let n = rounds::list_round(&mut list, round, noted, &notes, plan.slots);
+        let n = rounds::list_round(&mut list, round, &notes[..noted], plan.slots);
         gather_listed(
             &mut out[PACKET_BYTES * moved..PACKET_BYTES * (moved + n)],
             group,

@@ -13,13 +13,28 @@ use counters::SLOTS;
 // The packets of a frame. A super frame has as many rounds.
 pub(crate) const FRAME_PACKETS: usize = SLOTS + 1;
 
-// The twelfths of a round, and room for its notes: two numbers for each place that it can have.
+// The twelfths of a round, and room for its notes: one for each place that it can have.
 const ROUND_TWELFTHS: usize = 12;
 
-pub(crate) const NOTES: usize = 2 * CARRIERS * ROUND_TWELFTHS;
+pub(crate) const NOTES: usize = CARRIERS * ROUND_TWELFTHS;
 
 // Room for each place of a round, and for one more: a packet is listed first and tested afterwards.
-pub(crate) const LISTED: usize = CARRIERS * ROUND_TWELFTHS + 1;
+pub(crate) const LISTED: usize = NOTES + 1;
+
+// A place of the first round: its packet, and how many packets it moves on in each round.
+#[derive(Clone, Copy)]
+pub(crate) struct Note {
+    pub packet: u16,
+    pub further: u16,
+}
+
+impl Note {
+    // What stands where nothing is noted.
+    pub(crate) const NONE: Note = Note {
+        packet: 0,
+        further: 0,
+    };
+}
 
 // Where a group's packets are bonded: how many carriers it has, the number of frames of each, and the bonded slots of each frame, slot i in
 // bit i.
@@ -30,9 +45,8 @@ pub(crate) struct Plan<'a> {
     pub slots: &'a [u64],
 }
 
-// Notes the places at one twelfth of the first round, behind those noted before. A note is the place's packet, and how many packets it moves
-// on in each round. Answers how many places are noted now.
-fn note_twelfth(notes: &mut [u16], noted: usize, twelfth: usize, plan: Plan) -> usize
+// Notes the places at one twelfth of the first round, behind those noted before. Answers how many places are noted now.
+fn note_twelfth(notes: &mut [Note], noted: usize, twelfth: usize, plan: Plan) -> usize
     requires walkable { Walkable plan.carriers plan.frames.now }
     requires twelfth_lt_round_twelfths { twelfth < round_twelfths }
     requires noted { Noted plan.carriers plan.frames.now notes.old noted (last_carrier * twelfth) }
@@ -44,8 +58,10 @@ fn note_twelfth(notes: &mut [u16], noted: usize, twelfth: usize, plan: Plan) -> 
         let f = *count as usize;
         let part = twelfth * f;
         if part % ROUND_TWELFTHS == 0 {
-            notes[2 * n] = (FRAME_PACKETS * frame + part / ROUND_TWELFTHS) as u16;
-            notes[2 * n + 1] = f as u16;
+            notes[n] = Note {
+                packet: (FRAME_PACKETS * frame + part / ROUND_TWELFTHS) as u16,
+                further: f as u16,
+            };
             n += 1;
         }
         frame += f;
@@ -54,9 +70,9 @@ fn note_twelfth(notes: &mut [u16], noted: usize, twelfth: usize, plan: Plan) -> 
 }
 
 // Notes the places of the first round. Answers how many there are.
-pub(crate) fn note_round(notes: &mut [u16], plan: Plan) -> usize
+pub(crate) fn note_round(notes: &mut [Note], plan: Plan) -> usize
     requires walkable { Walkable plan.carriers plan.frames.now }
-    requires notes_len { length notes.old ≡ 2 * round_steps }
+    requires notes_len { length notes.old ≡ round_steps }
     ensures { Noted plan.entry.carriers plan.entry.frames.now notes.new result round_steps }
 {
     let mut noted = 0;
@@ -76,23 +92,17 @@ fn is_marked(slots: &[u64], m: usize) -> bool
 
 // Lists the marked packets of a round. Answers how many there are. Every packet is written to the list, and counted only if it is marked:
 // this spares the processor a branch that it cannot predict.
-pub(crate) fn list_round(
-    list: &mut [u16],
-    round: usize,
-    noted: usize,
-    notes: &[u16],
-    slots: &[u64],
-) -> usize
-    requires noted_le_round_steps { (noted ≤ round_steps) × (length notes.now ≡ 2 * round_steps) × (length slots.now ≡ most_frames) }
-    requires by_index { (e : ℕ) → e < noted → packet_in notes.now round e < frame_packets * most_frames }
+pub(crate) fn list_round(list: &mut [u16], round: usize, notes: &[Note], slots: &[u64]) -> usize
+    requires notes_bound { (length notes.now ≤ round_steps) × (length slots.now ≡ most_frames) }
+    requires by_index { (e : ℕ) → e < length notes.now → packet_in notes.now round e < frame_packets * most_frames }
     requires round_steps_in_bounds { round_steps < length list.old }
-    ensures list_after { take result list.new ≡ marked_in slots.now notes.now round 0 noted }
-    ensures value { result ≡ length (marked_in slots.now notes.now round 0 noted) }
-    ensures upper_bound { result ≤ noted }
+    ensures list_after { take result list.new ≡ marked_in slots.now notes.now round 0 (length notes.now) }
+    ensures value { result ≡ length (marked_in slots.now notes.now round 0 (length notes.now)) }
+    ensures upper_bound { result ≤ length notes.now }
 {
     let mut n = 0;
-    for e in 0..noted {
-        let m = notes[2 * e] as usize + round * notes[2 * e + 1] as usize;
+    for note in notes {
+        let m = note.packet as usize + round * note.further as usize;
         list[n] = m as u16;
         if is_marked(slots, m) {
             n += 1;

@@ -3,10 +3,10 @@ use Prim.Native.Nat.{ℕ, ◌+◌, ◌-◌, ◌*◌}
 use mathlib.Core.Path.{refl, ap, ◌∙◌}
 use mathlib.Core.List.{List}
 use native.Mathlib.Omega.{arith}
-use lib.ListN.{take}
+use lib.ListN.{take, length-take}
 use Rattle.bond.specs.Bonding.{spread_over}
 use Rattle.bond.specs.Listing.{round_steps, places_from}
-use Rattle.bond.proofs.ByRound.{entry_few}
+use Rattle.bond.proofs.ByRound.{front_few}
 use Rattle.bond.proofs.Moves.{Turn, turn_few, turn_within, part-long, spread-part, rounds_none, rounds_turn, rounds_more, rounds_all}
 use Rattle.bond.proofs.moving.spread_over.Goals as goal
 use Rattle.bond.proofs.moving.spread_over.Goals.{After-list_round-n}
@@ -31,8 +31,8 @@ list_round-n-requires c =
     let n = c.note_round-noted.ensures in
     let room = c.loop-round.invariant.0.room in
     record {
-      noted_le_round_steps = (n.few, n.long, p.long);
-      by_index = entry_few _ _ _ p n c.loop-round.round c.loop-round-test.true;
+      notes_bound = (omega (arith, n.few, length-take c.note_round-noted.result c.note_round-noted.new.notes), p.long);
+      by_index = front_few _ _ _ p n c.loop-round.round c.loop-round-test.true;
       round_steps_in_bounds = omega arith;
     }
 
