@@ -27,7 +27,8 @@ fn write_fresh(state: &mut [u8; COMPOSER_BYTES], pid: u16, kind: u8)
     state[VERSION] = 7;
 }
 
-// Starts a run with this header PID and kind. Answers the state as a value.
+// Starts a run with this header PID and kind. Answers the state as a value. `receiver_start` has a
+// start like it: one function for both would take `write_fresh` as a closure, and its clauses would say no more plainly what is written.
 pub fn start(pid: u16, kind: Kind) -> Started<COMPOSER_BYTES>
     ensures refusal_value { answer result.checked ≡ (start_of kind pid).refusal }
     ensures state_value { result.state ≡ composer_bytes (start_of kind pid).state }

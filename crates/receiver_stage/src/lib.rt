@@ -24,7 +24,8 @@ use refusals::Refusal;
 use setting::{Kind, limits};
 use setting_bytes::LAST_KIND;
 
-// Bytes that code no stage are read as this one, which every call refuses with 17.
+// Bytes that code no stage are read as this one, which every call refuses with 17. It is no `Option`: the definition of a saved state gives each
+// one a stage, whatever its bytes.
 fn no_stage() -> Stage
     ensures { result ≡ no_stage }
 {

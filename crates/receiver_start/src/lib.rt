@@ -24,7 +24,8 @@ fn write_fresh(state: &mut [u8; RECEIVER_BYTES], pid: u16, kind: u8)
     slices::copy(state, &front);
 }
 
-// Starts a receiver for this header PID and kind. Answers the state as a value.
+// Starts a receiver for this header PID and kind. Answers the state as a value. `composer_start` has a
+// start like it: one function for both would take `write_fresh` as a closure, and its clauses would say no more plainly what is written.
 pub fn start(pid: u16, kind: Kind) -> Started<RECEIVER_BYTES>
     ensures refusal_value { answer result.checked ≡ (start_of kind pid).refusal }
     ensures state_value { result.state ≡ receiver_bytes (start_of kind pid).state }

@@ -32,7 +32,7 @@ pub(crate) fn word(rt: HostRuntime, i: usize, buffer: &mut [u8]) -> &[u8] {
     &buffer[..n]
 }
 
-// All of the text as a number in this base. A number has at least one digit.
+// All of the text as a number in this base. A number has at least one digit. The library's `from_str_radix` would take a sign too.
 fn in_base(digits: &[u8], base: u32) -> Option<u32>
     requires { (2 ≤ base) × (base ≤ 16) }
 {

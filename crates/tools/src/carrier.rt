@@ -19,7 +19,8 @@ const BLOCK_PACKETS: usize = 53;
 
 const BLOCK_BYTES: usize = PACKET_BYTES * BLOCK_PACKETS;
 
-// The packets of an input, read in blocks: how many packets the block has, and how many of them were taken.
+// The packets of an input, read in blocks: how many packets the block has, and how many of them were taken. An array and its counts, since the
+// programs have no heap for a reader of the library's.
 #[derive(Drop)]
 struct Packets {
     input: Input,

@@ -93,7 +93,7 @@ impl Group {
         }
     }
 
-    // Opens the carriers' files, and says of each that cannot be opened. Answers whether all were opened.
+    // Opens the carriers' files, and says of each that cannot be opened. Answers whether all were opened: a `Result` could tell one problem alone.
     pub(crate) fn open(&mut self, args: Arguments) -> bool {
         let Bond { carriers, pid, .. } = self.bond;
         let count = usize::from(carriers);
