@@ -1,5 +1,4 @@
 -- `bonding_of` meets its contract, by the kind. Assumes nothing.
-use native.Mathlib.Omega.{arith}
 use Rattle.std.proofs.Common.{inl, inr}
 use Rattle.bits.proofs.Laws.{fit_of}
 use Rattle.header_layout.proofs.Said.{Bonding, no_bonding, no_bonding_short, bonding_are}

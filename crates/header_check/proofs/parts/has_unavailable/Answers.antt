@@ -1,6 +1,5 @@
 -- `has_unavailable` meets its contract, by the kind. Assumes nothing.
 use mathlib.Core.Path.{sym, ap, ◌∙◌}
-use native.Mathlib.Omega.{arith}
 use Rattle.std.proofs.Common.{inl, inr}
 use Rattle.bits.proofs.Laws.{fit_of}
 use Rattle.setting.specs.declared.Kind.{Kind}

@@ -1,6 +1,6 @@
 -- `packet_refusal` meets its contract, check by check. Assumes nothing.
 use Prim.Native.Nat.{ℕ, ◌/◌, ◌%◌}
-use mathlib.Core.Path.{◌≡◌, sym, ◌∙◌}
+use mathlib.Core.Path.{◌≡◌}
 use mathlib.Core.Bool.{cond, not, ◌&&◌}
 use mathlib.Core.List.{List}
 use Rattle.std.proofs.Common.{arith}
@@ -20,7 +20,12 @@ use Rattle.header_check.proofs.parts.packet_refusal.Goals as goal
 
 -- the refusal, by the bytes that the code reads
 by_bytes : (pid : ℕ) (p : List ℕ) → Fit 8 p → length p ≡ header_length
-    → first_of (packet_checks pid p) ≡ cond (not (eqb (get_or p 0 0) sync_byte)) 3 (cond (not (eqb (word_at p 1 % 8192) pid)) 4 (cond (not (eqb (get_or p 1 0 / 32) 0 && eqb (get_or p 3 0 / 16) 1)) 5 (cond (not (eqb (word_at p 4 % 8192) tsmf_sync)) 6 (cond (not (eqb (remainder_of p) 0)) 7 0))))
+    → first_of (packet_checks pid p) ≡
+    cond (not (eqb (get_or p 0 0) sync_byte)) 3
+    (cond (not (eqb (word_at p 1 % 8192) pid)) 4
+    (cond (not (eqb (get_or p 1 0 / 32) 0 && eqb (get_or p 3 0 / 16) 1)) 5
+    (cond (not (eqb (word_at p 4 % 8192) tsmf_sync)) 6
+    (cond (not (eqb (remainder_of p) 0)) 7 0))))
 unfolding first_of packet_checks
 by_bytes pid p f l = rw (reads_sync_byte p f l, header-pid p f l, zeros p f l, one p f l, reads_tsmf_sync p f l)
 

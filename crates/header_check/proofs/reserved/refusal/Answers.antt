@@ -3,7 +3,7 @@ use Prim.Native.Nat.{ℕ, ◌-◌, ◌/◌, ◌%◌}
 use mathlib.Core.Path.{◌≡◌, refl, ap, ◌∙◌}
 use mathlib.Core.Bool.{cond, not}
 use mathlib.Core.List.{List}
-use Rattle.std.proofs.Common.{rules, arith}
+use Rattle.std.proofs.Common.{arith}
 use Rattle.std.proofs.lemmas.Grind.{common_steps}
 use lib.Dec.{eqb}
 use lib.ListN.{length, get_or, drop}
@@ -12,7 +12,6 @@ use Rattle.bits.proofs.Laws.{fit_of}
 use Rattle.setting.specs.declared.Kind.{Kind}
 use Rattle.setting.specs.Size.{size_of}
 use Rattle.setting.specs.Refusal.{first_of}
-use Rattle.header_layout.specs.Layout.{identifiers_start, numbers_start}
 use Rattle.header_layout.specs.declared.Places.{Places}
 use Rattle.header_layout.specs.Places.{places_of}
 use Rattle.header_layout.specs.Header.{header_length, reserved_checks}
@@ -21,7 +20,11 @@ use Rattle.header_check.proofs.reserved.refusal.Goals as goal
 
 -- the answer, by the bits that the code reads
 by_bits : (kind : Kind) (p : List ℕ) (at : Places) → Fit 8 p → length p ≡ header_length → at ≡ places_of (size_of kind)
-    → first_of (reserved_checks kind p) ≡ cond (not (eqb (get_or p 4 0 / 32) 7)) 20 (cond (not (eqb (get_or p (at.identifiers - 1) 0 % 2) 1)) 20 (cond (not (eqb (get_or p (at.numbers - 1) 0 / 2 % 2) 1)) 20 (first_of (drop 3 (reserved_checks kind p)))))
+    → first_of (reserved_checks kind p) ≡
+    cond (not (eqb (get_or p 4 0 / 32) 7)) 20
+    (cond (not (eqb (get_or p (at.identifiers - 1) 0 % 2) 1)) 20
+    (cond (not (eqb (get_or p (at.numbers - 1) 0 / 2 % 2) 1)) 20
+    (first_of (drop 3 (reserved_checks kind p)))))
 unfolding first_of places_of
 by_bits kind p at f h e = ap first_of (reserved_are p f h kind) ∙ rw e
 
