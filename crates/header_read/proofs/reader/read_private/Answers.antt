@@ -20,12 +20,11 @@ use Rattle.header_read.proofs.reader.read_private.Goals.{After-places_of-at}
 
 -- what is known of the places
 facts : (c : After-places_of-at) →
-    (c.size_of-size.result.private_bytes ≤ private_bytes) × (c.places_of-at.result.private + c.size_of-size.result.private_bytes ≤ 184) × (length c.args.packet.now ≡ 188)
+    (c.size_of-size.result.private_bytes ≤ private_bytes) × (c.places_of-at.result.private + c.size_of-size.result.private_bytes ≤ 184)
 unfolding places_of
 facts c = (
   rw c.size_of-size.ensures (sized c.args.kind).privates,
   rw (c.size_of-size.ensures, c.places_of-at.ensures.value) (private_end c.args.kind),
-  c.told-packet,
 )
 
 pub slice_bounds-copy-end : goal.slice_bounds-copy-end
