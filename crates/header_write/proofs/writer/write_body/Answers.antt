@@ -14,8 +14,8 @@ use Rattle.setting.specs.declared.Setting.{Setting}
 use Rattle.setting.specs.Size.{size_of, slots_of, streams_of, resized}
 use Rattle.setting.proofs.Sizes.{sized}
 use Rattle.setting_bytes.specs.Settings.{setting_of}
-use Rattle.setting_bytes.proofs.InBytes.{setting_in, setting_of-in}
-use Rattle.header_layout.specs.Layout.{streams_start, identifiers_start, control_start, numbers_start, private_start}
+use Rattle.setting_bytes.proofs.InBytes.{setting_of-in}
+use Rattle.header_layout.specs.Layout.{streams_start, private_start}
 use Rattle.header_layout.specs.Places.{places_of}
 use Rattle.header_layout.specs.Header.{paired}
 use Rattle.header_layout.proofs.Body.{body_parts}
