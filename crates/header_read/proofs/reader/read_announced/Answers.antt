@@ -1,5 +1,5 @@
 -- `read_announced` meets its contract: four bytes, three parts behind them and a byte. Assumes nothing.
-use Prim.Native.Nat.{◌+◌, ◌-◌, ◌*◌, ◌/◌, ◌%◌, ◌≤◌}
+use Prim.Native.Nat.{◌+◌, ◌*◌, ◌/◌, ◌%◌, ◌≤◌}
 use mathlib.Core.Path.{◌≡◌, ap, ◌∙◌}
 use native.Mathlib.Omega.{arith}
 use borrow.Author.Rules.{rules}
@@ -11,7 +11,6 @@ use Rattle.setting.specs.Size.{streams_of}
 use Rattle.setting.proofs.Sizes.{sized}
 use Rattle.setting_bytes.specs.Words.{word_bytes}
 use Rattle.header_layout.specs.Places.{places_of}
-use Rattle.header_layout.proofs.Cut.{length_part}
 use Rattle.header_layout.proofs.LaidOut.{private_before}
 use Rattle.header_layout.proofs.Said.{emergency_is}
 use Rattle.header_read.proofs.Coded.{announced-written, ts_read, networks_read, statuses_read}
@@ -36,9 +35,8 @@ facts c =
 
 pub read_ids-requires : goal.read_ids-requires
 read_ids-requires c =
-    let at = c.places_of-at.result in
     let f = facts (goal.at.read_ids-requires c).After-places_of-at in
-    (search rules, f.0, rw (length_part c.args.packet.now at.identifiers (at.control - at.identifiers) (omega arith)) (omega arith))
+    search rules
 
 pub slice_bounds-read_ids-count-4 : goal.slice_bounds-read_ids-count-4
 slice_bounds-read_ids-count-4 c = let f = facts (goal.at.slice_bounds-read_ids-count-4 c).After-places_of-at in omega arith
@@ -48,15 +46,13 @@ slice_bounds-read_ids-start-4 c = let f = facts (goal.at.slice_bounds-read_ids-s
 
 pub read_ids-requires-2 : goal.read_ids-requires-2
 read_ids-requires-2 c =
-    let at = c.places_of-at.result in
     let f = facts (goal.at.read_ids-requires-2 c).After-places_of-at in
-    (search rules, f.0, rw (length_part c.args.packet.now (at.identifiers + 2) (at.control - (at.identifiers + 2)) (omega arith)) (omega arith))
+    search rules
 
 pub read_statuses-requires : goal.read_statuses-requires
 read_statuses-requires c =
-    let at = c.places_of-at.result in
     let f = facts (goal.at.read_statuses-requires c).After-places_of-at in
-    (search rules, f.0, rw (length_part c.args.packet.now at.control (at.numbers - at.control) (omega arith)) (omega arith))
+    search rules
 
 pub returns : goal.returns
 unfolding places_of

@@ -1,13 +1,9 @@
 -- `write_body` meets its contract: six parts, one behind the other, at the places of the kind. Assumes nothing.
-use Prim.Native.Nat.{ℕ, ◌+◌, ◌-◌, ◌*◌, ◌/◌, ◌≤◌}
+use Prim.Native.Nat.{◌+◌, ◌-◌, ◌*◌, ◌/◌, ◌≤◌}
 use mathlib.Core.Path.{◌≡◌, sym, ap, ◌∙◌}
-use mathlib.Core.List.{List}
 use native.Mathlib.Omega.{arith}
 use borrow.Author.Rules.{rules}
-use borrow.Rule.Slice.PartMut.{same_len_mid, mid_len}
-use lib.ListN.{length, take, drop}
 use Rattle.bits.specs.Fields.{run}
-use Rattle.slices.proofs.Front.{put}
 use Rattle.counters.specs.Counters.{last_stream}
 use Rattle.setting.specs.declared.Size.{Size}
 use Rattle.setting.specs.declared.Setting.{Setting}
@@ -20,7 +16,7 @@ use Rattle.header_layout.specs.Places.{places_of}
 use Rattle.header_layout.specs.Header.{paired}
 use Rattle.header_layout.proofs.Body.{body_parts}
 use Rattle.header_write.proofs.writer.write_body.Goals as goal
-use Rattle.header_write.proofs.writer.write_body.Goals.{After-places_of-at, After-write_identifiers}
+use Rattle.header_write.proofs.writer.write_body.Goals.{After-places_of-at}
 
 streams_are : (c : After-places_of-at) → c.from-streams.result ≡ streams_of c.args.kind
 streams_are c = c.from-streams.ensures ∙ ap (λ (z : Size). z.streams) c.size_of-size.ensures
@@ -40,44 +36,25 @@ sizes c =
     rw (c.places_of-at.ensures.value, streams_are c) (omega arith, omega arith, omega arith, omega arith, omega arith, few, omega arith)
 
 pub write_streams-requires : goal.write_streams-requires
-write_streams-requires c = let f = sizes (goal.at.write_streams-requires c).After-places_of-at in rw (← f.0) (search rules)
+write_streams-requires c = let f = sizes (goal.at.write_streams-requires c).After-places_of-at in search rules
 
 pub write_identifiers-requires-clause-part_len : goal.write_identifiers-requires-clause-part_len
 write_identifiers-requires-clause-part_len c =
     let f = sizes (goal.at.write_identifiers-requires-clause-part_len c).After-places_of-at in
-    (rw (← f.1) (search rules), f.5)
-
--- what is lent for the control information, once the parts before it are back with their lengths
-abbrev lent : (c : After-write_identifiers) → List ℕ
-lent c =
-    let r = c.places_of-at.result in
-    let begun = put 0 streams_start c.args.part.now c.write_start.new.part in
-    let streamed = put streams_start (r.identifiers - streams_start) begun c.write_streams.new.part in
-    put r.identifiers (r.control - r.identifiers) streamed c.write_identifiers.new.part
-
-control_room : (c : After-write_identifiers) →
-    let r = c.places_of-at.result in
-    length (take (r.numbers - r.control) (drop r.control (lent c))) ≡ r.numbers - r.control
-control_room c =
-    let r = c.places_of-at.result in
-    let begun = same_len_mid 0 streams_start _ _ c.write_start.auto.part ∙ c.requires in
-    let streamed = same_len_mid streams_start (r.identifiers - streams_start) _ _ c.write_streams.auto.part ∙ begun in
-    let identified = same_len_mid r.identifiers (r.control - r.identifiers) _ _ c.write_identifiers.auto.part ∙ streamed in
-    mid_len r.control r.numbers (lent c) (omega (arith, identified))
+    search rules
 
 pub write_control-requires : goal.write_control-requires
 write_control-requires c =
-    let at = goal.at.write_control-requires c in
-    let f = sizes at.After-places_of-at in
-    rw (control_room at.After-write_identifiers) (omega arith, omega arith)
+    let f = sizes (goal.at.write_control-requires c).After-places_of-at in
+    search rules
 
 pub write_numbers-requires : goal.write_numbers-requires
 write_numbers-requires c =
     let f = sizes (goal.at.write_numbers-requires c).After-places_of-at in
-    (rw (← f.3) (search rules), search rules)
+    search rules
 
 pub write_private-requires : goal.write_private-requires
-write_private-requires c = let f = sizes (goal.at.write_private-requires c).After-places_of-at in rw (← f.4) (search rules)
+write_private-requires c = let f = sizes (goal.at.write_private-requires c).After-places_of-at in search rules
 
 pub returns : goal.returns
 returns c =
@@ -95,6 +72,6 @@ returns c =
     (c.write_streams.ensures a.pid)
     (c.write_identifiers.ensures
     ∙ (λ i. run 16 (paired (resized (n i) (said i).ts_id) (resized (n i) (said i).original_network_id))))
-    (c.write_control.ensures z a.pid (omega (arith, control_room at.After-write_identifiers)))
+    (c.write_control.ensures z a.pid (search rules))
     (c.write_numbers.ensures ∙ ap (λ (t : Setting). run z.number_bits (resized z.slots t.relative_ts_number)) said)
     (c.write_private.ensures a.pid)
