@@ -32,7 +32,8 @@ unfolding refusal_by
 numbers p e = ap (λ (x : Refusal). x.number) e
 
 -- the refusal of the whole, by what each of its parts said
-module _ (kind : Kind) (pid : ℕ) (p : List ℕ) {lent : List ℕ} (whole : IsWholeChunk lent p header_length) (allowed : true ≡ pid_allowed pid) where
+module _ (kind : Kind) (pid : ℕ) (p : List ℕ) {lent : List ℕ}
+    (whole : IsWholeChunk lent p header_length) (allowed : true ≡ pid_allowed pid) where
   abbrev packets : List Check
   packets = packet_checks pid p
 
@@ -63,26 +64,28 @@ pub returns-in_err-packet : goal.returns-in_err-packet
 unfolding read_refusal checked_of
 returns-in_err-packet c =
     let a = c.args in
+    let p = a.packet.now in
     let why : Refused = record { refusal = Why.Length; remainder = 0 } in
     let passed_up : c.from_residual.result ≡ Err why = search rules in
     let other = rw c.in_err-packet.ensures.ok_part at c.as_array.ensures.cases in
     ap on_paper passed_up
-    ∙ refused a.kind a.packet.now (wrong_length a.pid _ (read_checks a.kind a.pid a.packet.now) other) (omega arith) why (bare_is 1 a.packet.now (omega arith))
+    ∙ refused a.kind p (wrong_length a.pid _ (read_checks a.kind a.pid p) other) (omega arith) why (bare_is 1 p (omega arith))
 
 pub returns-then-not-pid_allowed : goal.returns-then-not-pid_allowed
 unfolding read_refusal checked_of
 returns-then-not-pid_allowed c =
     let a = c.args in
+    let p = a.packet.now in
     let whole = rw c.in_ok-packet.ensures.ok_part at c.as_array.ensures.cases in
-    refused a.kind a.packet.now (wrong_pid a.pid _ (read_checks a.kind a.pid a.packet.now) whole.long (sym c.if-not-pid_allowed.ensures)) (omega arith) _
-    (refused_from _ a.packet.now c.from.ensures (omega arith) refl)
+    let barred = wrong_pid a.pid _ (read_checks a.kind a.pid p) whole.long (sym c.if-not-pid_allowed.ensures) in
+    refused a.kind p barred (omega arith) _ (refused_from _ p c.from.ensures (omega arith) refl)
 
 pub returns-in_err-packet_refusal : goal.returns-in_err-packet_refusal
 unfolding checked_of
 returns-in_err-packet_refusal c =
     let a = c.args in
-    let whole = rw c.in_ok-packet.ensures.ok_part at c.as_array.ensures.cases in
     let p = c.in_ok-packet.packet.now in
+    let whole = rw c.in_ok-packet.ensures.ok_part at c.as_array.ensures.cases in
     let why = c.in_err-packet_refusal.field-0.0 in
     let passed_up : c.from_residual-in_err-packet_refusal.result ≡ Err why = search rules in
     let told : number why.refusal ≡ first_of (packet_checks a.pid p) = numbers p c.in_err-packet_refusal.ensures in
@@ -95,15 +98,16 @@ pub returns-in_err-refusal : goal.returns-in_err-refusal
 unfolding checked_of
 returns-in_err-refusal c =
     let a = c.args in
-    let whole = rw c.in_ok-packet.ensures.ok_part at c.as_array.ensures.cases in
     let p = c.in_ok-packet.packet.now in
+    let whole = rw c.in_ok-packet.ensures.ok_part at c.as_array.ensures.cases in
+    let good = sym (numbers p c.in_ok-packet_refusal.ensures) in
     let refusal = c.in_err-refusal.field-0.0 in
     let why : Refused = record { refusal = refusal; remainder = 0 } in
     let passed_up : c.from_residual-in_err-refusal.result ≡ Err why = search rules in
     let told = c.in_err-refusal.ensures in
     let some : first_of (reserved_checks a.kind p) ≡ 0 → ⊥ = λ none. is_some_number refusal (told ∙ none) in
     ap on_paper passed_up
-    ∙ refused a.kind p (by_reserved a.kind a.pid p whole c.if-not-pid_allowed.ensures (sym (numbers p c.in_ok-packet_refusal.ensures)) some) some why
+    ∙ refused a.kind p (by_reserved a.kind a.pid p whole c.if-not-pid_allowed.ensures good some) some why
     (refused_from refusal p refl (λ seven. not_of_reserved a.kind p (sym told ∙ seven)) told)
     ∙ ap (checked_of a.kind a.pid) whole.same
 
@@ -111,14 +115,16 @@ pub returns-in_err-said_by : goal.returns-in_err-said_by
 unfolding checked_of
 returns-in_err-said_by c =
     let a = c.args in
-    let whole = rw c.in_ok-packet.ensures.ok_part at c.as_array.ensures.cases in
     let p = c.in_ok-packet.packet.now in
+    let whole = rw c.in_ok-packet.ensures.ok_part at c.as_array.ensures.cases in
+    let good = sym (numbers p c.in_ok-packet_refusal.ensures) in
+    let its = by_rules a.kind a.pid p whole c.if-not-pid_allowed.ensures good (sym c.in_ok-refusal.ensures) in
     let refusal = c.in_err-said_by.field-0.0 in
     let why : Refused = record { refusal = refusal; remainder = 0 } in
     let passed_up : c.from_residual-in_err-said_by.result ≡ Err why = search rules in
     let told : number refusal ≡ first_of (rule_checks a.kind (reading a.kind p)) = c.in_err-said_by.ensures.value in
     ap on_paper passed_up
-    ∙ refused a.kind p (by_rules a.kind a.pid p whole c.if-not-pid_allowed.ensures (sym (numbers p c.in_ok-packet_refusal.ensures)) (sym c.in_ok-refusal.ensures)) (λ none. is_some_number refusal (told ∙ none)) why
+    ∙ refused a.kind p its (λ none. is_some_number refusal (told ∙ none)) why
     (refused_from refusal p refl (λ seven. not_of_rules a.kind (reading a.kind p) (sym told ∙ seven)) told)
     ∙ ap (checked_of a.kind a.pid) whole.same
 
@@ -126,8 +132,9 @@ pub returns : goal.returns
 unfolding checked_of
 returns c =
     let a = c.args in
-    let whole = rw c.in_ok-packet.ensures.ok_part at c.as_array.ensures.cases in
     let p = c.in_ok-packet.packet.now in
-    accepted a.kind p (by_rules a.kind a.pid p whole c.if-not-pid_allowed.ensures (sym (numbers p c.in_ok-packet_refusal.ensures)) (sym c.in_ok-refusal.ensures)) (sym c.in_ok-said_by.ensures.value)
-    c.in_ok-said_by.field-0 c.in_ok-said_by.ensures.said
+    let whole = rw c.in_ok-packet.ensures.ok_part at c.as_array.ensures.cases in
+    let good = sym (numbers p c.in_ok-packet_refusal.ensures) in
+    let its = by_rules a.kind a.pid p whole c.if-not-pid_allowed.ensures good (sym c.in_ok-refusal.ensures) in
+    accepted a.kind p its (sym c.in_ok-said_by.ensures.value) c.in_ok-said_by.field-0 c.in_ok-said_by.ensures.said
     ∙ ap (checked_of a.kind a.pid) whole.same

@@ -15,12 +15,17 @@ returns-then-numbers-ne-SLOTS c = rw (ne_eqb (length c.args.numbers.now) last_sl
 
 pub returns-in_default : goal.returns-in_default
 unfolding numbers_into
-returns-in_default c = rw (eq-eqb (length c.args.numbers.now) last_slot c.if-numbers-ne-SLOTS.false, ne_eqb (length c.args.packet.now) header_length c.in_default.ensures.cases) refl
+returns-in_default c =
+    let a = c.args in
+    let long = eq-eqb (length a.numbers.now) last_slot c.if-numbers-ne-SLOTS.false in
+    rw (long, ne_eqb (length a.packet.now) header_length c.in_default.ensures.cases) refl
 
 pub returns : goal.returns
 unfolding numbers_into
 returns c =
+    let a = c.args in
     let whole = c.in-Some.ensures.cases in
+    let long = eq-eqb (length a.numbers.now) last_slot c.if-numbers-ne-SLOTS.false in
     c.read_numbers.ensures
-    ∙ ap (λ (p : List ℕ). (reading c.args.kind p).relative_ts_number) whole.same
-    ∙ rw (eq-eqb (length c.args.numbers.now) last_slot c.if-numbers-ne-SLOTS.false, eq-eqb (length c.args.packet.now) header_length whole.long) refl
+    ∙ ap (λ (p : List ℕ). (reading a.kind p).relative_ts_number) whole.same
+    ∙ rw (long, eq-eqb (length a.packet.now) header_length whole.long) refl

@@ -20,7 +20,9 @@ returns c =
     let at = identifiers_start (size_of kind) in
     let here = c.places_of-at.ensures.value in
     let few = (sized kind).streams in
+    let whole = c.told-packet in
     let sixty : at + 60 - at ≡ 60 = omega arith in
     let later : at + 60 - (at + 2) ≡ 58 = omega arith in
     c.has_pair_twice.ensures
-    ∙ rw (here, sixty, later, length_part p at 60 (let e = c.told-packet in omega arith), length_part p (at + 2) 58 (let e = c.told-packet in omega arith), c.requires) (pairs_in kind p bytes c.told-packet)
+    ∙ rw (here, sixty, later, length_part p at 60 (omega arith), length_part p (at + 2) 58 (omega arith), c.requires)
+    (pairs_in kind p bytes whole)
