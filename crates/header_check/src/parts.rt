@@ -64,8 +64,8 @@ const NUMBERS_BYTES: usize = header_layout::PRIVATE - header_layout::NUMBERS;
 
 // The number of each slot: values of 4 bits, two from a byte.
 fn read_halves(values: &mut [u8], part: &[u8; NUMBERS_BYTES])
-    requires { length values.old ≡ 2 * length part.now }
-    ensures { values.new ≡ cut 4 (length values.old) (run 8 part.now) }
+    requires { length values.old ≡ last_slot }
+    ensures { values.new ≡ cut 4 last_slot (run 8 part.now) }
 {
     for (k, &byte) in part.iter().enumerate() {
         values[2 * k] = byte / 16;
