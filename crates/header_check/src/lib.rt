@@ -8,6 +8,7 @@ ghost use Rattle.header_check.specs.Checking.{checked_of, numbers_into};
 ghost use Rattle.header_check.specs.Cutting.{cut_into};
 
 use counters::{FramePosition, SLOTS};
+use header_layout::HEADER_LENGTH;
 use refusals::Refusal;
 use setting::Kind;
 
@@ -67,9 +68,7 @@ pub struct Said {
 pub fn check(packet: &[u8], pid: u16, kind: Kind) -> Result<Said, Refused>
     ensures { on_paper result ≡ checked_of kind pid packet.now }
 {
-    if packet.len() != header_layout::HEADER_LENGTH {
-        return Err(Refused::from(Refusal::Length));
-    }
+    let packet: &[u8; HEADER_LENGTH] = packet.as_array().ok_or(Refusal::Length)?;
     if !setting::pid_allowed(pid) {
         return Err(Refused::from(Refusal::HeaderPid));
     }
@@ -86,9 +85,9 @@ pub fn read_numbers(numbers: &mut [u8], packet: &[u8], kind: Kind)
     if numbers.len() != SLOTS {
         return;
     }
-    if packet.len() != header_layout::HEADER_LENGTH {
+    let Some(packet) = packet.as_array::<HEADER_LENGTH>() else {
         return;
-    }
+    };
     slices::fill(numbers, 0);
     parts::read_numbers(numbers, packet, kind);
 }

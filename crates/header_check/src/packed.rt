@@ -14,6 +14,7 @@ pub(crate) fn read_run(values: &mut [u8], part: &[u8], width: u32)
     let mut at = 0;
     for value in values.iter_mut() {
         if bits < width {
+            // Parts of a register, no bytes of a number: the bits that were cut go out, and the next byte comes in.
             held = (held % 256) * 256 + u32::from(part[at]);
             bits += 8;
             at += 1;

@@ -4,13 +4,14 @@ ghost use Rattle.bits.specs.Fields.{run, cut};
 ghost use Rattle.setting.specs.Refusal.{first_of};
 ghost use Rattle.counters.specs.Counters.{last_slot};
 ghost use Rattle.setting.specs.Rules.{some_unavailable, pair_twice, bonding_checks, rule_checks};
-ghost use Rattle.header_layout.specs.Header.{header_length, remainder_of, packet_checks, reading};
+ghost use Rattle.header_layout.specs.Header.{remainder_of, packet_checks, reading};
 ghost use Rattle.refusals.specs.Refusals.{answer};
 ghost use Rattle.header_check.specs.OnPaper.{refusal_in, on_paper};
 ghost use Rattle.header_check.specs.Checking.{bare, refusal_by, parts_of};
 
 use crate::{Refused, Said, packed};
 use counters::{FramePosition, RelativeNumber, SHORT_SLOTS, SLOTS, STREAMS};
+use header_layout::HEADER_LENGTH;
 use refusals::Refusal;
 use setting::Kind;
 
@@ -23,16 +24,14 @@ fn word_at(part: &[u8], at: usize) -> u16
 }
 
 // The check of the CRC itself: what bytes 4 to 187 leave in the register, 0 if it is right.
-fn remainder_of(packet: &[u8]) -> u32
-    requires { length packet.now ≡ header_length }
+fn remainder_of(packet: &[u8; HEADER_LENGTH]) -> u32
     ensures { result ≡ remainder_of packet.now }
 {
     crc::register(&packet[header_layout::TSMF_SYNC..header_layout::HEADER_LENGTH])
 }
 
 // 3 to 7: what the packet itself shows.
-pub(crate) fn packet_refusal(packet: &[u8], pid: u16) -> Result<(), Refused>
-    requires { length packet.now ≡ header_length }
+pub(crate) fn packet_refusal(packet: &[u8; HEADER_LENGTH], pid: u16) -> Result<(), Refused>
     ensures { refusal_in result ≡ refusal_by (first_of (packet_checks pid packet.now)) packet.now }
 {
     if packet[0] != 0x47 {
@@ -65,8 +64,8 @@ const NUMBERS_BYTES: usize = header_layout::PRIVATE - header_layout::NUMBERS;
 
 // The number of each slot: values of 4 bits, two from a byte.
 fn read_halves(values: &mut [u8], part: &[u8; NUMBERS_BYTES])
-    requires { length values.old ≡ 2 * length part.now }
-    ensures { values.new ≡ cut 4 (length values.old) (run 8 part.now) }
+    requires { length values.old ≡ last_slot }
+    ensures { values.new ≡ cut 4 last_slot (run 8 part.now) }
 {
     for (k, &byte) in part.iter().enumerate() {
         values[2 * k] = byte / 16;
@@ -75,8 +74,7 @@ fn read_halves(values: &mut [u8], part: &[u8; NUMBERS_BYTES])
 }
 
 // The availability, as a setting has it: stream 1 is bit 14 in every kind. In the header its bit is the highest of byte 7.
-fn availability_of(packet: &[u8], kind: Kind) -> u16
-    requires { length packet.now ≡ header_length }
+fn availability_of(packet: &[u8; HEADER_LENGTH], kind: Kind) -> u16
     ensures { result ≡ (reading kind packet.now).availability }
 {
     let size = setting::size_of(kind);
@@ -86,8 +84,8 @@ fn availability_of(packet: &[u8], kind: Kind) -> u16
 
 // The numbers of a header with fifteen streams. They are read by way of an array of their bytes, since the compiler then need not ask whether
 // packet and numbers overlap, and reads many at a time.
-fn read_long(numbers: &mut [u8], packet: &[u8])
-    requires { (length numbers.old ≡ last_slot) × (length packet.now ≡ header_length) }
+fn read_long(numbers: &mut [u8], packet: &[u8; HEADER_LENGTH])
+    requires { length numbers.old ≡ last_slot }
     ensures numbers_after { numbers.new ≡ (reading Kind.Plain packet.now).relative_ts_number }
     ensures numbers_after_2 { numbers.new ≡ (reading Kind.Extended packet.now).relative_ts_number }
 {
@@ -98,8 +96,8 @@ fn read_long(numbers: &mut [u8], packet: &[u8])
 }
 
 // The number of each slot that the kind has; those behind stay zeros.
-pub(crate) fn read_numbers(numbers: &mut [u8], packet: &[u8], kind: Kind)
-    requires { (numbers.old ≡ replicate last_slot 0) × (length packet.now ≡ header_length) }
+pub(crate) fn read_numbers(numbers: &mut [u8], packet: &[u8; HEADER_LENGTH], kind: Kind)
+    requires { numbers.old ≡ replicate last_slot 0 }
     ensures { numbers.new ≡ (reading kind packet.now).relative_ts_number }
 {
     match kind {
@@ -115,8 +113,7 @@ pub(crate) fn read_numbers(numbers: &mut [u8], packet: &[u8], kind: Kind)
 }
 
 // Whether a slot has the number of an unavailable stream. Numbers that stand two to a byte are asked where they stand.
-fn has_unavailable(packet: &[u8], kind: Kind, availability: u16) -> bool
-    requires { length packet.now ≡ header_length }
+fn has_unavailable(packet: &[u8; HEADER_LENGTH], kind: Kind, availability: u16) -> bool
     ensures { result ≡ some_unavailable availability (reading kind packet.now).relative_ts_number }
 {
     match kind {
@@ -137,8 +134,8 @@ const IDENTIFIERS_BYTES: usize = header_layout::STREAM_BYTES as usize * STREAMS;
 
 // Whether two available streams have equal identifier pairs. A stream that the kind does not have is not available, so what stands behind
 // the identifiers is not compared.
-fn has_pair_twice(packet: &[u8], kind: Kind, availability: u16) -> bool
-    requires { (length packet.now ≡ header_length) × (availability ≡ (reading kind packet.now).availability) }
+fn has_pair_twice(packet: &[u8; HEADER_LENGTH], kind: Kind, availability: u16) -> bool
+    requires { availability ≡ (reading kind packet.now).availability }
     ensures { result ≡ pair_twice availability (reading kind packet.now).ts_id (reading kind packet.now).original_network_id }
 {
     let at = header_layout::places_of(kind);
@@ -174,8 +171,7 @@ fn no_bonding() -> Bonding
     }
 }
 
-fn bonding_of(packet: &[u8], kind: Kind) -> Bonding
-    requires { length packet.now ≡ header_length }
+fn bonding_of(packet: &[u8; HEADER_LENGTH], kind: Kind) -> Bonding
     ensures group_id_value { result.group_id ≡ (reading kind packet.now).group_id }
     ensures number_of_carriers_value { result.number_of_carriers ≡ (reading kind packet.now).number_of_carriers }
     ensures carrier_sequence_value { result.carrier_sequence ≡ (reading kind packet.now).carrier_sequence }
@@ -211,8 +207,7 @@ fn bonding_refusal(bonding: Bonding, kind: Kind) -> Result<(), Refusal>
 }
 
 // 8 to 11, and what the packet says if none of them applies. Each part is read when it is first needed.
-pub(crate) fn said_by(packet: &[u8], kind: Kind) -> Result<Said, Refusal>
-    requires { length packet.now ≡ header_length }
+pub(crate) fn said_by(packet: &[u8; HEADER_LENGTH], kind: Kind) -> Result<Said, Refusal>
     ensures value { answer result ≡ first_of (rule_checks kind (reading kind packet.now)) }
     ensures said { IfOk result (λ said. on_paper (Ok said) ≡ parts_of (bare 0) (reading kind packet.now)) }
 {

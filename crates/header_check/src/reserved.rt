@@ -1,16 +1,16 @@
 // The reserved bits of a header: the three bits before the sync, the bit behind the availability, the bit before the emergency bit, and in an
 // extended header the bytes before the CRC.
-ghost use Rattle.std.specs.Prelude.{◌≡◌, length, drop};
+ghost use Rattle.std.specs.Prelude.{◌≡◌, drop};
 ghost use Rattle.refusals.specs.Refusals.{answer};
 ghost use Rattle.setting.specs.Refusal.{first_of};
-ghost use Rattle.header_layout.specs.Header.{header_length, reserved_checks};
+ghost use Rattle.header_layout.specs.Header.{reserved_checks};
 
+use header_layout::HEADER_LENGTH;
 use refusals::Refusal;
 use setting::Kind;
 
 // 20 of the reserved bytes.
-fn bytes_refusal(packet: &[u8], kind: Kind) -> Result<(), Refusal>
-    requires { length packet.now ≡ header_length }
+fn bytes_refusal(packet: &[u8; HEADER_LENGTH], kind: Kind) -> Result<(), Refusal>
     ensures { answer result ≡ first_of (drop 3 (reserved_checks kind packet.now)) }
 {
     match kind {
@@ -25,8 +25,7 @@ fn bytes_refusal(packet: &[u8], kind: Kind) -> Result<(), Refusal>
 }
 
 // 20: a reserved bit is 0.
-pub(crate) fn refusal(packet: &[u8], kind: Kind) -> Result<(), Refusal>
-    requires { length packet.now ≡ header_length }
+pub(crate) fn refusal(packet: &[u8; HEADER_LENGTH], kind: Kind) -> Result<(), Refusal>
     ensures { answer result ≡ first_of (reserved_checks kind packet.now) }
 {
     if packet[header_layout::TSMF_SYNC] / 32 != 7 {

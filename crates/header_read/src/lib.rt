@@ -6,6 +6,7 @@ ghost use Rattle.header_check.specs.OnPaper.{refusal_in};
 ghost use Rattle.header_read.specs.Reader.{reading_in, read_of, into_refused, into_memory};
 
 use header_check::Refused;
+use header_layout::HEADER_LENGTH;
 use refusals::Refusal;
 use setting::{Kind, Setting};
 use setting_bytes::SETTING_BYTES;
@@ -21,6 +22,7 @@ pub fn read_into(packet: &[u8], pid: u16, kind: Kind, setting: &mut [u8]) -> Res
     if setting.len() != SETTING_BYTES {
         return Err(Refused::from(Refusal::Length));
     }
+    let packet: &[u8; HEADER_LENGTH] = packet.as_array().ok_or(Refusal::Length)?;
     let said = header_check::check(packet, pid, kind)?;
     reader::read_setting(setting, packet, kind, said);
     Ok(())

@@ -8,12 +8,13 @@ ghost use Rattle.bits.specs.Fields.{run, cut};
 ghost use Rattle.setting_bytes.specs.Words.{word_bytes};
 ghost use Rattle.setting_bytes.specs.Settings.{announced_length, announced_bytes, setting_length, setting_bytes};
 ghost use Rattle.setting_pairs.specs.Identifiers.{ids_apart};
-ghost use Rattle.header_layout.specs.Header.{header_length, reading};
+ghost use Rattle.header_layout.specs.Header.{reading};
 ghost use Rattle.header_check.specs.OnPaper.{on_paper};
 ghost use Rattle.header_check.specs.Checking.{bare, parts_of};
 
 use counters::STREAMS;
 use header_check::Said;
+use header_layout::HEADER_LENGTH;
 use setting::{Kind, PRIVATE_BYTES};
 use setting_bytes::{
     ANNOUNCED, AUXILIARY, AVAILABILITY, AVAILABILITY_LOW, BONDING, CARRIERS, COUNTER, EMERGENCY,
@@ -64,8 +65,8 @@ fn read_statuses(part: &mut [u8], control: &[u8], streams: usize)
 }
 
 // What the header announces. The check has already read the availability.
-fn read_announced(part: &mut [u8], packet: &[u8], kind: Kind, availability: u16)
-    requires part_len { (length part.old ≡ announced_length) × (length packet.now ≡ header_length) }
+fn read_announced(part: &mut [u8], packet: &[u8; HEADER_LENGTH], kind: Kind, availability: u16)
+    requires part_len { length part.old ≡ announced_length }
     requires availability_value { availability ≡ (reading kind packet.now).availability }
     ensures { part.new ≡ announced_bytes (announced (reading kind packet.now)) }
 {
@@ -78,8 +79,9 @@ fn read_announced(part: &mut [u8], packet: &[u8], kind: Kind, availability: u16)
     let types = packet[6];
     part[SLOT_ALLOCATION_TYPE] = types / 16 % 2;
     part[FRAME_TYPE] = types % 16;
-    part[AVAILABILITY] = (availability / 256) as u8;
-    part[AVAILABILITY_LOW] = (availability % 256) as u8;
+    let [high, low] = availability.to_be_bytes();
+    part[AVAILABILITY] = high;
+    part[AVAILABILITY_LOW] = low;
     read_ids(
         &mut part[TS_ID..ORIGINAL_NETWORK_ID],
         &packet[identifiers..control],
@@ -99,8 +101,8 @@ fn read_announced(part: &mut [u8], packet: &[u8], kind: Kind, availability: u16)
 }
 
 // The private data of the kind, with zeros behind them.
-fn read_private(part: &mut [u8], packet: &[u8], kind: Kind)
-    requires { (length part.old ≡ private_bytes) × (length packet.now ≡ header_length) }
+fn read_private(part: &mut [u8], packet: &[u8; HEADER_LENGTH], kind: Kind)
+    requires { length part.old ≡ private_bytes }
     ensures { part.new ≡ (reading kind packet.now).private_data }
 {
     let size = setting::size_of(kind);
@@ -112,8 +114,8 @@ fn read_private(part: &mut [u8], packet: &[u8], kind: Kind)
 }
 
 // The auxiliary information of an extended header; zeros for any other.
-fn read_auxiliary(part: &mut [u8], packet: &[u8], kind: Kind)
-    requires { (length part.old ≡ auxiliary_bytes) × (length packet.now ≡ header_length) }
+fn read_auxiliary(part: &mut [u8], packet: &[u8; HEADER_LENGTH], kind: Kind)
+    requires { length part.old ≡ auxiliary_bytes }
     ensures { part.new ≡ (reading kind packet.now).auxiliary }
 {
     match kind {
@@ -126,9 +128,9 @@ fn read_auxiliary(part: &mut [u8], packet: &[u8], kind: Kind)
 }
 
 // What the packet says, field by field, as the bytes of a setting. `said` has the parts that the check has already read.
-pub(crate) fn read_setting(setting: &mut [u8], packet: &[u8], kind: Kind, said: Said)
+pub(crate) fn read_setting(setting: &mut [u8], packet: &[u8; HEADER_LENGTH], kind: Kind, said: Said)
     requires setting_len { length setting.old ≡ setting_length }
-    requires packet_len { (length packet.now ≡ header_length) × (on_paper (Ok said) ≡ parts_of (bare 0) (reading kind packet.now)) }
+    requires said_of_packet { on_paper (Ok said) ≡ parts_of (bare 0) (reading kind packet.now) }
     ensures { setting.new ≡ setting_bytes (reading kind packet.now) }
 {
     read_announced(

@@ -23,9 +23,9 @@ pub fn write_header(buffer: &mut [u8], pid: u16, kind: Kind, setting: &[u8])
     if buffer.len() != header_layout::HEADER_LENGTH {
         return;
     }
-    if setting.len() != SETTING_BYTES {
+    let Some(setting) = setting.as_array::<SETTING_BYTES>() else {
         return;
-    }
+    };
     writer::write_body(&mut buffer[0..header_layout::CRC], pid, kind, setting);
     let word = crc::register(&buffer[header_layout::TSMF_SYNC..header_layout::CRC]);
     writer::write_word(

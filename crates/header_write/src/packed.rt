@@ -22,10 +22,12 @@ pub(crate) fn write_run(part: &mut [u8], values: &[u8], width: u32) -> u32
     let mut bits: u32 = 0;
     let mut at = 0;
     for &value in values {
+        // Parts of a register, no bytes of a number: the bits that went out are dropped, and the value's bits come in.
         held = ((held % 256) << width) + u32::from(value) % limit;
         bits += width;
         if 8 <= bits {
             bits -= 8;
+            // Eight bits of the register, from wherever its next byte starts.
             part[at] = ((held >> bits) % 256) as u8;
             at += 1;
         }

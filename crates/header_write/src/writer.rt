@@ -3,7 +3,7 @@ ghost use Rattle.std.specs.Prelude.{◌≡◌, ℕ, ◌+◌, ◌-◌, ◌*◌, �
 ghost use Rattle.bits.specs.Fields.{bits_of, run};
 ghost use Rattle.counters.specs.Counters.{last_slot, last_stream};
 ghost use Rattle.setting_bytes.specs.Words.{words_of};
-ghost use Rattle.setting_bytes.specs.Settings.{setting_length, setting_of};
+ghost use Rattle.setting_bytes.specs.Settings.{setting_of};
 ghost use Rattle.setting.specs.declared.Size.{Size};
 ghost use Rattle.setting.specs.Size.{size_of, slots_of, streams_of, resized};
 ghost use Rattle.header_layout.specs.Layout.{extended_bytes, start_table, stream_table, control_table, private_table, streams_start, private_start};
@@ -15,7 +15,7 @@ use counters::SHORT_SLOTS;
 use setting::{AUXILIARY_BYTES, Kind, PRIVATE_BYTES};
 use setting_bytes::{
     ANNOUNCED, AUXILIARY, BONDING, CARRIERS, COUNTER, FRAMES, NUMBERS, POSITION, PRIVATE, SEQUENCE,
-    VERSION,
+    SETTING_BYTES, VERSION,
 };
 
 // Where what is announced stands in a setting.
@@ -49,8 +49,8 @@ const SHORT_NUMBERS_BYTES: usize = header_layout::SHORT_PRIVATE - header_layout:
 const LONG_PRIVATE_BYTES: usize = header_layout::CRC - header_layout::PRIVATE;
 
 // Bytes 0 to 6, which are the same for every size: packet header, sync, version and types.
-fn write_start(part: &mut [u8], pid: u16, setting: &[u8])
-    requires { (length part.old ≡ streams_start) × (length setting.now ≡ setting_length) }
+fn write_start(part: &mut [u8], pid: u16, setting: &[u8; SETTING_BYTES])
+    requires { length part.old ≡ streams_start }
     ensures { (z : Size) → run 8 part.new ≡ line_bits z pid (setting_of setting.now) start_table }
 {
     let [pid_high, pid_low] = pid.to_be_bytes();
@@ -67,11 +67,12 @@ fn write_start(part: &mut [u8], pid: u16, setting: &[u8])
 
 // The availability of each stream of the kind, and a reserved bit: two bytes for fifteen streams, and one for seven, which stand in the setting's
 // highest bits.
-fn write_streams(part: &mut [u8], kind: Kind, setting: &[u8])
-    requires { (length part.old ≡ (streams_of kind + 1) / 8) × (length setting.now ≡ setting_length) }
+fn write_streams(part: &mut [u8], kind: Kind, setting: &[u8; SETTING_BYTES])
+    requires { length part.old ≡ (streams_of kind + 1) / 8 }
     ensures { (pid : ℕ) → run 8 part.new ≡ line_bits (size_of kind) pid (setting_of setting.now) (stream_table (size_of kind)) }
 {
     let availability = bits::word(setting[AVAILABILITY], setting[AVAILABILITY_LOW]);
+    // Seven or eight bits and a reserved bit make a byte here: none is a byte of the availability.
     match kind {
         Kind::Plain | Kind::Extended => {
             part[0] = (availability / 128 % 256) as u8;
@@ -97,8 +98,8 @@ fn write_identifiers(part: &mut [u8], ts: &[u8], os: &[u8], streams: usize)
 
 // The control information: four statuses to a byte, and in the last byte three, a reserved bit and the emergency bit. As many statuses as there is
 // room for.
-fn write_control(part: &mut [u8], setting: &[u8])
-    requires { (1 ≤ length part.old) × (4 * length part.old ≤ last_stream + 1) × (length setting.now ≡ setting_length) }
+fn write_control(part: &mut [u8], setting: &[u8; SETTING_BYTES])
+    requires { (1 ≤ length part.old) × (4 * length part.old ≤ last_stream + 1) }
     ensures { (z : Size) (pid : ℕ) → z.streams + 1 ≡ 4 * length part.old → run 8 part.new ≡ line_bits z pid (setting_of setting.now) (control_table z) }
 {
     let r = &setting[STATUSES..EMERGENCY];
@@ -132,8 +133,8 @@ fn write_numbers(part: &mut [u8], kind: Kind, numbers: &[u8])
 }
 
 // The bonding fields of an extended header.
-fn write_bonding(part: &mut [u8], setting: &[u8])
-    requires { (length part.old ≡ 4) × (length setting.now ≡ setting_length) }
+fn write_bonding(part: &mut [u8], setting: &[u8; SETTING_BYTES])
+    requires { length part.old ≡ 4 }
     ensures { part.new ≡ bonding_bytes (setting_of setting.now) }
 {
     part[0] = setting[BONDING];
@@ -143,8 +144,8 @@ fn write_bonding(part: &mut [u8], setting: &[u8])
 }
 
 // Auxiliary information, the bonding fields and reserved bytes.
-fn write_extended(part: &mut [u8], setting: &[u8])
-    requires { (length part.old ≡ extended_bytes) × (length setting.now ≡ setting_length) }
+fn write_extended(part: &mut [u8], setting: &[u8; SETTING_BYTES])
+    requires { length part.old ≡ extended_bytes }
     ensures { (z : Size) (pid : ℕ) → run 8 part.new ≡ line_bits z pid (setting_of setting.now) (private_table Kind.Extended) }
 {
     slices::copy(&mut part[0..AUXILIARY_BYTES], &setting[AUXILIARY..BONDING]);
@@ -159,8 +160,8 @@ fn write_extended(part: &mut [u8], setting: &[u8])
 }
 
 // The private data of a plain or a short header, as many as it has room for; else what an extended header has in their place.
-fn write_private(part: &mut [u8], kind: Kind, setting: &[u8])
-    requires { (length part.old ≡ 184 - private_start (size_of kind)) × (length setting.now ≡ setting_length) }
+fn write_private(part: &mut [u8], kind: Kind, setting: &[u8; SETTING_BYTES])
+    requires { length part.old ≡ 184 - private_start (size_of kind) }
     ensures { (pid : ℕ) → run 8 part.new ≡ line_bits (size_of kind) pid (setting_of setting.now) (private_table kind) }
 {
     match kind {
@@ -174,8 +175,8 @@ fn write_private(part: &mut [u8], kind: Kind, setting: &[u8])
 }
 
 // Everything before the CRC.
-pub(crate) fn write_body(part: &mut [u8], pid: u16, kind: Kind, setting: &[u8])
-    requires { (length part.old ≡ 184) × (length setting.now ≡ setting_length) }
+pub(crate) fn write_body(part: &mut [u8], pid: u16, kind: Kind, setting: &[u8; SETTING_BYTES])
+    requires { length part.old ≡ 184 }
     ensures { run 8 part.new ≡ body kind pid (setting_of setting.now) }
 {
     let size = setting::size_of(kind);

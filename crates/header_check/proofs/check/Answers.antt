@@ -6,7 +6,9 @@ use mathlib.Core.List.{List, ◌++◌}
 use native.Mathlib.Omega.{arith}
 use borrow.Author.Rules.{rules}
 use lib.ListN.{length}
+use Rattle.std.specs.Array.{IsWholeChunk}
 use Rattle.std.specs.Prelude.{Err}
+use Rattle.refusals.specs.declared.Refusal.{Refusal as Why}
 use Rattle.refusals.specs.Refusals.{number}
 use Rattle.refusals.proofs.Refusals.{is_some_number}
 use Rattle.setting.specs.declared.Kind.{Kind}
@@ -20,7 +22,7 @@ use Rattle.header_layout.proofs.Reserved.{reserved_none}
 use Rattle.header_check.specs.declared.Refused.{Refused}
 use Rattle.header_check.specs.OnPaper.{Refusal, on_paper}
 use Rattle.header_check.specs.Checking.{read_checks, read_refusal, refusal_by, checked_of}
-use Rattle.header_check.proofs.Asked.{refused, refused_from, accepted}
+use Rattle.header_check.proofs.Asked.{bare_is, refused, refused_from, accepted}
 use Rattle.header_check.proofs.Sevens.{not_of_reserved, not_of_rules}
 use Rattle.header_check.proofs.check.Goals as goal
 
@@ -30,7 +32,8 @@ unfolding refusal_by
 numbers p e = ap (λ (x : Refusal). x.number) e
 
 -- the refusal of the whole, by what each of its parts said
-module _ (kind : Kind) (pid : ℕ) (p : List ℕ) (long : length p ≡ header_length) (allowed : true ≡ pid_allowed pid) where
+module _ (kind : Kind) (pid : ℕ) (p : List ℕ) {lent : List ℕ}
+    (whole : IsWholeChunk lent p header_length) (allowed : true ≡ pid_allowed pid) where
   abbrev packets : List Check
   packets = packet_checks pid p
 
@@ -42,7 +45,7 @@ module _ (kind : Kind) (pid : ℕ) (p : List ℕ) (long : length p ≡ header_le
 
   past_call : read_refusal kind pid p ≡ first_of (packets ++ (reserved ++ rules_of))
   unfolding read_refusal read_checks
-  past_call = right_call pid _ _ long (sym allowed)
+  past_call = right_call pid _ _ (ap length whole.same ∙ whole.long) (sym allowed)
 
   by_packet : (first_of packets ≡ 0 → ⊥) → read_refusal kind pid p ≡ first_of packets
   by_packet some = past_call ∙ at_once packets _ some
@@ -57,59 +60,81 @@ module _ (kind : Kind) (pid : ℕ) (p : List ℕ) (long : length p ≡ header_le
     by_rules : first_of reserved ≡ 0 → read_refusal kind pid p ≡ first_of rules_of
     by_rules none = past_packet ∙ onward rules_of (reserved_none kind p none)
 
-pub returns-then-packet-ne-HEADER_LENGTH : goal.returns-then-packet-ne-HEADER_LENGTH
+pub returns-in_err-packet : goal.returns-in_err-packet
 unfolding read_refusal checked_of
-returns-then-packet-ne-HEADER_LENGTH c =
+returns-in_err-packet c =
     let a = c.args in
-    refused a.kind a.packet.now (wrong_length a.pid _ (read_checks a.kind a.pid a.packet.now) c.if-packet-ne-HEADER_LENGTH.true) (omega arith) _
-    (refused_from _ a.packet.now c.from.ensures (omega arith) refl)
+    let p = a.packet.now in
+    let why : Refused = record { refusal = Why.Length; remainder = 0 } in
+    let passed_up : c.from_residual.result ≡ Err why = search rules in
+    let other = rw c.in_err-packet.ensures.ok_part at c.as_array.ensures.cases in
+    ap on_paper passed_up
+    ∙ refused a.kind p (wrong_length a.pid _ (read_checks a.kind a.pid p) other) (omega arith) why (bare_is 1 p (omega arith))
 
 pub returns-then-not-pid_allowed : goal.returns-then-not-pid_allowed
 unfolding read_refusal checked_of
 returns-then-not-pid_allowed c =
     let a = c.args in
-    refused a.kind a.packet.now (wrong_pid a.pid _ (read_checks a.kind a.pid a.packet.now) c.if-packet-ne-HEADER_LENGTH.false (sym c.if-not-pid_allowed.ensures)) (omega arith) _
-    (refused_from _ a.packet.now c.from-then-not-pid_allowed.ensures (omega arith) refl)
+    let p = a.packet.now in
+    let whole = rw c.in_ok-packet.ensures.ok_part at c.as_array.ensures.cases in
+    let barred = wrong_pid a.pid _ (read_checks a.kind a.pid p) whole.long (sym c.if-not-pid_allowed.ensures) in
+    refused a.kind p barred (omega arith) _ (refused_from _ p c.from.ensures (omega arith) refl)
 
 pub returns-in_err-packet_refusal : goal.returns-in_err-packet_refusal
 unfolding checked_of
 returns-in_err-packet_refusal c =
     let a = c.args in
+    let p = c.in_ok-packet.packet.now in
+    let whole = rw c.in_ok-packet.ensures.ok_part at c.as_array.ensures.cases in
     let why = c.in_err-packet_refusal.field-0.0 in
-    let passed_up : c.from_residual.result ≡ Err why = search rules in
-    let told : number why.refusal ≡ first_of (packets a.kind a.pid a.packet.now c.if-packet-ne-HEADER_LENGTH.false c.if-not-pid_allowed.ensures) = numbers a.packet.now c.in_err-packet_refusal.ensures in
-    let some : first_of (packet_checks a.pid a.packet.now) ≡ 0 → ⊥ = λ none. is_some_number why.refusal (told ∙ none) in
+    let passed_up : c.from_residual-in_err-packet_refusal.result ≡ Err why = search rules in
+    let told : number why.refusal ≡ first_of (packet_checks a.pid p) = numbers p c.in_err-packet_refusal.ensures in
+    let some : first_of (packet_checks a.pid p) ≡ 0 → ⊥ = λ none. is_some_number why.refusal (told ∙ none) in
     ap on_paper passed_up
-    ∙ refused a.kind a.packet.now (by_packet a.kind a.pid a.packet.now c.if-packet-ne-HEADER_LENGTH.false c.if-not-pid_allowed.ensures some) some why c.in_err-packet_refusal.ensures
+    ∙ refused a.kind p (by_packet a.kind a.pid p whole c.if-not-pid_allowed.ensures some) some why c.in_err-packet_refusal.ensures
+    ∙ ap (checked_of a.kind a.pid) whole.same
 
 pub returns-in_err-refusal : goal.returns-in_err-refusal
 unfolding checked_of
 returns-in_err-refusal c =
     let a = c.args in
+    let p = c.in_ok-packet.packet.now in
+    let whole = rw c.in_ok-packet.ensures.ok_part at c.as_array.ensures.cases in
+    let good = sym (numbers p c.in_ok-packet_refusal.ensures) in
     let refusal = c.in_err-refusal.field-0.0 in
     let why : Refused = record { refusal = refusal; remainder = 0 } in
     let passed_up : c.from_residual-in_err-refusal.result ≡ Err why = search rules in
     let told = c.in_err-refusal.ensures in
-    let some : first_of (reserved_checks a.kind a.packet.now) ≡ 0 → ⊥ = λ none. is_some_number refusal (told ∙ none) in
+    let some : first_of (reserved_checks a.kind p) ≡ 0 → ⊥ = λ none. is_some_number refusal (told ∙ none) in
     ap on_paper passed_up
-    ∙ refused a.kind a.packet.now (by_reserved a.kind a.pid a.packet.now c.if-packet-ne-HEADER_LENGTH.false c.if-not-pid_allowed.ensures (sym (numbers a.packet.now c.in_ok-packet_refusal.ensures)) some) some why
-    (refused_from refusal a.packet.now refl (λ seven. not_of_reserved a.kind a.packet.now (sym told ∙ seven)) told)
+    ∙ refused a.kind p (by_reserved a.kind a.pid p whole c.if-not-pid_allowed.ensures good some) some why
+    (refused_from refusal p refl (λ seven. not_of_reserved a.kind p (sym told ∙ seven)) told)
+    ∙ ap (checked_of a.kind a.pid) whole.same
 
 pub returns-in_err-said_by : goal.returns-in_err-said_by
 unfolding checked_of
 returns-in_err-said_by c =
     let a = c.args in
+    let p = c.in_ok-packet.packet.now in
+    let whole = rw c.in_ok-packet.ensures.ok_part at c.as_array.ensures.cases in
+    let good = sym (numbers p c.in_ok-packet_refusal.ensures) in
+    let its = by_rules a.kind a.pid p whole c.if-not-pid_allowed.ensures good (sym c.in_ok-refusal.ensures) in
     let refusal = c.in_err-said_by.field-0.0 in
     let why : Refused = record { refusal = refusal; remainder = 0 } in
     let passed_up : c.from_residual-in_err-said_by.result ≡ Err why = search rules in
-    let told : number refusal ≡ first_of (rule_checks a.kind (reading a.kind a.packet.now)) = c.in_err-said_by.ensures.value in
+    let told : number refusal ≡ first_of (rule_checks a.kind (reading a.kind p)) = c.in_err-said_by.ensures.value in
     ap on_paper passed_up
-    ∙ refused a.kind a.packet.now (by_rules a.kind a.pid a.packet.now c.if-packet-ne-HEADER_LENGTH.false c.if-not-pid_allowed.ensures (sym (numbers a.packet.now c.in_ok-packet_refusal.ensures)) (sym c.in_ok-refusal.ensures)) (λ none. is_some_number refusal (told ∙ none)) why
-    (refused_from refusal a.packet.now refl (λ seven. not_of_rules a.kind (reading a.kind a.packet.now) (sym told ∙ seven)) told)
+    ∙ refused a.kind p its (λ none. is_some_number refusal (told ∙ none)) why
+    (refused_from refusal p refl (λ seven. not_of_rules a.kind (reading a.kind p) (sym told ∙ seven)) told)
+    ∙ ap (checked_of a.kind a.pid) whole.same
 
 pub returns : goal.returns
 unfolding checked_of
 returns c =
     let a = c.args in
-    accepted a.kind a.packet.now (by_rules a.kind a.pid a.packet.now c.if-packet-ne-HEADER_LENGTH.false c.if-not-pid_allowed.ensures (sym (numbers a.packet.now c.in_ok-packet_refusal.ensures)) (sym c.in_ok-refusal.ensures)) (sym c.in_ok-said_by.ensures.value)
-    c.in_ok-said_by.field-0 c.in_ok-said_by.ensures.said
+    let p = c.in_ok-packet.packet.now in
+    let whole = rw c.in_ok-packet.ensures.ok_part at c.as_array.ensures.cases in
+    let good = sym (numbers p c.in_ok-packet_refusal.ensures) in
+    let its = by_rules a.kind a.pid p whole c.if-not-pid_allowed.ensures good (sym c.in_ok-refusal.ensures) in
+    accepted a.kind p its (sym c.in_ok-said_by.ensures.value) c.in_ok-said_by.field-0 c.in_ok-said_by.ensures.said
+    ∙ ap (checked_of a.kind a.pid) whole.same

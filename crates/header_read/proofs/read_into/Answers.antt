@@ -1,17 +1,22 @@
--- `read_into` meets its contract, by the length and the check's refusal. Assumes nothing.
+-- `read_into` meets its contract, by the lengths and the check's refusal. Assumes nothing.
 use Prim.Native.Nat.{ℕ}
 use mathlib.Core.Path.{◌≡◌, refl, sym, ap, ◌∙◌}
 use mathlib.Core.List.{List}
+use native.Mathlib.Omega.{arith}
 use borrow.Author.Rules.{rules}
+use lib.ListN.{length}
 use Rattle.std.specs.Prelude.{Ok, Err}
+use Rattle.refusals.specs.declared.Refusal.{Refusal}
 use Rattle.refusals.proofs.Refusals.{is_some_number}
 use Rattle.setting.specs.declared.Kind.{Kind}
-use Rattle.header_check.specs.declared.Said.{Said}
+use Rattle.setting_bytes.specs.Settings.{setting_length, setting_bytes}
+use Rattle.header_layout.specs.Header.{header_length, reading}
+use Rattle.header_layout.proofs.Calls.{wrong_length}
 use Rattle.header_check.specs.declared.Refused.{Refused}
 use Rattle.header_check.specs.OnPaper.{refusal_in, on_paper}
-use Rattle.header_check.specs.Checking.{read_refusal, checked_of}
-use Rattle.header_check.proofs.Asked.{refusal-shown, refusal_is, parts_are}
-use Rattle.header_check.proofs.Accepted.{shown}
+use Rattle.header_check.specs.Checking.{read_checks, read_refusal, refusal_by, checked_of}
+use Rattle.header_check.proofs.Asked.{bare_is, refusal-shown, refusal_is, parts_are}
+use Rattle.header_read.specs.Reader.{into_refused, into_memory}
 use Rattle.header_read.proofs.Calls.{other_length, refusal_into, when_refused, written_by}
 use Rattle.header_read.proofs.read_into.Goals as goal
 
@@ -23,37 +28,60 @@ returns-then-setting-ne-SETTING_BYTES c =
       setting_after = other.1;
     }
 
+-- bytes of a setting's length, by what the packet is refused for
+module _ (kind : Kind) (pid : ℕ) (p lent : List ℕ) (long : length lent ≡ setting_length) where
+  rejected : (why : Refused) → refusal_in {T = Unit} (Err why) ≡ refusal_by (read_refusal kind pid p) p
+      → (refusal_in {T = Unit} (Err why) ≡ into_refused kind pid p lent) × (lent ≡ into_memory kind pid p lent)
+  unfolding refusal_by
+  rejected why told =
+      let number_is = ap (λ r. r.number) told in (
+        told ∙ sym (refusal_into kind pid p lent long),
+        sym (when_refused kind pid p lent long (λ none. is_some_number why.refusal (number_is ∙ none))),
+      )
+
+-- a packet of any other length
+of_other_length : (kind : Kind) (pid : ℕ) (p : List ℕ) → (length p ≡ header_length → ⊥)
+    → refusal_in {T = Unit} (Err (record { refusal = Refusal.Length; remainder = 0 })) ≡ refusal_by (read_refusal kind pid p) p
+unfolding read_refusal
+of_other_length kind pid p other =
+    bare_is 1 p (omega arith) ∙ ap (λ n. refusal_by n p) (sym (wrong_length pid _ (read_checks kind pid p) other))
+
+pub returns-in_err-packet : goal.returns-in_err-packet
+returns-in_err-packet c =
+    let s = c.args in
+    let p = s.packet.now in
+    let why : Refused = record { refusal = Refusal.Length; remainder = 0 } in
+    let passed_up : c.from_residual.result ≡ Err why = search rules in
+    let other = rw c.in_err-packet.ensures.ok_part at c.as_array.ensures.cases in
+    let no = rejected s.kind s.pid p s.setting.now c.if-setting-ne-SETTING_BYTES.false why (of_other_length s.kind s.pid p other) in
+    record { value = ap refusal_in passed_up ∙ no.0; setting_after = no.1 }
+
 pub returns-in_err-said : goal.returns-in_err-said
 returns-in_err-said c =
     let s = c.args in
-    let long = c.if-setting-ne-SETTING_BYTES.false in
+    let p = s.packet.now in
     let why = c.in_err-said.field-0.0 in
-    let passed_up : c.from_residual.result ≡ Err why = search rules in
-    let told = c.in_err-said.ensures in record {
-      value = ap refusal_in passed_up ∙ refusal-shown s.kind s.pid s.packet.now (on_paper (Err why)) told ∙ sym (refusal_into s.kind s.pid s.packet.now s.setting.now long);
-      setting_after = sym (when_refused s.kind s.pid s.packet.now s.setting.now long (λ none. is_some_number why.refusal (sym (refusal_is s.kind s.pid s.packet.now (on_paper (Err why)) told) ∙ none)));
-    }
+    let passed_up : c.from_residual-in_err-said.result ≡ Err why = search rules in
+    let whole = rw c.in_ok-packet.ensures.ok_part at c.as_array.ensures.cases in
+    let shows = refusal-shown s.kind s.pid p (on_paper (Err why)) (c.in_err-said.ensures ∙ ap (checked_of s.kind s.pid) whole.same) in
+    let no = rejected s.kind s.pid p s.setting.now c.if-setting-ne-SETTING_BYTES.false why shows in
+    record { value = ap refusal_in passed_up ∙ no.0; setting_after = no.1 }
 
--- what the check says of a header that it lets through
-module _ (kind : Kind) (pid : ℕ) (p : List ℕ) (said : Said) (told : on_paper (Ok said) ≡ checked_of kind pid p) where
-  none : read_refusal kind pid p ≡ 0
-  none = refusal_is kind pid p (on_paper (Ok said)) told
-
-pub read_setting-requires : goal.read_setting-requires
-read_setting-requires c =
-    let s = c.args in
-    let said = c.in_ok-said.said in
-    let told = c.in_ok-said.ensures in record {
-      setting_len = c.if-setting-ne-SETTING_BYTES.false;
-      packet_len = ((shown s.kind s.pid s.packet.now (none s.kind s.pid s.packet.now said told)).whole, parts_are s.kind s.pid s.packet.now (on_paper (Ok said)) told refl);
-    }
+pub read_setting-requires-clause-said_of_packet : goal.read_setting-requires-clause-said_of_packet
+read_setting-requires-clause-said_of_packet c =
+    parts_are c.args.kind c.args.pid c.in_ok-packet.packet.now (on_paper (Ok c.in_ok-said.said)) c.in_ok-said.ensures refl
 
 pub returns : goal.returns
 returns c =
     let s = c.args in
+    let p = s.packet.now in
     let long = c.if-setting-ne-SETTING_BYTES.false in
-    let told = c.in_ok-said.ensures in
-    let shows = refusal-shown s.kind s.pid s.packet.now (on_paper (Ok c.in_ok-said.said)) told in record {
-      value = shows ∙ sym (refusal_into s.kind s.pid s.packet.now s.setting.now long);
-      setting_after = c.read_setting.ensures ∙ sym (written_by s.kind s.pid s.packet.now s.setting.now long (none s.kind s.pid s.packet.now c.in_ok-said.said told));
+    let whole = rw c.in_ok-packet.ensures.ok_part at c.as_array.ensures.cases in
+    let told = c.in_ok-said.ensures ∙ ap (checked_of s.kind s.pid) whole.same in
+    let shows = refusal-shown s.kind s.pid p (on_paper (Ok c.in_ok-said.said)) told in
+    let none = refusal_is s.kind s.pid p (on_paper (Ok c.in_ok-said.said)) told in record {
+      value = shows ∙ sym (refusal_into s.kind s.pid p s.setting.now long);
+      setting_after =
+          c.read_setting.ensures ∙ ap (λ b. setting_bytes (reading s.kind b)) whole.same
+          ∙ sym (written_by s.kind s.pid p s.setting.now long none);
     }

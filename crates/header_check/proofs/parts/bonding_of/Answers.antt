@@ -1,5 +1,4 @@
 -- `bonding_of` meets its contract, by the kind. Assumes nothing.
-use native.Mathlib.Omega.{arith}
 use Rattle.std.proofs.Common.{inl, inr}
 use Rattle.bits.proofs.Laws.{fit_of}
 use Rattle.header_layout.proofs.Said.{Bonding, no_bonding, no_bonding_short, bonding_are}
@@ -14,5 +13,5 @@ returns-in-Plain c =
 pub returns-in-Extended : goal.returns-in-Extended
 returns-in-Extended c =
     let p = c.args.packet.now in
-    let b = bonding_are p (fit_of 8 p (λ i. let fits = c.type_inv.packet i in omega (arith, fits))) c.requires c.in-Extended.is in
+    let b = bonding_are p (fit_of 8 p c.fits-packet) c.told-packet c.in-Extended.is in
     record { group_id_value = b.0; number_of_carriers_value = b.1.0; carrier_sequence_value = b.1.1.0; number_of_frames_value = b.1.1.1.0; frame_position_value = b.1.1.1.1 }

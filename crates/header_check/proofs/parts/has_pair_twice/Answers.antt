@@ -16,11 +16,13 @@ unfolding places_of
 returns c =
     let p = c.args.packet.now in
     let kind = c.args.kind in
-    let bytes = fit_of 8 p (λ i. (c.shared_slice_known-1.given i).fits) in
+    let bytes = fit_of 8 p c.fits-packet in
     let at = identifiers_start (size_of kind) in
     let here = c.places_of-at.ensures.value in
     let few = (sized kind).streams in
+    let whole = c.told-packet in
     let sixty : at + 60 - at ≡ 60 = omega arith in
     let later : at + 60 - (at + 2) ≡ 58 = omega arith in
     c.has_pair_twice.ensures
-    ∙ rw (here, sixty, later, length_part p at 60 (let e = c.requires.0 in omega arith), length_part p (at + 2) 58 (let e = c.requires.0 in omega arith), c.requires.1) (pairs_in kind p bytes c.requires.0)
+    ∙ rw (here, sixty, later, length_part p at 60 (omega arith), length_part p (at + 2) 58 (omega arith), c.requires)
+    (pairs_in kind p bytes whole)

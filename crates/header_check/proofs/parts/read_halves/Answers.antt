@@ -14,11 +14,12 @@ loop-k-init c = let args = c.args in halved_none args.values.now args.part.now
 pub loop-k-preserved : goal.loop-k-preserved
 loop-k-preserved c =
     let turn = c.loop-k in
-    halved_next turn.values c.args.part.now turn.k (omega arith) (omega (arith, c.requires)) (search rules) turn.invariant
+    halved_next turn.values c.args.part.now turn.k (omega arith) (omega arith) (search rules) turn.invariant
 
 pub returns : goal.returns
 returns c =
     let turn = c.loop-k in
     let part = c.args.part.now in
     let all : turn.k ≡ length part = omega arith in
-    halved_all turn.values part (omega (arith, c.requires)) (rw all at turn.invariant) ∙ ap (λ (n : ℕ). cut 4 n (run 8 part)) turn.auto.values
+    halved_all turn.values part (omega arith) (rw all at turn.invariant)
+    ∙ ap (λ (n : ℕ). cut 4 n (run 8 part)) (turn.auto.values ∙ c.requires)

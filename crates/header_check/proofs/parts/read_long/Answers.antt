@@ -2,7 +2,7 @@
 use Prim.Native.Nat.{ℕ}
 use lib.ListN.{length, take, drop}
 use lib.Seq.{take_all}
-use mathlib.Core.Path.{◌≡◌, ap, ap₂, ◌∙◌}
+use mathlib.Core.Path.{◌≡◌, ap, ◌∙◌}
 use mathlib.Core.List.{List}
 use native.Mathlib.Omega.{arith}
 use Rattle.bits.specs.Fields.{run, cut}
@@ -15,20 +15,13 @@ use Rattle.header_check.proofs.parts.read_long.Goals as goal
 abbrev part_of : List ℕ → List ℕ
 part_of p = take 26 (drop 73 p)
 
-pub read_halves-requires : goal.read_halves-requires
-read_halves-requires c =
-    let all : length (part_of c.args.packet.now) ≡ 26 = length_part c.args.packet.now 73 26 (omega (arith, c.requires.1)) in
-    let held : c.in-Some.field-0.now ≡ part_of c.args.packet.now = c.in-Some.ensures.cases.same ∙ take_all 26 (part_of c.args.packet.now) (omega arith) in
-    let long : length c.in-Some.field-0.now ≡ 26 = ap length held ∙ all in
-    omega (arith, c.requires.0)
-
 pub returns-in-Some : goal.returns-in-Some
 returns-in-Some c =
     let p = c.args.packet.now in
-    let bytes = fit_of 8 p (λ i. let fits = c.type_inv.packet i in omega (arith, fits)) in
-    let all : length (part_of p) ≡ 26 = length_part p 73 26 (omega (arith, c.requires.1)) in
+    let bytes = fit_of 8 p c.fits-packet in
+    let all : length (part_of p) ≡ 26 = length_part p 73 26 (omega arith) in
     let held : c.in-Some.field-0.now ≡ part_of p = c.in-Some.ensures.cases.same ∙ take_all 26 (part_of p) (omega arith) in
-    let read = c.read_halves.ensures ∙ ap₂ (λ (n : ℕ) (l : List ℕ). cut 4 n (run 8 l)) c.requires.0 held in record {
-      numbers_after = read ∙ plain_numbers p bytes c.requires.1;
-      numbers_after_2 = read ∙ extended_numbers p bytes c.requires.1;
+    let read = c.read_halves.ensures ∙ ap (λ (l : List ℕ). cut 4 52 (run 8 l)) held in record {
+      numbers_after = read ∙ plain_numbers p bytes c.told-packet;
+      numbers_after_2 = read ∙ extended_numbers p bytes c.told-packet;
     }

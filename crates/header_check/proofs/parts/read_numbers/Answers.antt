@@ -2,7 +2,6 @@
 use Prim.Native.Nat.{ℕ}
 use mathlib.Core.Path.{◌≡◌, sym, ap, ◌∙◌}
 use mathlib.Core.List.{List}
-use native.Mathlib.Omega.{arith}
 use lib.ListN.{length, take, drop}
 use Rattle.bits.specs.Fields.{run, cut}
 use Rattle.bits.proofs.Laws.{fit_of}
@@ -15,8 +14,8 @@ use Rattle.header_check.proofs.parts.read_numbers.Goals as goal
 pub returns-in-Short : goal.returns-in-Short
 returns-in-Short c =
     let p = c.args.packet.now in
-    let bytes = fit_of 8 p (λ i. let fits = c.type_inv.packet i in omega (arith, fits)) in
-    let forty : length (take 40 c.args.numbers.now) ≡ 40 = ap (λ (l : List ℕ). length (take 40 l)) c.requires.0 in
+    let bytes = fit_of 8 p c.fits-packet in
+    let forty : length (take 40 c.args.numbers.now) ≡ 40 = ap (λ (l : List ℕ). length (take 40 l)) c.requires in
     ap (put 0 40 c.args.numbers.now) (c.read_run.ensures ∙ ap (λ (n : ℕ). cut 3 n (run 8 (take 15 (drop 38 p)))) forty)
-    ∙ ap (λ (l : List ℕ). put 0 40 l (cut 3 40 (run 8 (take 15 (drop 38 p))))) c.requires.0 ∙ short_numbers p bytes c.requires.1
+    ∙ ap (λ (l : List ℕ). put 0 40 l (cut 3 40 (run 8 (take 15 (drop 38 p))))) c.requires ∙ short_numbers p bytes c.told-packet
     ∙ sym (ap (λ (k : Kind). (reading k p).relative_ts_number) c.in-Short.is)

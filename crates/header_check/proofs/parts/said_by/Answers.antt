@@ -58,18 +58,18 @@ module _ (kind : Kind) (p : List ℕ) (f : Fit 8 p) (h : length p ≡ header_len
 pub returns-then-not-frame_type_allowed-clause-value : goal.returns-then-not-frame_type_allowed-clause-value
 returns-then-not-frame_type_allowed-clause-value c =
     let p = c.args.packet.now in
-    barred c.args.kind p (fit_of 8 p (λ i. (c.type_inv.packet i).fits)) c.requires c.if-not-frame_type_allowed.ensures
+    barred c.args.kind p (fit_of 8 p c.fits-packet) c.told-packet c.if-not-frame_type_allowed.ensures
 
 pub returns-then-has_unavailable-clause-value : goal.returns-then-has_unavailable-clause-value
 returns-then-has_unavailable-clause-value c =
     let p = c.args.packet.now in
-    found c.args.kind p (fit_of 8 p (λ i. (c.type_inv.packet i).fits)) c.requires c.if-not-frame_type_allowed.ensures c.availability_of-availability.ensures
+    found c.args.kind p (fit_of 8 p c.fits-packet) c.told-packet c.if-not-frame_type_allowed.ensures c.availability_of-availability.ensures
     c.if-has_unavailable.ensures
 
 pub returns-then-has_pair_twice-clause-value : goal.returns-then-has_pair_twice-clause-value
 returns-then-has_pair_twice-clause-value c =
     let p = c.args.packet.now in
-    paired c.args.kind p (fit_of 8 p (λ i. (c.type_inv.packet i).fits)) c.requires c.if-not-frame_type_allowed.ensures c.availability_of-availability.ensures
+    paired c.args.kind p (fit_of 8 p c.fits-packet) c.told-packet c.if-not-frame_type_allowed.ensures c.availability_of-availability.ensures
     c.if-has_unavailable.ensures c.if-has_pair_twice.ensures
 
 pub returns-in_err-bonding_refusal-clause-value : goal.returns-in_err-bonding_refusal-clause-value
@@ -78,7 +78,7 @@ returns-in_err-bonding_refusal-clause-value c =
     let b = c.bonding_of-bonding.ensures in
     let passed_up : answer c.from_residual.result ≡ number c.in_err-bonding_refusal.field-0.0 = search rules in
     passed_up
-    ∙ bonded c.args.kind p (fit_of 8 p (λ i. (c.type_inv.packet i).fits)) c.requires c.if-not-frame_type_allowed.ensures c.availability_of-availability.ensures
+    ∙ bonded c.args.kind p (fit_of 8 p c.fits-packet) c.told-packet c.if-not-frame_type_allowed.ensures c.availability_of-availability.ensures
     c.if-has_unavailable.ensures c.if-has_pair_twice.ensures b.number_of_carriers_value b.carrier_sequence_value b.number_of_frames_value b.frame_position_value
     c.in_err-bonding_refusal.ensures
 
@@ -86,7 +86,7 @@ pub returns-clause-value : goal.returns-clause-value
 returns-clause-value c =
     let p = c.args.packet.now in
     let b = c.bonding_of-bonding.ensures in
-    bonded c.args.kind p (fit_of 8 p (λ i. (c.type_inv.packet i).fits)) c.requires c.if-not-frame_type_allowed.ensures c.availability_of-availability.ensures
+    bonded c.args.kind p (fit_of 8 p c.fits-packet) c.told-packet c.if-not-frame_type_allowed.ensures c.availability_of-availability.ensures
     c.if-has_unavailable.ensures c.if-has_pair_twice.ensures b.number_of_carriers_value b.carrier_sequence_value b.number_of_frames_value b.frame_position_value
     c.in_ok-bonding_refusal.ensures
 
@@ -95,7 +95,7 @@ unfolding parts_of reading
 returns-clause-said c =
     let p = c.args.packet.now in
     let b = c.bonding_of-bonding.ensures in
-    let counter = counter_is c.args.kind p (fit_of 8 p (λ i. (c.type_inv.packet i).fits)) c.requires in
+    let counter = counter_is c.args.kind p (fit_of 8 p c.fits-packet) c.told-packet in
     (λ i. record {
       refusal = bare 0;
       continuity_counter = counter i;

@@ -2,7 +2,6 @@
 use mathlib.Core.Path.{◌≡◌, sym, ap, ◌∙◌}
 use mathlib.Core.List.{[], ◌∷◌}
 use mathlib.Core.Logic.{inl, inr}
-use native.Mathlib.Omega.{arith}
 use lib.ListN.{drop}
 use Rattle.bits.proofs.Laws.{fit_of}
 use Rattle.setting.specs.Refusal.{first_of}
@@ -16,7 +15,7 @@ use Rattle.header_check.proofs.reserved.bytes_refusal.Goals.{After-some_other}
 asked : (c : After-some_other) → drop 3 (reserved_checks c.args.kind c.args.packet.now) ≡ (20, c.some_other.result) ∷ []
 asked c =
     let p = c.args.packet.now in
-    extended-bytes p (fit_of 8 p (λ i. let fits = c.type_inv.packet i in omega (arith, fits))) c.requires c.in-Extended.is
+    extended-bytes p (fit_of 8 p c.fits-packet) c.told-packet c.in-Extended.is
     ∙ ap (λ b. (20, b) ∷ []) (sym c.some_other.ensures)
 
 pub returns-then-some_other : goal.returns-then-some_other

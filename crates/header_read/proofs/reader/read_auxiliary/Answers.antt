@@ -17,19 +17,19 @@ use Rattle.header_read.proofs.reader.read_auxiliary.Goals as goal
 pub returns-in-Plain : goal.returns-in-Plain
 returns-in-Plain c =
     let p = c.args.packet.now in
-    let bytes = fit_of 8 p (λ i. (c.type_inv.packet i).fits) in
-    c.fill.ensures ∙ ap (λ (n : ℕ). replicate n 0) c.requires.0
+    let bytes = fit_of 8 p c.fits-packet in
+    c.fill.ensures ∙ ap (λ (n : ℕ). replicate n 0) c.requires
     ∙ elim c.in-Plain.is [
-      | inl e ↦ auxiliaries_are p bytes c.requires.1 Kind.Plain ∙ sym (ap (λ (k : Kind). (reading k p).auxiliary) e)
-      | inr e ↦ auxiliaries_are p bytes c.requires.1 Kind.Short ∙ sym (ap (λ (k : Kind). (reading k p).auxiliary) e)
+      | inl e ↦ auxiliaries_are p bytes c.told-packet Kind.Plain ∙ sym (ap (λ (k : Kind). (reading k p).auxiliary) e)
+      | inr e ↦ auxiliaries_are p bytes c.told-packet Kind.Short ∙ sym (ap (λ (k : Kind). (reading k p).auxiliary) e)
     ]
 
 pub returns-in-Extended : goal.returns-in-Extended
 unfolding size_of
 returns-in-Extended c =
     let p = c.args.packet.now in
-    let bytes = fit_of 8 p (λ i. (c.type_inv.packet i).fits) in
-    let whole : length (take auxiliary_bytes (drop 99 p)) ≡ auxiliary_bytes = length_part p 99 auxiliary_bytes (omega (arith, c.requires)) in
-    c.copy.ensures ∙ copied_all c.args.part.now (take auxiliary_bytes (drop 99 p)) (c.requires.0 ∙ sym whole)
-    ∙ auxiliaries_are p bytes c.requires.1 Kind.Extended
+    let bytes = fit_of 8 p c.fits-packet in
+    let whole : length (take auxiliary_bytes (drop 99 p)) ≡ auxiliary_bytes = length_part p 99 auxiliary_bytes (omega arith) in
+    c.copy.ensures ∙ copied_all c.args.part.now (take auxiliary_bytes (drop 99 p)) (c.requires ∙ sym whole)
+    ∙ auxiliaries_are p bytes c.told-packet Kind.Extended
     ∙ sym (ap (λ (k : Kind). (reading k p).auxiliary) c.in-Extended.is)

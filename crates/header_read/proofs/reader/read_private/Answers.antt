@@ -20,12 +20,11 @@ use Rattle.header_read.proofs.reader.read_private.Goals.{After-places_of-at}
 
 -- what is known of the places
 facts : (c : After-places_of-at) →
-    (c.size_of-size.result.private_bytes ≤ private_bytes) × (c.places_of-at.result.private + c.size_of-size.result.private_bytes ≤ 184) × (length c.args.packet.now ≡ 188)
+    (c.size_of-size.result.private_bytes ≤ private_bytes) × (c.places_of-at.result.private + c.size_of-size.result.private_bytes ≤ 184)
 unfolding places_of
 facts c = (
   rw c.size_of-size.ensures (sized c.args.kind).privates,
   rw (c.size_of-size.ensures, c.places_of-at.ensures.value) (private_end c.args.kind),
-  c.requires.1,
 )
 
 pub slice_bounds-copy-end : goal.slice_bounds-copy-end
@@ -40,7 +39,7 @@ returns c =
     let part = c.args.part.now in
     let p = c.args.packet.now in
     let kind = c.args.kind in
-    let bytes = fit_of 8 p (λ i. (c.type_inv.packet i).fits) in
+    let bytes = fit_of 8 p c.fits-packet in
     let n = c.from-own.result in
     let from = c.places_of-at.result.private in
     let few = facts (goal.at.returns c).After-places_of-at in
@@ -49,5 +48,5 @@ returns c =
     let there : length (take n (drop from p)) ≡ n = length_part p from n (omega arith) in
     let data_is : c.copy.new.dst ≡ take n (drop from p) =
     c.copy.ensures ∙ rw span (copied_all (take (n - 0) part) (take n (drop from p)) (own ∙ sym there)) in
-    resized-part part c.copy.new.dst c.fill.new.dst n private_bytes c.requires.0 (ap length data_is ∙ there) (omega (arith, few.0)) c.fill.ensures
-    ∙ ap (resized private_bytes) data_is ∙ rw (c.from-own.ensures, c.size_of-size.ensures, c.places_of-at.ensures.value) (privates_by kind p bytes c.requires.1)
+    resized-part part c.copy.new.dst c.fill.new.dst n private_bytes c.requires (ap length data_is ∙ there) (omega (arith, few.0)) c.fill.ensures
+    ∙ ap (resized private_bytes) data_is ∙ rw (c.from-own.ensures, c.size_of-size.ensures, c.places_of-at.ensures.value) (privates_by kind p bytes c.told-packet)

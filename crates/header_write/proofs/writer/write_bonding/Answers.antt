@@ -8,4 +8,4 @@ use Rattle.header_write.proofs.writer.write_bonding.Goals as goal
 pub returns : goal.returns
 returns c =
     let bytes = c.args.setting.now in
-    stored (bonding_bytes (setting_in bytes)) c.args.part.now c.requires.0 ∙ ap bonding_bytes (sym (setting_of-in bytes c.requires.1))
+    stored (bonding_bytes (setting_in bytes)) c.args.part.now c.requires ∙ ap bonding_bytes (sym (setting_of-in bytes c.told-setting))

@@ -28,7 +28,7 @@ pub loop-k-preserved : goal.loop-k-preserved
 loop-k-preserved c =
     let turn = c.loop-k in
     let r = part (in_setting statuses_at) last_stream c.args.setting.now in
-    let long = statuses-long c.args.setting.now c.requires.2 in
+    let long = statuses-long c.args.setting.now c.told-setting in
     rw c.four.ensures (control-next turn.part r turn.k (omega (arith, c.requires)) (omega (arith, c.requires)) turn.invariant)
 
 pub returns : goal.returns
@@ -36,7 +36,7 @@ returns c z pid n =
     let turn = c.loop-k in
     let b = c.args.setting.now in
     let r = part (in_setting statuses_at) last_stream b in
-    let long = statuses-long b c.requires.2 in
+    let long = statuses-long b c.told-setting in
     let last = length c.args.part.now - 1 in
     let all : turn.k ≡ last = omega arith in
     let inside : last < length turn.part = omega (arith, c.requires.0) in
@@ -47,4 +47,4 @@ returns c z pid n =
     ∙ rw c.four-2.ensures (control-last (take last turn.part) r last (setting_in b).emergency_indicator room (rw all at turn.invariant))
     ∙ ap (λ (m : ℕ). run 2 (take m r) ++ (bits_of 1 1 ++ bits_of 1 (setting_in b).emergency_indicator)) streams
     ∙ control_bits z pid (setting_in b) (omega (arith, room))
-    ∙ ap (λ (s : Setting). line_bits z pid s (control_table z)) (sym (setting_of-in b c.requires.2))
+    ∙ ap (λ (s : Setting). line_bits z pid s (control_table z)) (sym (setting_of-in b c.told-setting))

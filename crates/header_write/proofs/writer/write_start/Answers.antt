@@ -19,5 +19,5 @@ returns c z =
     let bytes = c.to_be_bytes.result in
     let high : get_or bytes 0 0 % 32 ≡ args.pid / 256 % 32 = rw c.to_be_bytes.ensures (omega arith) in
     let low : get_or bytes 1 0 ≡ args.pid % 256 = rw c.to_be_bytes.ensures (omega arith) in
-    ap (run 8) (rw (high, low) (stored (start_bytes args.pid (setting_in b)) args.part.now c.requires.0)) ∙ start_bits z args.pid (setting_in b)
-    ∙ ap (λ (s : Setting). line_bits z args.pid s start_table) (sym (setting_of-in b c.requires.1))
+    ap (run 8) (rw (high, low) (stored (start_bytes args.pid (setting_in b)) args.part.now c.requires)) ∙ start_bits z args.pid (setting_in b)
+    ∙ ap (λ (s : Setting). line_bits z args.pid s start_table) (sym (setting_of-in b c.told-setting))

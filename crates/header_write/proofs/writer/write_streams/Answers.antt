@@ -22,14 +22,14 @@ unfolding size_of
 fifteen c = elim c.in-Plain.is [ inl e ↦ rw e refl | inr e ↦ rw e refl ]
 
 two_bytes : (c : In-Plain) → length c.args.part.now ≡ 2
-two_bytes c = c.requires.0 ∙ ap (λ (n : ℕ). (n + 1) / 8) (fifteen c)
+two_bytes c = c.requires ∙ ap (λ (n : ℕ). (n + 1) / 8) (fifteen c)
 
 seven : (c : In-Short) → (size_of c.args.kind).streams ≡ last_short_stream
 unfolding size_of
 seven c = rw c.in-Short.is refl
 
 one_byte : (c : In-Short) → length c.args.part.now ≡ 1
-one_byte c = c.requires.0 ∙ ap (λ (n : ℕ). (n + 1) / 8) (seven c)
+one_byte c = c.requires ∙ ap (λ (n : ℕ). (n + 1) / 8) (seven c)
 
 pub bounds-part-0 : goal.bounds-part-0
 bounds-part-0 c = let long = two_bytes (goal.at.bounds-part-0 c).In-Plain in omega arith
@@ -46,7 +46,7 @@ returns-in-Plain c pid =
     let z = size_of c.args.kind in
     let b = c.args.setting.now in
     ap (run 8) (rw c.word-availability.ensures (stored (fifteen_bytes (setting_in b)) c.args.part.now (two_bytes at))) ∙ fifteen_bits z pid (setting_in b) (fifteen at)
-    ∙ ap (λ (s : Setting). line_bits z pid s (stream_table z)) (sym (setting_of-in b c.requires.1))
+    ∙ ap (λ (s : Setting). line_bits z pid s (stream_table z)) (sym (setting_of-in b c.told-setting))
 
 pub returns-in-Short : goal.returns-in-Short
 returns-in-Short c pid =
@@ -54,4 +54,4 @@ returns-in-Short c pid =
     let z = size_of c.args.kind in
     let b = c.args.setting.now in
     ap (run 8) (rw c.word-availability.ensures (stored (seven_bytes (setting_in b)) c.args.part.now (one_byte at))) ∙ seven_bits z pid (setting_in b) (seven at)
-    ∙ ap (λ (s : Setting). line_bits z pid s (stream_table z)) (sym (setting_of-in b c.requires.1))
+    ∙ ap (λ (s : Setting). line_bits z pid s (stream_table z)) (sym (setting_of-in b c.told-setting))
