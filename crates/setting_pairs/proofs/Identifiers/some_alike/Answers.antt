@@ -15,8 +15,8 @@ use Rattle.setting.specs.Rules.{pair_twice}
 use Rattle.setting_pairs.specs.Identifiers.{ids_apart}
 use Rattle.setting_pairs.proofs.Apart.{length_apart}
 use Rattle.setting_pairs.proofs.Pairs.{places, place, bit, Seen, seen_none, no_mark, seen_more, seen_absent}
-use Rattle.setting_pairs.proofs.some_alike.Goals as goal
-use Rattle.setting_pairs.proofs.some_alike.Goals.{else-is_available, then-is_available}
+use Rattle.setting_pairs.proofs.Identifiers.some_alike.Goals as goal
+use Rattle.setting_pairs.proofs.Identifiers.some_alike.Goals.{else-is_available, then-is_available}
 
 -- nothing is shifted out
 shifted : (k : ℕ) → k < places → 1 * 2 ^ k % 2 ^ 64 ≡ 2 ^ k
@@ -40,7 +40,7 @@ loop-j-init c = λ os e. seen_none _ _ os _
 pub loop-j-preserved : goal.loop-j-preserved
 loop-j-preserved c =
     let args = c.args in
-    let ids = ids_apart args.step last_stream args.ts.now in
+    let ids = ids_apart args.self.now.step last_stream args.self.now.bytes.now in
     let j = c.loop-j.j in
     let seen : (os : List ℕ) → c.if-is_available.alike ≡ false → Seen args.availability ids os c.if-is_available.met (j + 1) =
     λ os.
@@ -59,5 +59,5 @@ pub returns : goal.returns
 unfolding pair_twice
 returns c =
     let args = c.args in
-    let all : c.loop-j.j ≡ length (ids_apart args.step last_stream args.ts.now) = omega (arith, length_apart args.step last_stream args.ts.now) in
+    let all : c.loop-j.j ≡ length (ids_apart args.self.now.step last_stream args.self.now.bytes.now) = omega (arith, length_apart args.self.now.step last_stream args.self.now.bytes.now) in
     λ os e. rw all at (c.loop-j.invariant os e).none
