@@ -1,6 +1,6 @@
 -- `some_alike` meets its contract: where none before stream j + 1 was alike, none makes a pair. Assumes nothing.
-use Prim.Native.Nat.{ℕ, zero, suc, ◌+◌, ◌*◌, ◌/◌, ◌%◌, ◌^◌, ◌<◌}
-use mathlib.Core.Path.{◌≡◌, refl, sym, ◌∙◌}
+use Prim.Native.Nat.{ℕ, ◌+◌, ◌*◌, ◌/◌, ◌%◌, ◌^◌, ◌<◌}
+use mathlib.Core.Path.{◌≡◌, sym, ◌∙◌}
 use mathlib.Core.Bool.{false}
 use mathlib.Core.List.{List}
 use native.Mathlib.Nat.{mod-lt}
@@ -27,12 +27,7 @@ no_bit : (met k : ℕ) → eqb (bit met k) 1 ≡ false → bit met k ≡ 0
 no_bit met k e =
     let low : bit met k < 2 = mod-lt (met / 2 ^ k) (lit< tt) in
     let other = eqb-false (bit met k) 1 e in
-    small (bit met k) low other
-  where
-    small : (n : ℕ) → n < 2 → (n ≡ 1 → ⊥) → n ≡ 0
-    small zero l h = refl
-    small (suc zero) l h = absurd (h refl)
-    small (suc (suc n)) l h = absurd (omega arith)
+    omega (arith, low, other)
 
 pub loop-j-init : goal.loop-j-init
 loop-j-init c = λ os e. seen_none _ _ os _
