@@ -1,12 +1,14 @@
 -- The number of 64 bits that bytes make is that of the last eight. Assumes nothing.
-use Prim.Native.Nat.{ℕ, ◌+◌, ◌-◌, ◌*◌, ◌%◌, ◌^◌, ◌≤◌, ◌<◌}
-use mathlib.Core.Path.{◌≡◌, sym, ap, ap₂, ◌∙◌}
-use mathlib.Core.List.{List, [], ◌∷◌, ◌++◌}
+use Prim.Native.Nat.{ℕ, zero, suc, ◌+◌, ◌-◌, ◌*◌, ◌%◌, ◌^◌, ◌≤◌, ◌<◌}
+use mathlib.Core.Path.{◌≡◌, refl, sym, ap, ap₂, ◌∙◌}
+use mathlib.Core.List.{List, [], ◌∷◌, ◌++◌, append-nil}
+use borrow.Rule.Slice.PartMut.{put_mid, post_of}
 use native.Mathlib.Omega.{arith}
-use native.Mathlib.Nat.{mod-eq_of_lt}
-use lib.ListN.{length, take, drop, get_or, take-append-drop, length-drop}
+use native.Mathlib.Nat.{mod-eq_of_lt, le_of_eq, lt_of_lt_of_le, pow-le-pow_right}
+use lib.Dec.{lit<}
+use lib.ListN.{replicate, length, take, drop, get_or, take-append-drop, length-drop, drop_of_length-le}
 use Rattle.std.specs.Int.{w64, from_be_bytes}
-use Rattle.std.proofs.lemmas.List.{get_or-drop}
+use Rattle.std.proofs.lemmas.List.{get_or-drop, take-replicate, length-append, length-replicate}
 use Rattle.bits.specs.Fields.{bits_of, number, run}
 use Rattle.bits.proofs.Laws.{number-bits_of, number_append, run_append, run_cons, length_run, number_lt, fit_run}
 
@@ -50,3 +52,29 @@ last_number bytes ys {n} h same each e =
     let l : length (drop at bytes) ≡ 8 = length-drop at bytes ∙ omega arith in
     e ∙ ap (from_be_bytes w64) same ∙ eight-number (drop at bytes) l (λ i. rw get_or-drop (each (at + i)))
     ∙ sym (last-eight (take at bytes) (drop at bytes) l) ∙ ap (λ (bs : List ℕ). number (run 8 bs) % 2 ^ 64) (take-append-drop at bytes)
+
+-- zeros in front change no number
+zeros-number : (n : ℕ) (bs : List ℕ) → number (run 8 (replicate n 0 ++ bs)) ≡ number (run 8 bs)
+zeros-number zero bs = refl
+zeros-number (suc n) bs = number_cons 0 (replicate n 0 ++ bs) (lit< tt) ∙ omega (arith, zeros-number n bs)
+
+zeros-each : (n : ℕ) (bs : List ℕ) → ((i : ℕ) → get_or bs i 0 < 256) → (i : ℕ) → get_or (replicate n 0 ++ bs) i 0 < 256
+zeros-each zero bs each i = each i
+zeros-each (suc n) bs each zero = lit< tt
+zeros-each (suc n) bs each (suc i) = zeros-each n bs each i
+
+-- fewer than eight bytes at the end of eight zeros, read as a number
+pub few_number : (bytes : List ℕ) {n : ℕ} → length bytes < 8 → ((i : ℕ) → get_or bytes i 0 < 256)
+    → let at = 8 - length bytes in n ≡ from_be_bytes w64 (put_mid at (8 - at) (replicate 8 0) bytes) → n ≡ number (run 8 bytes) % 2 ^ 64
+few_number bytes {n} few each e =
+    let at = 8 - length bytes in
+    let zeros : List ℕ = replicate 8 0 in
+    let front : take at zeros ≡ replicate at 0 = take-replicate at 8 0 (omega arith) in
+    let back : post_of at (8 - at) zeros ≡ [] = drop_of_length-le (drop at zeros) (le_of_eq (length-drop at zeros)) in
+    let whole : put_mid at (8 - at) zeros bytes ≡ replicate at 0 ++ bytes =
+    ap₂ (λ (f b : List ℕ). f ++ (bytes ++ b)) front back ∙ ap (λ (bs : List ℕ). replicate at 0 ++ bs) (append-nil bytes) in
+    let eight : length (replicate at 0 ++ bytes) ≡ 8 = length-append (replicate at 0) bytes ∙ omega (arith, length-replicate {A = ℕ} at 0) in
+    let small : number (run 8 bytes) < 2 ^ length (run 8 bytes) = number_lt (fit_run 8 bytes) in
+    let fits : number (run 8 bytes) < 2 ^ 64 =
+    lt_of_lt_of_le small (pow-le-pow_right (lit< tt) {i = length (run 8 bytes)} {j = 64} (omega (arith, length_run 8 bytes))) in
+    e ∙ ap (from_be_bytes w64) whole ∙ eight-number (replicate at 0 ++ bytes) eight (zeros-each at bytes each) ∙ zeros-number at bytes ∙ sym (mod-eq_of_lt fits)

@@ -171,13 +171,6 @@ pub run_cons : (w v : ℕ) (vs : List ℕ) → run w (v ∷ vs) ≡ bits_of w v 
 unfolding run
 run_cons w v vs = refl
 
--- the number of a run with one value more
-pub number_more : (w : ℕ) (vs : List ℕ) (v : ℕ) → number (run w (vs ++ (v ∷ []))) ≡ number (run w vs) * 2 ^ w + v % 2 ^ w
-number_more w vs v =
-    ap number (run_append w vs (v ∷ []) ∙ ap (λ (bs : List ℕ). run w vs ++ bs) (run-one w v))
-    ∙ number_append (run w vs) (bits_of w v)
-    ∙ ap₂ (λ (k n : ℕ). number (run w vs) * 2 ^ k + n) (length-bits_of w v) (number-bits_of w v)
-
 -- a run is the field of its number
 pub bits_of-run : (w : ℕ) (vs : List ℕ) → bits_of (length vs * w) (number (run w vs)) ≡ run w vs
 bits_of-run w vs = ap (λ (n : ℕ). bits_of n (number (run w vs))) (sym (length_run w vs)) ∙ bits_of-number (fit_run w vs)

@@ -20,19 +20,18 @@ pub fn word(high: u8, low: u8) -> u16
     u16::from_be_bytes([high, low])
 }
 
-// A number of 64 bits from its bytes, the first of them the highest; of more than eight bytes, that of the last eight. A caller cuts the
-// bytes out where it calls, as `&bytes[i..i + 8]`: so the compiler knows how many there are, and makes one load of eight.
+// A number of 64 bits from its bytes, the first of them the highest; of more than eight bytes, that of the last eight, and of fewer, that of
+// eight with zeros in front. A caller cuts the bytes out where it calls, as `&bytes[i..i + 8]`: so the compiler knows how many there are, and
+// makes one load.
 pub fn long(bytes: &[u8]) -> u64
     ensures { result ≡ number (run 8 bytes.now) % 2 ^ 64 }
 {
     if let Some(&eight) = bytes.last_chunk::<8>() {
         return u64::from_be_bytes(eight);
     }
-    let mut r: u64 = 0;
-    for &byte in bytes {
-        r = (r << 8) + u64::from(byte);
-    }
-    r
+    let mut eight = [0u8; 8];
+    eight[8 - bytes.len()..].copy_from_slice(bytes);
+    u64::from_be_bytes(eight)
 }
 
 // Packs the low 4 bits of each value, two values to a byte. If there are not two values for each byte of the part, it stays as it was.

@@ -42,26 +42,33 @@ fn bytes_in(s: u32, bytes: &[u8]) -> u32
     r
 }
 
-// The register 1 after `n` shifts, for the distances that are in use.
-fn one(n: u32) -> u64
-    requires { Tabled n }
-    ensures { Ahead n 1 1 result }
-{
-    match n {
-        32 => u64::from(POLY),
-        64 => 0x490D_678D,
-        96 => 0xF200_AA66,
-        128 => 0xE8A4_5605,
-        _ => 0x17D3_315D,
+// How far bits go on: one of the distances that are in use.
+#[derive(Clone, Copy)]
+struct Distance {
+    shifts: u32,
+    ghost tabled: { Tabled shifts },
+}
+
+impl Distance {
+    // The register 1 after so many shifts.
+    fn one(self) -> u64
+        ensures { Ahead self.shifts 1 1 result }
+    {
+        match self.shifts {
+            32 => u64::from(POLY),
+            64 => 0x490D_678D,
+            96 => 0xF200_AA66,
+            128 => 0xE8A4_5605,
+            _ => 0x17D3_315D,
+        }
     }
 }
 
 // The lowest byte of `x`, `n` shifts on. The register has 64 bits, so that nothing falls out of it. The compiler makes a loop for each
 // number of `one`, and of each loop one look into a table. It does so only where `one` stands in the loop and `r` is shifted in one place.
 // With the number as an argument there would be no table, and all would take five times as long.
-fn byte_on(x: u64, n: u32) -> u64
-    requires { Tabled n }
-    ensures { Ahead n 8 x result }
+fn byte_on(x: u64, n: Distance) -> u64
+    ensures { Ahead n.shifts 8 x result }
 {
     let mut r: u64 = 0;
     let mut d = x << 56;
@@ -69,17 +76,17 @@ fn byte_on(x: u64, n: u32) -> u64
         let top = (r ^ d) >> 63;
         r <<= 1;
         if top == 1 {
-            r ^= one(n);
+            r ^= n.one();
         }
         d <<= 1;
     }
     r
 }
 
-// The lowest 32 bits of `x`, `n` shifts on. The four bytes are looked up side by side: none waits for the one before it.
-fn low_on(x: u64, n: u32) -> u64
-    requires { Tabled n }
-    ensures { Ahead n 32 x result }
+// The lowest 32 bits of `x`, `n` shifts on. The four bytes are looked up side by side: none waits for the one before it. What `r << 8` moves is a
+// register, not a number that is put together from its bytes.
+fn low_on(x: u64, n: Distance) -> u64
+    ensures { Ahead n.shifts 32 x result }
 {
     let mut r: u64 = 0;
     for i in 0..4u32 {
@@ -88,12 +95,13 @@ fn low_on(x: u64, n: u32) -> u64
     r
 }
 
-// The 64 bits of `x`, `n` shifts on. The high half stands 32 bits before the low one, so it goes 32 shifts further.
+// The 64 bits of `x`, `n` shifts on. The high half stands 32 bits before the low one, so it goes 32 shifts further. Both distances are made here from
+// one number, so the fact that they are in use is a clause here, and in `Distance` everywhere else.
 fn long_on(x: u64, n: u32) -> u64
     requires { Tabled n × Tabled (n + 32) }
     ensures { reduced result ≡ shifts n (reduced x) }
 {
-    low_on(x >> 32, n + 32) ^ low_on(x, n)
+    low_on(x >> 32, Distance { shifts: n + 32 }) ^ low_on(x, Distance { shifts: n })
 }
 
 // The register that the sixteen bytes of `r` and `s` leave, from zero on: `s` goes on by the 32 bits of the register, and `r` by the 64

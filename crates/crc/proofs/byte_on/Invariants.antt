@@ -3,4 +3,4 @@ use Rattle.crc.proofs.Entered.{Entered}
 use Rattle.crc.proofs.byte_on.Given as goal
 
 abbrev pub invariant-loop : goal.invariant-loop
-invariant-loop l = Entered l.n l.x l.counter l.r l.d
+invariant-loop l = Entered l.n.shifts l.x l.counter l.r l.d

@@ -4,4 +4,4 @@ use Rattle.crc.proofs.Entered.{Gone}
 use Rattle.crc.proofs.low_on.Given as goal
 
 abbrev pub invariant-loop-i : goal.invariant-loop-i
-invariant-loop-i l = Gone l.n 32 l.x (8 * l.i) l.r
+invariant-loop-i l = Gone l.n.shifts 32 l.x (8 * l.i) l.r

@@ -1,6 +1,6 @@
 -- `some_alike` meets its contract: where none before stream j + 1 was alike, none makes a pair. Assumes nothing.
-use Prim.Native.Nat.{ℕ, zero, suc, ◌+◌, ◌*◌, ◌/◌, ◌%◌, ◌^◌, ◌<◌}
-use mathlib.Core.Path.{◌≡◌, refl, sym, ◌∙◌}
+use Prim.Native.Nat.{ℕ, ◌+◌, ◌*◌, ◌/◌, ◌%◌, ◌^◌, ◌<◌}
+use mathlib.Core.Path.{◌≡◌, sym, ◌∙◌}
 use mathlib.Core.Bool.{false}
 use mathlib.Core.List.{List}
 use native.Mathlib.Nat.{mod-lt}
@@ -15,8 +15,8 @@ use Rattle.setting.specs.Rules.{pair_twice}
 use Rattle.setting_pairs.specs.Identifiers.{ids_apart}
 use Rattle.setting_pairs.proofs.Apart.{length_apart}
 use Rattle.setting_pairs.proofs.Pairs.{places, place, bit, Seen, seen_none, no_mark, seen_more, seen_absent}
-use Rattle.setting_pairs.proofs.some_alike.Goals as goal
-use Rattle.setting_pairs.proofs.some_alike.Goals.{else-is_available, then-is_available}
+use Rattle.setting_pairs.proofs.Identifiers.some_alike.Goals as goal
+use Rattle.setting_pairs.proofs.Identifiers.some_alike.Goals.{else-is_available, then-is_available}
 
 -- nothing is shifted out
 shifted : (k : ℕ) → k < places → 1 * 2 ^ k % 2 ^ 64 ≡ 2 ^ k
@@ -27,12 +27,7 @@ no_bit : (met k : ℕ) → eqb (bit met k) 1 ≡ false → bit met k ≡ 0
 no_bit met k e =
     let low : bit met k < 2 = mod-lt (met / 2 ^ k) (lit< tt) in
     let other = eqb-false (bit met k) 1 e in
-    small (bit met k) low other
-  where
-    small : (n : ℕ) → n < 2 → (n ≡ 1 → ⊥) → n ≡ 0
-    small zero l h = refl
-    small (suc zero) l h = absurd (h refl)
-    small (suc (suc n)) l h = absurd (omega arith)
+    omega (arith, low, other)
 
 pub loop-j-init : goal.loop-j-init
 loop-j-init c = λ os e. seen_none _ _ os _
@@ -40,7 +35,7 @@ loop-j-init c = λ os e. seen_none _ _ os _
 pub loop-j-preserved : goal.loop-j-preserved
 loop-j-preserved c =
     let args = c.args in
-    let ids = ids_apart args.step last_stream args.ts.now in
+    let ids = ids_apart args.self.now.step last_stream args.self.now.bytes.now in
     let j = c.loop-j.j in
     let seen : (os : List ℕ) → c.if-is_available.alike ≡ false → Seen args.availability ids os c.if-is_available.met (j + 1) =
     λ os.
@@ -59,5 +54,5 @@ pub returns : goal.returns
 unfolding pair_twice
 returns c =
     let args = c.args in
-    let all : c.loop-j.j ≡ length (ids_apart args.step last_stream args.ts.now) = omega (arith, length_apart args.step last_stream args.ts.now) in
+    let all : c.loop-j.j ≡ length (ids_apart args.self.now.step last_stream args.self.now.bytes.now) = omega (arith, length_apart args.self.now.step last_stream args.self.now.bytes.now) in
     λ os e. rw all at (c.loop-j.invariant os e).none

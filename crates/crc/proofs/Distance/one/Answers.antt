@@ -1,4 +1,4 @@
--- `crc::one` meets its contract: each number in it is computed. Assumes nothing.
+-- `Distance::one` meets its contract: each number in it is computed. Assumes nothing.
 use Prim.Native.Nat.{ℕ, ◌^◌, ◌<◌}
 use mathlib.Core.Path.{◌≡◌, refl, sym, ap, ◌∙◌}
 use native.Mathlib.Omega.{arith}
@@ -7,7 +7,7 @@ use lib.Dec.{lit<, lit≤}
 use Rattle.crc.specs.Crc.{poly, shift, shifts}
 use Rattle.crc.specs.Words.{Ahead}
 use Rattle.crc.proofs.Reduced.{reduced_low}
-use Rattle.crc.proofs.one.Goals as goal
+use Rattle.crc.proofs.Distance.one.Goals as goal
 
 -- an arm: the number e, for the distance m
 row : {n e : ℕ} (m : ℕ) → n ≡ m → e < 2 ^ 32 → e ≡ shifts m 1 → Ahead n 1 1 e

@@ -3,8 +3,8 @@ use mathlib.Core.Path.{sym, ◌∙◌}
 use native.Mathlib.Omega.{arith}
 use Rattle.counters.specs.Counters.{last_stream}
 use Rattle.setting_pairs.proofs.Apart.{apart_at}
-use Rattle.setting_pairs.proofs.id.Goals as goal
+use Rattle.setting_pairs.proofs.Identifiers.id.Goals as goal
 
 pub returns : goal.returns
 returns c =
-    c.word.ensures ∙ sym (apart_at c.args.step last_stream c.args.k c.args.ids.now (omega (arith, c.requires)))
+    c.word.ensures ∙ sym (apart_at c.args.self.now.step last_stream c.args.k c.args.self.now.bytes.now (omega (arith, c.requires, c.args.self.now.all_inside)))

@@ -6,7 +6,7 @@ use mathlib.Core.List.{List}
 use Rattle.counters.specs.Counters.{last_stream}
 use Rattle.setting_pairs.specs.Identifiers.{ids_apart}
 use Rattle.setting_pairs.proofs.Pairs.{Seen}
-use Rattle.setting_pairs.proofs.some_alike.Given as goal
+use Rattle.setting_pairs.proofs.Identifiers.some_alike.Given as goal
 
 abbrev pub invariant-loop-j : goal.invariant-loop-j
-invariant-loop-j l = ((os : List ℕ) → l.alike ≡ false → Seen l.availability (ids_apart l.step last_stream l.ts) os l.met l.j)
+invariant-loop-j l = ((os : List ℕ) → l.alike ≡ false → Seen l.availability (ids_apart l.self.step last_stream l.self.bytes.now) os l.met l.j)
