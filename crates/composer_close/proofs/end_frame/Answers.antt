@@ -16,8 +16,8 @@ returns c =
     let state = c.args.state.now in
     let said = part setting_at numbers_at state in
     let behind : length (part open_at open_length c.keep.new.state) ≡ open_length =
-    length_part open_at open_length c.keep.new.state (omega (arith, c.keep.auto.state ∙ c.requires)) in
+    length_part open_at open_length c.keep.new.state (omega (arith, c.keep.auto.state)) in
     let zeros : c.fill.new.self ≡ replicate open_length 0 = c.fill.ensures.after (λ y h. h) ∙ ap (λ (n : ℕ). replicate n 0) behind in
     ap (λ (l : List ℕ). put open_at open_length l c.fill.new.self) c.keep.ensures
-    ∙ ended state said c.fill.new.self c.requires (length_part setting_at numbers_at state (omega (arith, c.requires))) (ap length zeros ∙ length-replicate {A = ℕ} open_length 0)
+    ∙ ended state said c.fill.new.self (omega arith) (length_part setting_at numbers_at state (omega arith)) (ap length zeros ∙ length-replicate {A = ℕ} open_length 0)
     ∙ ap (λ (z : List ℕ). take counter_at state ++ (said ++ z)) zeros
