@@ -18,13 +18,10 @@ fn number(opened: &mut [u8])
     requires { length opened.old ≡ setting_length + last_slot }
     ensures { opened.new ≡ over numbers_at (numbers_of (part numbers_at last_slot opened.old) (marks_of (drop setting_length opened.old))) opened.old }
 {
-    // By number, since the numbers and their marks stand in one slice.
-    for i in 0..SLOTS {
-        let mut n = opened[NUMBERS + i];
-        if opened[SETTING_BYTES + i] != 1 {
-            n = 0;
-        }
-        opened[NUMBERS + i] = n;
+    let (setting, marks) = opened.split_at_mut(SETTING_BYTES);
+    // By number: behind `zip` a proof does not know what was written.
+    for (i, n) in setting[NUMBERS..NUMBERS + SLOTS].iter_mut().enumerate() {
+        *n = if marks[i] == 1 { *n } else { 0 };
     }
 }
 

@@ -3,7 +3,7 @@ use Prim.Native.Nat.{ℕ}
 use mathlib.Core.Path.{◌≡◌, ap, ◌∙◌}
 use mathlib.Core.List.{List, ◌++◌}
 use borrow.Author.Rules.{rules}
-use lib.ListN.{length, take, replicate, length-replicate}
+use lib.ListN.{length, take, replicate}
 use Rattle.slices.proofs.Front.{put}
 use Rattle.setting_bytes.specs.Settings.{part, numbers_at}
 use Rattle.setting_bytes.proofs.Parts.{length_part}
