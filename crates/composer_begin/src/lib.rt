@@ -16,8 +16,7 @@ use refusals::Refusal;
 use setting_bytes::SETTING_BYTES;
 
 // Opens a frame in the state, with the setting's bytes and no slot filled.
-fn open(state: &mut [u8], setting: &[u8])
-    requires { (length state.old ≡ composer_length) × (length setting.now ≡ setting_length) }
+fn open(state: &mut [u8; COMPOSER_BYTES], setting: &[u8; SETTING_BYTES])
     ensures { state.new ≡ take open_at state.old ++ (1 ∷ (setting.now ++ replicate last_slot 0)) }
 {
     state[OPEN] = 1;
@@ -32,12 +31,8 @@ pub fn begin(state: &mut [u8], frame: &mut [u8], setting: &[u8]) -> Result<(), R
     ensures state_after { state.new ≡ begin_state state.old setting.now frame.old }
     ensures frame_after { frame.new ≡ begin_memory state.old setting.now frame.old }
 {
-    if state.len() != COMPOSER_BYTES {
-        return Err(Refusal::Length);
-    }
-    if setting.len() != SETTING_BYTES {
-        return Err(Refusal::Length);
-    }
+    let state: &mut [u8; COMPOSER_BYTES] = state.as_mut_array().ok_or(Refusal::Length)?;
+    let setting: &[u8; SETTING_BYTES] = setting.as_array().ok_or(Refusal::Length)?;
     checks::begin_refusal(state, setting, frame.len())?;
     slices::are_bytes(state);
     slices::are_bytes(setting);

@@ -21,8 +21,7 @@ use setting::{Kind, limits};
 use setting_bytes::LAST_KIND;
 
 // Whether bytes code a state, whatever its numbers.
-fn is_coded(bytes: &[u8]) -> bool
-    requires { length bytes.now ≡ composer_length }
+fn is_coded(bytes: &[u8; COMPOSER_BYTES]) -> bool
     ensures { result ≡ is_coded bytes.now }
 {
     if LAST_KIND < bytes[KIND] {
@@ -36,8 +35,7 @@ fn is_coded(bytes: &[u8]) -> bool
 
 // 17: while a frame is open, the fields of its setting.
 #[inline(always)]
-fn open_width_refusal(bytes: &[u8]) -> Result<(), Refusal>
-    requires { length bytes.now ≡ composer_length }
+fn open_width_refusal(bytes: &[u8; COMPOSER_BYTES]) -> Result<(), Refusal>
     ensures { answer result ≡ first_of (asked (composer_of bytes.now).is_open (width_checks (composer_of bytes.now).kind (composer_of bytes.now).setting)) }
 {
     if bytes[OPEN] != 1 {
@@ -48,16 +46,14 @@ fn open_width_refusal(bytes: &[u8]) -> Result<(), Refusal>
 
 // 17: what the last header announced. Apart from the other checks: put among them it would take stack that the composer's calls do not have.
 #[inline(never)]
-fn last_refusal(kind: Kind, bytes: &[u8]) -> Result<(), Refusal>
-    requires { length bytes.now ≡ composer_length }
+fn last_refusal(kind: Kind, bytes: &[u8; COMPOSER_BYTES]) -> Result<(), Refusal>
     ensures { answer result ≡ of_length announced_length (length (part last_at announced_length bytes.now)) (first_of (announced_checks kind (announced_of (part last_at announced_length bytes.now)))) }
 {
     setting_checks::announced_refusal(kind, &bytes[LAST..OPEN])
 }
 
 #[inline(always)]
-fn long_state_refusal(bytes: &[u8]) -> Result<(), Refusal>
-    requires { length bytes.now ≡ composer_length }
+fn long_state_refusal(bytes: &[u8; COMPOSER_BYTES]) -> Result<(), Refusal>
     ensures { answer result ≡ first_of (state_checks (composer_of bytes.now)) }
 {
     if !setting::pid_allowed(bits::word(bytes[PID], bytes[PID_LOW])) {
@@ -83,9 +79,7 @@ fn long_state_refusal(bytes: &[u8]) -> Result<(), Refusal>
 pub fn state_refusal(bytes: &[u8]) -> Result<(), Refusal>
     ensures { answer result ≡ of_length composer_length (length bytes.now) (first_of (state_checks (composer_of bytes.now))) }
 {
-    if bytes.len() != COMPOSER_BYTES {
-        return Err(Refusal::Length);
-    }
+    let bytes: &[u8; COMPOSER_BYTES] = bytes.as_array().ok_or(Refusal::Length)?;
     long_state_refusal(bytes)
 }
 
@@ -93,9 +87,7 @@ pub fn state_refusal(bytes: &[u8]) -> Result<(), Refusal>
 pub fn open_rule_refusal(bytes: &[u8]) -> Result<(), Refusal>
     ensures { answer result ≡ of_length composer_length (length bytes.now) (first_of (open_rule_checks (composer_of bytes.now))) }
 {
-    if bytes.len() != COMPOSER_BYTES {
-        return Err(Refusal::Length);
-    }
+    let bytes: &[u8; COMPOSER_BYTES] = bytes.as_array().ok_or(Refusal::Length)?;
     if bytes[OPEN] != 1 {
         return Ok(());
     }
@@ -120,9 +112,7 @@ fn has_unplanned(plan: &[u8], filled: &[u8]) -> bool
 pub fn mark_refusal(bytes: &[u8]) -> Result<(), Refusal>
     ensures { answer result ≡ of_length composer_length (length bytes.now) (first_of (mark_checks (composer_of bytes.now))) }
 {
-    if bytes.len() != COMPOSER_BYTES {
-        return Err(Refusal::Length);
-    }
+    let bytes: &[u8; COMPOSER_BYTES] = bytes.as_array().ok_or(Refusal::Length)?;
     if bytes[OPEN] != 1 {
         return Ok(());
     }
@@ -136,9 +126,7 @@ pub fn mark_refusal(bytes: &[u8]) -> Result<(), Refusal>
 pub fn open_refusal(bytes: &[u8]) -> Result<(), Refusal>
     ensures { answer result ≡ of_length composer_length (length bytes.now) (first_of (open_checks (composer_of bytes.now))) }
 {
-    if bytes.len() != COMPOSER_BYTES {
-        return Err(Refusal::Length);
-    }
+    let bytes: &[u8; COMPOSER_BYTES] = bytes.as_array().ok_or(Refusal::Length)?;
     if bytes[OPEN] != 1 {
         return Err(Refusal::NoFrame);
     }

@@ -11,7 +11,6 @@ use Rattle.slices.specs.Slices.{some_at_least, unlike}
 use Rattle.slices.proofs.Differing.{by_elements}
 use Rattle.slices.proofs.Front.{drop-take}
 use Rattle.counters.specs.Counters.{last_slot}
-use Rattle.setting.specs.declared.Setting.{Setting}
 use Rattle.setting.specs.declared.Announced.{Announced}
 use Rattle.setting.specs.Announcing.{announced, differ}
 use Rattle.setting.specs.Setting.{private_bytes, auxiliary_bytes}

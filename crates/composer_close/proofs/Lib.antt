@@ -3,6 +3,5 @@ mod Decoded
 mod Ending
 mod Numbers
 pub mod Passed
-mod Pasted
 mod Saying
 mod Unlike

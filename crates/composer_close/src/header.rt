@@ -6,9 +6,9 @@ ghost use Rattle.slices.specs.Slices.{some_at_least, over};
 ghost use Rattle.setting_bytes.specs.Settings.{part, announced_at, announced_length, numbers_at, private_at, setting_length};
 ghost use Rattle.composer.specs.Slots.{numbers_of};
 ghost use Rattle.composer.specs.Composing.{next_version};
-ghost use Rattle.composer.specs.States.{composer_length, composer_of, marks_of};
+ghost use Rattle.composer.specs.States.{composer_of, marks_of};
 
-use composer::{LAST, OPEN, PLAN, SAID, VERSION};
+use composer::{COMPOSER_BYTES, LAST, OPEN, PLAN, SAID, VERSION};
 use counters::SLOTS;
 use setting_bytes::{NUMBERS, SETTING_BYTES};
 
@@ -18,13 +18,10 @@ fn number(opened: &mut [u8])
     requires { length opened.old ≡ setting_length + last_slot }
     ensures { opened.new ≡ over numbers_at (numbers_of (part numbers_at last_slot opened.old) (marks_of (drop setting_length opened.old))) opened.old }
 {
-    // By number, since the numbers and their marks stand in one slice.
-    for i in 0..SLOTS {
-        let mut n = opened[NUMBERS + i];
-        if opened[SETTING_BYTES + i] != 1 {
-            n = 0;
-        }
-        opened[NUMBERS + i] = n;
+    let (setting, marks) = opened.split_at_mut(SETTING_BYTES);
+    // By number: behind `zip` a proof does not know what was written.
+    for (i, n) in setting[NUMBERS..NUMBERS + SLOTS].iter_mut().enumerate() {
+        *n = if marks[i] == 1 { *n } else { 0 };
     }
 }
 
@@ -40,9 +37,9 @@ pub(crate) fn say(opened: &mut [u8], counter: u8, version: u8)
 
 // The version of the open frame's header: raised if it announces something else than the last header. What each announces stands in the
 // state as bytes, so the bytes are compared.
-pub(crate) fn next_version(state: &[u8]) -> u8
-    requires state_len { (length state.now ≡ composer_length) × (some_at_least (2 ^ 8) state.now ≡ false) }
-    requires state_bound { (composer_of state.now).version < 8 }
+pub(crate) fn next_version(state: &[u8; COMPOSER_BYTES]) -> u8
+    requires bytes { some_at_least (2 ^ 8) state.now ≡ false }
+    requires version { (composer_of state.now).version < 8 }
     ensures { result ≡ next_version (composer_of state.now) }
 {
     let version = state[VERSION];

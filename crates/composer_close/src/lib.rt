@@ -16,8 +16,7 @@ use packet::PACKET_BYTES;
 use refusals::Refusal;
 use setting_bytes::NUMBERS;
 
-fn close_refusal(state: &[u8], lent: usize) -> Result<(), Refusal>
-    requires { length state.now ≡ composer_length }
+fn close_refusal(state: &[u8; COMPOSER_BYTES], lent: usize) -> Result<(), Refusal>
     ensures { answer result ≡ close_refusal (composer_of state.now) lent }
 {
     if lent != packet::frame_bytes(setting_bytes::kind_of(state[KIND])) {
@@ -28,16 +27,14 @@ fn close_refusal(state: &[u8], lent: usize) -> Result<(), Refusal>
 }
 
 // Copies what the header said of counter, version and announcement to where the last header's stand.
-fn keep(state: &mut [u8])
-    requires { length state.old ≡ composer_length }
+fn keep(state: &mut [u8; COMPOSER_BYTES])
     ensures { state.new ≡ over counter_at (part setting_at numbers_at state.old) state.old }
 {
     state.copy_within(SETTING..SETTING + NUMBERS, COUNTER);
 }
 
 // Ends the open frame in the state, once its setting is what the header says: that is now what the last header said, and zeros follow it.
-fn end_frame(state: &mut [u8])
-    requires { length state.old ≡ composer_length }
+fn end_frame(state: &mut [u8; COMPOSER_BYTES])
     ensures { state.new ≡ take counter_at state.old ++ (part setting_at numbers_at state.old ++ replicate open_length 0) }
 {
     keep(state);
@@ -50,22 +47,20 @@ pub fn close(state: &mut [u8], frame: &mut [u8]) -> Result<(), Refusal>
     ensures state_after { state.new ≡ close_state state.old frame.old }
     ensures frame_after { frame.new ≡ close_memory state.old frame.old }
 {
-    if state.len() != COMPOSER_BYTES {
-        return Err(Refusal::Length);
-    }
+    let state: &mut [u8; COMPOSER_BYTES] = state.as_mut_array().ok_or(Refusal::Length)?;
     close_refusal(state, frame.len())?;
     slices::are_bytes(state);
     let pid = bits::word(state[PID], state[PID_LOW]);
     let kind = setting_bytes::kind_of(state[KIND]);
     let counter = (state[COUNTER] + 1) % 16;
     let version = header::next_version(state);
-    // The checks have made sure that this setting obeys the rules.
-    header::say(&mut state[SETTING..COMPOSER_BYTES], counter, version);
+    // The checks have made sure that this setting obeys the rules. By slices: a part of an array that was lent has no proof.
+    header::say(&mut state.as_mut_slice()[SETTING..], counter, version);
     header_write::write_header(
         &mut frame[0..PACKET_BYTES],
         pid,
         kind,
-        &state[SETTING..FILLED],
+        &state.as_slice()[SETTING..FILLED],
     );
     end_frame(state);
     Ok(())

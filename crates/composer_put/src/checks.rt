@@ -1,29 +1,28 @@
 // What put checks of its state and its other buffers, in the order of the table of refusals.
-ghost use Rattle.std.specs.Prelude.{◌≡◌, cond, eqb, length};
+ghost use Rattle.std.specs.Prelude.{◌≡◌, cond, eqb};
 ghost use Rattle.refusals.specs.Refusals.{answer};
 ghost use Rattle.setting.specs.Refusal.{first_of};
 ghost use Rattle.composer.specs.Slots.{empty_for};
 ghost use Rattle.composer.specs.Composing.{stream_checks, put_refusal};
 ghost use Rattle.setting_bytes.specs.Settings.{part};
 ghost use Rattle.counters.specs.Counters.{last_slot};
-ghost use Rattle.composer.specs.States.{plan_at, filled_at, composer_length, composer_of, marks_of};
+ghost use Rattle.composer.specs.States.{plan_at, filled_at, composer_of, marks_of};
 ghost use Rattle.slot_bits.specs.Bits.{slots_as_bits};
 
 use crate::slots;
-use composer::{AVAILABILITY, AVAILABILITY_LOW, KIND, PID, PID_LOW};
+use composer::{AVAILABILITY, AVAILABILITY_LOW, COMPOSER_BYTES, KIND, PID, PID_LOW};
 use counters::RelativeNumber;
 use packet::PACKET_BYTES;
 use refusals::Refusal;
 
 // 13 and 12: the checks of the stream, and of the packets that would be placed.
 pub(crate) fn stream_refusal(
-    state: &[u8],
+    state: &[u8; COMPOSER_BYTES],
     stream: &[u8],
     r: RelativeNumber,
     empty: u64,
 ) -> Result<(), Refusal>
-    requires state_len { length state.now ≡ composer_length }
-    requires empty_value { empty ≡ slots_as_bits (empty_for r.0 (part plan_at last_slot state.now) (marks_of (part filled_at last_slot state.now))) }
+    requires { empty ≡ slots_as_bits (empty_for r.0 (part plan_at last_slot state.now) (marks_of (part filled_at last_slot state.now))) }
     ensures { answer result ≡ first_of (stream_checks (composer_of state.now) r.0 stream.now) }
 {
     if !r.is_available(bits::word(state[AVAILABILITY], state[AVAILABILITY_LOW])) {
@@ -40,12 +39,11 @@ pub(crate) fn stream_refusal(
 // What is asked before the stream itself: 1, 2, 17, 16, and the checks of the open frame. Where this lets pass, the put's refusal is what
 // `stream_refusal` answers.
 pub(crate) fn frame_refusal(
-    state: &[u8],
+    state: &[u8; COMPOSER_BYTES],
     stream: &[u8],
     r: RelativeNumber,
     lent: usize,
 ) -> Result<(), Refusal>
-    requires { length state.now ≡ composer_length }
     ensures { put_refusal (composer_of state.now) r.0 stream.now lent ≡ cond (eqb (answer result) 0) (first_of (stream_checks (composer_of state.now) r.0 stream.now)) (answer result) }
 {
     let kind = setting_bytes::kind_of(state[KIND]);

@@ -37,18 +37,16 @@ pub fn put<'a>(
     ensures state_after { state.new ≡ put_state state.old r.0 stream.now frame.old }
     ensures frame_after { frame.new ≡ put_memory state.old r.0 stream.now frame.old }
 {
-    if state.len() != COMPOSER_BYTES {
-        return Err(Refusal::Length);
-    }
-    checks::frame_refusal(state, stream, r, frame.len())?;
+    let bytes: &[u8; COMPOSER_BYTES] = state.as_array().ok_or(Refusal::Length)?;
+    checks::frame_refusal(bytes, stream, r, frame.len())?;
     // Behind the checks, so that the set is not held while they run: that takes less stack.
     let empty = slots::empty_slots(
-        &state[PLAN..PLAN + SLOTS],
-        &state[FILLED..COMPOSER_BYTES],
+        &bytes[PLAN..PLAN + SLOTS],
+        &bytes[FILLED..COMPOSER_BYTES],
         r,
     );
-    checks::stream_refusal(state, stream, r, empty)?;
-    slices::are_bytes(state);
+    checks::stream_refusal(bytes, stream, r, empty)?;
+    slices::are_bytes(bytes);
     let rest = slots::place(frame, stream, &mut state[FILLED..COMPOSER_BYTES], empty);
     Ok(Placed {
         packets: (stream.len() - rest.len()) / PACKET_BYTES,

@@ -17,5 +17,5 @@ returns c =
     let marks : c.fill.new.self ≡ replicate last_slot 0 = search rules in
     let setting_long : length c.copy.new.dst ≡ setting_length = search rules in
     let marks_long : length c.fill.new.self ≡ last_slot = search rules in
-    opened_parts c.args.state.now c.copy.new.dst c.requires.0 setting_long c.fill.new.self marks_long
+    opened_parts c.args.state.now c.copy.new.dst (search rules) setting_long c.fill.new.self marks_long
     ∙ ap₂ (λ (s : List ℕ) (m : List ℕ). take open_at c.args.state.now ++ (1 ∷ (s ++ m))) setting marks

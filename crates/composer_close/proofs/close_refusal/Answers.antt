@@ -6,7 +6,6 @@ use mathlib.Core.List.{List, ◌++◌}
 use borrow.Author.Rules.{rules}
 use borrow.Author.Tests.{eq-eqb, ne_eqb}
 use lib.ListN.{length, get_or}
-use Rattle.refusals.specs.Refusals.{number, answer}
 use Rattle.refusals.proofs.Refusals.{is_some_number}
 use Rattle.setting.specs.declared.Kind.{Kind}
 use Rattle.setting.specs.Size.{slots_of}
@@ -43,18 +42,10 @@ module _ (state : List ℕ) (lent : ℕ) (long : length state ≡ composer_lengt
         told ∙ at_length _ _ _ long ∙ sym (past ∙ onward (open_checks run) (state_none run (sym (good ∙ at_length _ _ _ long))))
 
 pub returns-then-lent-frame_bytes : goal.returns-then-lent-frame_bytes
-returns-then-lent-frame_bytes c =
-    off c.args.state.now c.args.lent c.requires c.kind_of.result c.kind_of.ensures c.frame_bytes.ensures c.if-lent-frame_bytes.true
+returns-then-lent-frame_bytes c = search (rules, off)
 
 pub returns-in_err-state_refusal : goal.returns-in_err-state_refusal
-returns-in_err-state_refusal c =
-    let refusal = c.in_err-state_refusal.field-0.0 in
-    let passed_up : answer c.from_residual.result ≡ number refusal = search rules in
-    passed_up
-    ∙ by_state c.args.state.now c.args.lent c.requires c.kind_of.result c.kind_of.ensures c.frame_bytes.ensures c.if-lent-frame_bytes.false
-    c.in_err-state_refusal.ensures (is_some_number refusal)
+returns-in_err-state_refusal c = search (rules, by_state, is_some_number)
 
 pub returns : goal.returns
-returns c =
-    by_frame c.args.state.now c.args.lent c.requires c.kind_of.result c.kind_of.ensures c.frame_bytes.ensures c.if-lent-frame_bytes.false
-    c.in_ok-state_refusal.ensures c.open_refusal.ensures
+returns c = search (rules, by_frame)

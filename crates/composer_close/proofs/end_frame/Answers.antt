@@ -2,8 +2,8 @@
 use Prim.Native.Nat.{ℕ}
 use mathlib.Core.Path.{◌≡◌, ap, ◌∙◌}
 use mathlib.Core.List.{List, ◌++◌}
-use native.Mathlib.Omega.{arith}
-use lib.ListN.{length, take, replicate, length-replicate}
+use borrow.Author.Rules.{rules}
+use lib.ListN.{length, take, replicate}
 use Rattle.slices.proofs.Front.{put}
 use Rattle.setting_bytes.specs.Settings.{part, numbers_at}
 use Rattle.setting_bytes.proofs.Parts.{length_part}
@@ -15,9 +15,8 @@ pub returns : goal.returns
 returns c =
     let state = c.args.state.now in
     let said = part setting_at numbers_at state in
-    let behind : length (part open_at open_length c.keep.new.state) ≡ open_length =
-    length_part open_at open_length c.keep.new.state (omega (arith, c.keep.auto.state ∙ c.requires)) in
-    let zeros : c.fill.new.self ≡ replicate open_length 0 = c.fill.ensures.after (λ y h. h) ∙ ap (λ (n : ℕ). replicate n 0) behind in
+    let zeros : c.fill.new.self ≡ replicate open_length 0 = search rules in
+    let as_many : length c.fill.new.self ≡ open_length = search rules in
     ap (λ (l : List ℕ). put open_at open_length l c.fill.new.self) c.keep.ensures
-    ∙ ended state said c.fill.new.self c.requires (length_part setting_at numbers_at state (omega (arith, c.requires))) (ap length zeros ∙ length-replicate {A = ℕ} open_length 0)
+    ∙ ended state said c.fill.new.self (search rules) (length_part setting_at numbers_at state (search rules)) as_many
     ∙ ap (λ (z : List ℕ). take counter_at state ++ (said ++ z)) zeros

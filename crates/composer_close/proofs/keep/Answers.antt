@@ -15,6 +15,6 @@ unfolding over
 returns c =
     let b = c.args.state.now in
     let said = part setting_at numbers_at b in
-    let long : length said ≡ numbers_at = length_part setting_at numbers_at b (omega (arith, c.requires)) in
+    let long : length said ≡ numbers_at = length_part setting_at numbers_at b (omega arith) in
     c.copy_within.ensures.after ∙ append_assoc (take counter_at b) said (drop (counter_at + numbers_at) b)
     ∙ ap (λ (n : ℕ). take counter_at b ++ (said ++ drop (counter_at + n) b)) (sym long)

@@ -8,8 +8,7 @@ use borrow.Author.Rules.{rules}
 use borrow.Author.Tests.{ne_eqb}
 use lib.Dec.{eqb}
 use lib.ListN.{length, take, length-map}
-use Rattle.std.specs.Prelude.{Err}
-use Rattle.refusals.specs.Refusals.{number, answer}
+use Rattle.refusals.specs.Refusals.{number}
 use Rattle.refusals.proofs.Refusals.{is_some_number}
 use Rattle.setting.specs.Refusal.{first_of, leaves}
 use Rattle.setting.specs.Size.{slots_of}
@@ -28,7 +27,6 @@ use Rattle.composer.specs.Calls.{put_refused, put_placed, put_state, put_memory}
 use Rattle.composer.proofs.Calls.{when_put_refused, put_done}
 use Rattle.slot_bits.specs.Bits.{slots_as_bits}
 use Rattle.composer.proofs.Slots.{length-empty}
-use Rattle.composer_put.specs.Placing.{placed_in, rest_in}
 use Rattle.composer_put.proofs.Inside.{bits_inside}
 use Rattle.composer_put.proofs.Counting.{left_within, counted}
 use Rattle.composer_put.proofs.Passed.{PutPassed, put_passed}
@@ -82,50 +80,37 @@ module _ (state : List ℕ) (r : ℕ) (stream frame : List ℕ) (long : length s
           bits_inside r (slots_of kind) plan (marks_of (part filled_at last_slot state)) p.number behind p.long,
         )
 
-pub returns-then-state-ne-COMPOSER_BYTES : goal.returns-then-state-ne-COMPOSER_BYTES
+pub returns-in_err-bytes : goal.returns-in_err-bytes
 unfolding put_refused put_placed put_state put_memory leaves rest_of
-returns-then-state-ne-COMPOSER_BYTES c =
-    rw (ne_eqb (length c.args.state.now) composer_length c.if-state-ne-COMPOSER_BYTES.true) (record { value = refl; placed = refl; rest = refl; state_after = refl; frame_after = refl })
+returns-in_err-bytes c =
+    let other : length c.args.state.now ≡ composer_length → ⊥ = search rules in
+    rw (ne_eqb (length c.args.state.now) composer_length other) (record { value = search rules; placed = search rules; rest = search rules; state_after = refl; frame_after = refl })
 
 pub returns-in_err-frame_refusal : goal.returns-in_err-frame_refusal
 returns-in_err-frame_refusal c =
-    let a = c.args in
     let refusal = c.in_err-frame_refusal.field-0.0 in
-    let passed_up : c.from_residual.result ≡ Err refusal = search rules in
     let some = is_some_number refusal in
-    let all = refused a.state.now a.r.0 a.stream.now a.frame.now c.if-state-ne-COMPOSER_BYTES.false (rw (ne_eqb (number refusal) 0 some) at c.in_err-frame_refusal.ensures) some in
-    record {
-      value = ap answer passed_up ∙ all.1.0;
-      placed = ap placed_in passed_up ∙ all.1.1.0;
-      rest = ap (rest_in a.stream.now) passed_up ∙ all.0;
-      state_after = all.1.1.1.0;
-      frame_after = all.1.1.1.1;
-    }
+    let all = refused c.in_ok-bytes.bytes.now c.args.r.0 c.args.stream.now c.args.frame.now (search rules) (rw (ne_eqb (number refusal) 0 some) at c.in_err-frame_refusal.ensures) some in
+    record { value = search rules; placed = search rules; rest = search rules; state_after = search rules; frame_after = search rules }
 
 pub returns-in_err-stream_refusal : goal.returns-in_err-stream_refusal
 returns-in_err-stream_refusal c =
-    let a = c.args in
-    let refusal = c.in_err-stream_refusal.field-0.0 in
-    let passed_up : c.from_residual-in_err-stream_refusal.result ≡ Err refusal = search rules in
-    let all = refused a.state.now a.r.0 a.stream.now a.frame.now c.if-state-ne-COMPOSER_BYTES.false
-    (told a.state.now a.r.0 a.stream.now a.frame.now c.if-state-ne-COMPOSER_BYTES.false c.in_ok-frame_refusal.ensures c.in_err-stream_refusal.ensures) (is_some_number refusal) in
-    record {
-      value = ap answer passed_up ∙ all.1.0;
-      placed = ap placed_in passed_up ∙ all.1.1.0;
-      rest = ap (rest_in a.stream.now) passed_up ∙ all.0;
-      state_after = all.1.1.1.0;
-      frame_after = all.1.1.1.1;
-    }
+    let b = c.in_ok-bytes.bytes.now in
+    let long : length b ≡ composer_length = search rules in
+    let all = refused b c.args.r.0 c.args.stream.now c.args.frame.now long
+    (told b c.args.r.0 c.args.stream.now c.args.frame.now long c.in_ok-frame_refusal.ensures c.in_err-stream_refusal.ensures) (is_some_number c.in_err-stream_refusal.field-0.0) in
+    record { value = search rules; placed = search rules; rest = search rules; state_after = search rules; frame_after = search rules }
 
 pub place-rest-requires : goal.place-rest-requires
 place-rest-requires c =
     let a = c.args in
-    let b = a.state.now in
-    let long = c.if-state-ne-COMPOSER_BYTES.false in
+    let b = c.in_ok-bytes.bytes.now in
+    let long : length b ≡ composer_length = search rules in
+    let same : b ≡ a.state.now = search rules in
     let none = c.in_ok-frame_refusal.ensures ∙ sym c.in_ok-stream_refusal.ensures in
     record {
-      slots_bound = (few b a.r.0 a.stream.now a.frame.now long none c.empty_slots-empty.ensures, length_part filled_at last_slot b (omega (arith, long)));
-      filled_value = marks_low b long (all-bytes b c.are_bytes.ensures) (coded b a.r.0 a.stream.now a.frame.now long none);
+      slots_bound = (few b a.r.0 a.stream.now a.frame.now long none c.empty_slots-empty.ensures, search rules);
+      filled_value = rw same at (marks_low b long (all-bytes b c.are_bytes.ensures) (coded b a.r.0 a.stream.now a.frame.now long none));
       empty_len = (empty b a.r.0 a.stream.now a.frame.now long, empty-long b a.r.0 a.stream.now a.frame.now long, c.empty_slots-empty.ensures);
     }
 
@@ -133,14 +118,15 @@ pub overflow_sub-result : goal.overflow_sub-result
 unfolding placed_by filled_by
 overflow_sub-result c =
     let a = c.args in
-    left_within _ _ _ _ (c.place-rest.ensures.result_value _ (empty-long a.state.now a.r.0 a.stream.now a.frame.now c.if-state-ne-COMPOSER_BYTES.false) c.empty_slots-empty.ensures)
+    left_within _ _ _ _ (c.place-rest.ensures.result_value _ (empty-long c.in_ok-bytes.bytes.now a.r.0 a.stream.now a.frame.now (search rules)) c.empty_slots-empty.ensures)
 
 pub returns : goal.returns
 unfolding placed_by filled_by marks_after frame_after
 returns c =
     let a = c.args in
-    let b = a.state.now in
-    let long = c.if-state-ne-COMPOSER_BYTES.false in
+    let b = c.in_ok-bytes.bytes.now in
+    let long : length b ≡ composer_length = search rules in
+    let same : b ≡ a.state.now = search rules in
     let fit = all-bytes b c.are_bytes.ensures in
     let none = c.in_ok-frame_refusal.ensures ∙ sym c.in_ok-stream_refusal.ensures in
     let whole = empty-long b a.r.0 a.stream.now a.frame.now long in
@@ -149,15 +135,15 @@ returns c =
     let many = counted _ _ _ _ left in
     let done = put_done b a.r.0 a.stream.now a.frame.now long (sym none) refl
     (many ∙ sym (ap₂ (λ (n : List ℕ) (m : List Bool). placed_by a.r.0 n m a.stream.now) (plan_there b long) (marks_there b)))
-    (put_end filled_at last_slot b _ long ∙ ap (λ (l : List ℕ). take filled_at b ++ l) (c.place-rest.ensures.filled_after _ whole slots)
+    (put_end filled_at last_slot b _ long ∙ ap (λ (l : List ℕ). take filled_at b ++ l) (rw (sym same) at (c.place-rest.ensures.filled_after _ whole slots))
     ∙ sym (marked-bytes b long fit (coded b a.r.0 a.stream.now a.frame.now long none) _
     ∙ ap₂ (λ (n : List ℕ) (m : List Bool). take filled_at b ++ map mark_byte (marks_after a.r.0 n m a.stream.now)) (plan_there b long) (marks_there b)))
     (c.place-rest.ensures.frame_after _ whole slots
     ∙ sym (ap₂ (λ (n : List ℕ) (m : List Bool). frame_after a.r.0 n m a.stream.now a.frame.now) (plan_there b long) (marks_there b))) in
-    record {
+    rw (sym same) (record {
       value = done.0;
       placed = done.1.0;
       rest = left ∙ ap (rest_of a.stream.now) (sym many ∙ done.1.0);
       state_after = done.1.1.0;
       frame_after = done.1.1.1;
-    }
+    })

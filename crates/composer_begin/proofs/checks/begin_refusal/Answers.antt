@@ -6,7 +6,6 @@ use mathlib.Core.List.{List, ◌++◌}
 use borrow.Author.Rules.{rules}
 use borrow.Author.Tests.{eq-eqb, ne_eqb}
 use lib.ListN.{length, get_or}
-use Rattle.refusals.specs.Refusals.{number, answer}
 use Rattle.refusals.proofs.Refusals.{is_some_number}
 use Rattle.setting.specs.declared.Kind.{Kind}
 use Rattle.setting.specs.declared.Setting.{Setting}
@@ -86,39 +85,16 @@ module _ (state setting : List ℕ) (lent : ℕ) (long : length state ≡ compos
           by_marks kept told = told ∙ at_length _ _ _ long ∙ sym (past_widths ∙ onward marks (both_rules_none run new (sym kept)))
 
 pub returns-then-lent-frame_bytes : goal.returns-then-lent-frame_bytes
-returns-then-lent-frame_bytes c =
-    let a = c.args in
-    off a.state.now a.setting.now a.lent c.requires.0 c.requires.1 c.kind_of-kind.result c.kind_of-kind.ensures c.frame_bytes.ensures c.if-lent-frame_bytes.true
+returns-then-lent-frame_bytes c = search (rules, off)
 
 pub returns-in_err-state_refusal : goal.returns-in_err-state_refusal
-returns-in_err-state_refusal c =
-    let a = c.args in
-    let refusal = c.in_err-state_refusal.field-0.0 in
-    let passed_up : answer c.from_residual.result ≡ number refusal = search rules in
-    passed_up
-    ∙ by_state a.state.now a.setting.now a.lent c.requires.0 c.requires.1 c.kind_of-kind.result c.kind_of-kind.ensures c.frame_bytes.ensures c.if-lent-frame_bytes.false
-    c.in_err-state_refusal.ensures (is_some_number refusal)
+returns-in_err-state_refusal c = search (rules, by_state, is_some_number)
 
 pub returns-in_err-width_refusal : goal.returns-in_err-width_refusal
-returns-in_err-width_refusal c =
-    let a = c.args in
-    let refusal = c.in_err-width_refusal.field-0.0 in
-    let passed_up : answer c.from_residual-in_err-width_refusal.result ≡ number refusal = search rules in
-    passed_up
-    ∙ by_widths a.state.now a.setting.now a.lent c.requires.0 c.requires.1 c.kind_of-kind.result c.kind_of-kind.ensures c.frame_bytes.ensures c.if-lent-frame_bytes.false
-    c.in_ok-state_refusal.ensures c.in_err-width_refusal.ensures (is_some_number refusal)
+returns-in_err-width_refusal c = search (rules, by_widths, is_some_number)
 
 pub returns-in_err-both_rules_refusal : goal.returns-in_err-both_rules_refusal
-returns-in_err-both_rules_refusal c =
-    let a = c.args in
-    let refusal = c.in_err-both_rules_refusal.field-0.0 in
-    let passed_up : answer c.from_residual-in_err-both_rules_refusal.result ≡ number refusal = search rules in
-    passed_up
-    ∙ by_rules a.state.now a.setting.now a.lent c.requires.0 c.requires.1 c.kind_of-kind.result c.kind_of-kind.ensures c.frame_bytes.ensures c.if-lent-frame_bytes.false
-    c.in_ok-state_refusal.ensures c.in_ok-width_refusal.ensures c.in_err-both_rules_refusal.ensures (is_some_number refusal)
+returns-in_err-both_rules_refusal c = search (rules, by_rules, is_some_number)
 
 pub returns : goal.returns
-returns c =
-    let a = c.args in
-    by_marks a.state.now a.setting.now a.lent c.requires.0 c.requires.1 c.kind_of-kind.result c.kind_of-kind.ensures c.frame_bytes.ensures c.if-lent-frame_bytes.false
-    c.in_ok-state_refusal.ensures c.in_ok-width_refusal.ensures c.in_ok-both_rules_refusal.ensures c.mark_refusal.ensures
+returns c = search (rules, by_marks)

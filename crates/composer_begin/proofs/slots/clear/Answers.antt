@@ -3,6 +3,7 @@ use Prim.Native.Nat.{ℕ, ◌+◌, ◌-◌, ◌*◌}
 use mathlib.Core.Path.{◌≡◌, refl, sym, ap, ◌∙◌}
 use mathlib.Core.List.{List, ◌++◌}
 use native.Mathlib.Omega.{arith}
+use borrow.Author.Rules.{rules}
 use borrow.Rule.Slice.PartMut.{mid_len}
 use Rattle.slices.proofs.Toward.{toward_none, toward_kept, toward_part, toward_all}
 use Rattle.packet.specs.Packets.{packet_length}
@@ -25,6 +26,4 @@ loop-i-preserved c =
     toward_part loop.invariant c.write_null.new.slot (at + packet_length - at) {j = packet_length * (loop.i + 1)} next (c.write_null.auto.slot ∙ mid_len at (at + packet_length) loop.frame (omega arith)) (omega arith)
 
 pub returns : goal.returns
-returns c =
-    let loop = c.loop-i in
-    toward_all loop.invariant (nulls_none c.args.frame.now (packet_length * loop.i) (c.args.slots + 1 - loop.i) (omega arith) (omega arith))
+returns c = search (rules, toward_all, nulls_none)

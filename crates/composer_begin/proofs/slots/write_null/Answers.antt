@@ -16,5 +16,4 @@ unfolding null_packet
 null_stored l n e h = ap stored (e ∙ ap (λ (k : ℕ). replicate k 0xFF) h)
 
 pub returns : goal.returns
-returns c =
-    null_stored _ _ (search rules) c.requires
+returns c = search (rules, null_stored)

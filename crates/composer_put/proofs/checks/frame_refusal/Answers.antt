@@ -9,7 +9,6 @@ use borrow.Author.Rules.{rules}
 use borrow.Author.Tests.{eq-eqb, ne_eqb}
 use lib.Dec.{eqb}
 use lib.ListN.{length, get_or}
-use Rattle.refusals.specs.Refusals.{number, answer}
 use Rattle.refusals.proofs.Refusals.{is_some_number}
 use Rattle.counters.specs.Counters.{first_stream, last_stream, within}
 use Rattle.counters.proofs.Within.{past, between, checked_in, checked_out}
@@ -78,17 +77,17 @@ module _ (state : List ℕ) (r : ℕ) (stream : List ℕ) (lent : ℕ) (long : l
         unfolding put_refusal
         past_lengths = passed _ _ (ap not (eq-eqb _ _ (fits ∙ frame_there state kind e))) ∙ passed _ _ (ap not (eq-eqb _ _ whole))
 
-        by_state : {m : ℕ} → m ≡ of_length composer_length (length state) (first_of states) → (m ≡ 0 → ⊥) → all ≡ m
+        by_state : {m : ℕ} → m ≡ of_length composer_length (length state) (first_of states) → (m ≡ 0 → ⊥) → Says m
         by_state told some =
             let told' = told ∙ at_length _ _ _ long in
-            past_lengths ∙ at_once states numbers (λ none. some (told' ∙ none)) ∙ sym told'
+            says some (past_lengths ∙ at_once states numbers (λ none. some (told' ∙ none)) ∙ sym told')
 
         module _ (good : 0 ≡ of_length composer_length (length state) (first_of states)) where
           past_state : all ≡ first_of numbers
           past_state = past_lengths ∙ onward numbers (state_none run (sym (good ∙ at_length _ _ _ long)))
 
-          no_stream : within first_stream last_stream r ≡ false → all ≡ 17
-          no_stream out = past_state ∙ answers _ _ (ap not (outside first_stream last_stream (streams_of run.kind) r (sized run.kind).streams out))
+          no_stream : within first_stream last_stream r ≡ false → {m : ℕ} → m ≡ 17 → Says m
+          no_stream out {m} e = says {n = m} (omega arith) (rw e (past_state ∙ answers _ _ (ap not (outside first_stream last_stream (streams_of run.kind) r (sized run.kind).streams out))))
 
           module _ (inside : within first_stream last_stream r ≡ true) {m : ℕ} (most : m ≡ streams_of run.kind) where
             too_high : m < r → all ≡ 17
@@ -102,49 +101,30 @@ module _ (state : List ℕ) (r : ℕ) (stream : List ℕ) (lent : ℕ) (long : l
                 rw (told ∙ at_length _ _ _ long)
                 (past_state ∙ passed _ _ (ap not (between first_stream _ _ (at_least first_stream last_stream _ inside) below)) ∙ in_parts opens streams (open_none run))
 
-pub returns-then-lent-frame_bytes : goal.returns-then-lent-frame_bytes
-returns-then-lent-frame_bytes c =
-    let a = c.args in
-    says a.state.now a.r.0 a.stream.now a.lent c.requires (omega arith) (off a.state.now a.r.0 a.stream.now a.lent c.requires c.kind_of-kind.result c.kind_of-kind.ensures c.frame_bytes.ensures c.if-lent-frame_bytes.true)
-
-pub returns-then-stream-ne0 : goal.returns-then-stream-ne0
-returns-then-stream-ne0 c =
-    let a = c.args in
-    says a.state.now a.r.0 a.stream.now a.lent c.requires (omega arith)
-    (parted a.state.now a.r.0 a.stream.now a.lent c.requires c.kind_of-kind.result c.kind_of-kind.ensures c.frame_bytes.ensures c.if-lent-frame_bytes.false c.if-stream-ne0.true)
-
-pub returns-in_err-state_refusal : goal.returns-in_err-state_refusal
-returns-in_err-state_refusal c =
-    let a = c.args in
-    let refusal = c.in_err-state_refusal.field-0.0 in
-    let passed_up : answer c.from_residual.result ≡ number refusal = search rules in
-    rw passed_up (says a.state.now a.r.0 a.stream.now a.lent c.requires (is_some_number refusal)
-    (by_state a.state.now a.r.0 a.stream.now a.lent c.requires c.kind_of-kind.result c.kind_of-kind.ensures c.frame_bytes.ensures c.if-lent-frame_bytes.false c.if-stream-ne0.false c.in_err-state_refusal.ensures (is_some_number refusal)))
-
-pub returns-in_err-number : goal.returns-in_err-number
-returns-in_err-number c =
-    let a = c.args in
-    let refusal = c.in_err-number.field-0.0 in
-    let passed_up : answer c.from_residual-in_err-number.result ≡ number refusal = search rules in
-    let out = checked_out first_stream last_stream a.r.0 c.in_err-number.ensures (is_some_number refusal) in
-    rw passed_up (says a.state.now a.r.0 a.stream.now a.lent c.requires (is_some_number refusal)
-    (no_stream a.state.now a.r.0 a.stream.now a.lent c.requires c.kind_of-kind.result c.kind_of-kind.ensures c.frame_bytes.ensures c.if-lent-frame_bytes.false c.if-stream-ne0.false c.in_ok-state_refusal.ensures out.0 ∙ sym out.1))
-
 -- how many streams the run's kind has
 streams_told : (state : List ℕ) {z : Size} {k : Kind} → z ≡ size_of k → k ≡ kind_of (get_or state kind_at 0) → z.streams ≡ streams_of (composer_of state).kind
 streams_told state e kind = ap (λ (x : Size). x.streams) e ∙ ap streams_of (kind ∙ sym (kind_there state))
 
+pub returns-then-lent-frame_bytes : goal.returns-then-lent-frame_bytes
+returns-then-lent-frame_bytes c = search (rules, off)
+
+pub returns-then-stream-ne0 : goal.returns-then-stream-ne0
+returns-then-stream-ne0 c = search (rules, parted)
+
+pub returns-in_err-state_refusal : goal.returns-in_err-state_refusal
+returns-in_err-state_refusal c = search (rules, by_state, is_some_number)
+
+pub returns-in_err-number : goal.returns-in_err-number
+returns-in_err-number c =
+    let out = checked_out first_stream last_stream c.args.r.0 c.in_err-number.ensures (is_some_number c.in_err-number.field-0.0) in
+    search (rules, no_stream)
+
 pub returns-then-size-number : goal.returns-then-size-number
 returns-then-size-number c =
-    let a = c.args in
-    let inside = checked_in first_stream last_stream a.r.0 c.in_ok-number.ensures in
-    says a.state.now a.r.0 a.stream.now a.lent c.requires (omega arith)
-    (too_high a.state.now a.r.0 a.stream.now a.lent c.requires c.kind_of-kind.result c.kind_of-kind.ensures c.frame_bytes.ensures c.if-lent-frame_bytes.false c.if-stream-ne0.false c.in_ok-state_refusal.ensures inside.0
-    (streams_told a.state.now c.size_of-size.ensures c.kind_of-kind.ensures) (omega (arith, inside.1, c.if-size-number.true)))
+    let inside = checked_in first_stream last_stream c.args.r.0 c.in_ok-number.ensures in
+    search (rules, too_high, streams_told)
 
 pub returns : goal.returns
 returns c =
-    let a = c.args in
-    let inside = checked_in first_stream last_stream a.r.0 c.in_ok-number.ensures in
-    by_frame a.state.now a.r.0 a.stream.now a.lent c.requires c.kind_of-kind.result c.kind_of-kind.ensures c.frame_bytes.ensures c.if-lent-frame_bytes.false c.if-stream-ne0.false c.in_ok-state_refusal.ensures inside.0
-    (streams_told a.state.now c.size_of-size.ensures c.kind_of-kind.ensures) (omega (arith, inside.1, c.if-size-number.false)) c.open_refusal.ensures
+    let inside = checked_in first_stream last_stream c.args.r.0 c.in_ok-number.ensures in
+    search (rules, by_frame, streams_told)
