@@ -87,12 +87,12 @@ pub fn differ(xs: &[u8], ys: &[u8]) -> bool
     xs != ys
 }
 
-// A byte is below 256, which the prover knows of a parameter and not of a slice's element.
+// A byte is below 256.
 fn is_byte(x: u8)
     ensures { x < 256 }
 {}
 
-// Does nothing when it runs: the compiler leaves it out. It tells a proof that each element of a slice is a byte.
+// Does nothing when it runs: the compiler leaves it out. It states for a caller's proof that each element of a slice is a byte.
 pub fn are_bytes(xs: &[u8])
     ensures { some_at_least 256 xs.now ≡ false }
 {
