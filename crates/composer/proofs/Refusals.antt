@@ -1,17 +1,19 @@
 -- Laws of the composer's checks, which are asked only where a condition holds. Assumes nothing.
-use mathlib.Core.Path.{◌≡◌, refl, ap, ap₂}
+use Prim.Native.Nat.{ℕ}
+use mathlib.Core.Path.{◌≡◌, refl, sym, ap, ap₂, ◌∙◌}
 use mathlib.Core.Bool.{Bool, true, false, ◌&&◌}
-use mathlib.Core.List.{List, [], ◌∷◌}
+use mathlib.Core.List.{List, [], ◌∷◌, ◌++◌}
 use lib.Dec.{leb}
 use Rattle.slices.proofs.Any.{both}
 use Rattle.setting.specs.declared.Kind.{Kind}
 use Rattle.setting.specs.declared.Setting.{Setting}
-use Rattle.setting.specs.Refusal.{Check, first_of, NoneHolds, none, more}
+use Rattle.setting.specs.Refusal.{Check, first_of, of_length, NoneHolds, none, more}
 use Rattle.setting.specs.Rules.{absent_checks, width_checks, bonding_checks, rule_checks}
-use Rattle.setting.proofs.Refusals.{first_none, numbered, numbered_append, none_first}
+use Rattle.setting.proofs.Refusals.{first_none, numbered, numbered_append, none_first, onward, at_once, at_length}
 use Rattle.setting.specs.declared.Announced.{Announced}
 use Rattle.setting.specs.Announcing.{announced_checks}
 use Rattle.composer.specs.Composing.{Composer, asked, state_checks, open_rule_checks, mark_checks, open_checks}
+use Rattle.composer.specs.States.{composer_length}
 
 -- ---- asked
 
@@ -76,3 +78,14 @@ open_numbered c = numbered_append (open_rule_checks c) (mark_checks c) (open_rul
 
 pub open_none : (c : Composer) → first_of (open_checks c) ≡ 0 → NoneHolds (open_checks c)
 open_none c e = none_first (open_checks c) (open_numbered c) e
+
+-- ---- the checks of a state before others, where the code asks them of a state's bytes
+
+module _ (c : Composer) (lent : ℕ) (long : lent ≡ composer_length) (behind : List Check) {all : ℕ} (past : all ≡ first_of (state_checks c ++ behind)) where
+  pub state_refused : {n : ℕ} → n ≡ of_length composer_length lent (first_of (state_checks c)) → (n ≡ 0 → ⊥) → n ≡ all
+  state_refused told some =
+      let by_state = told ∙ at_length _ _ _ long in
+      by_state ∙ sym (past ∙ at_once (state_checks c) behind (λ none. some (by_state ∙ none)))
+
+  pub state_passed : 0 ≡ of_length composer_length lent (first_of (state_checks c)) → all ≡ first_of behind
+  state_passed good = past ∙ onward behind (state_none c (sym (good ∙ at_length _ _ _ long)))

@@ -4,10 +4,9 @@
 mod checks;
 mod slots;
 
-ghost use Rattle.std.specs.Prelude.{◌≡◌, ◌∷◌, ◌++◌, length, take, replicate};
+ghost use Rattle.std.specs.Prelude.{◌≡◌, ◌∷◌, ◌++◌, take, replicate};
 ghost use Rattle.counters.specs.Counters.{last_slot};
-ghost use Rattle.setting_bytes.specs.Settings.{setting_length};
-ghost use Rattle.composer.specs.States.{open_at, composer_length};
+ghost use Rattle.composer.specs.States.{open_at};
 ghost use Rattle.refusals.specs.Refusals.{answer};
 ghost use Rattle.composer.specs.Calls.{begin_refused, begin_state, begin_memory};
 

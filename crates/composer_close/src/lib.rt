@@ -3,12 +3,12 @@
 
 mod header;
 
-ghost use Rattle.std.specs.Prelude.{◌≡◌, ◌++◌, length, take, replicate};
+ghost use Rattle.std.specs.Prelude.{◌≡◌, ◌++◌, take, replicate};
 ghost use Rattle.slices.specs.Slices.{over};
 ghost use Rattle.setting_bytes.specs.Settings.{part, numbers_at};
 ghost use Rattle.refusals.specs.Refusals.{answer};
 ghost use Rattle.composer.specs.Composing.{close_refusal};
-ghost use Rattle.composer.specs.States.{counter_at, setting_at, open_length, composer_length, composer_of};
+ghost use Rattle.composer.specs.States.{counter_at, setting_at, open_length, composer_of};
 ghost use Rattle.composer.specs.Calls.{close_refused, close_state, close_memory};
 
 use composer::{COMPOSER_BYTES, COUNTER, FILLED, KIND, OPEN, PID, PID_LOW, SETTING};

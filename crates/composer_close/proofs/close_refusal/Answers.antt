@@ -13,7 +13,7 @@ use Rattle.setting.specs.Refusal.{first_of, of_length}
 use Rattle.setting.proofs.Refusals.{answers, passed, onward, at_once, at_length}
 use Rattle.setting_bytes.specs.Kinds.{kind_of}
 use Rattle.composer.specs.Composing.{Composer, state_checks, open_checks, close_refusal}
-use Rattle.composer.proofs.Refusals.{state_none}
+use Rattle.composer.proofs.Refusals.{state_refused, state_passed}
 use Rattle.composer.specs.States.{composer_length, kind_at, composer_of}
 use Rattle.composer.proofs.There.{frame_there}
 use Rattle.packet.specs.Packets.{frame_length}
@@ -33,13 +33,10 @@ module _ (state : List ℕ) (lent : ℕ) (long : length state ≡ composer_lengt
     past = passed _ _ (ap not (eq-eqb _ _ (fits ∙ frame_there state kind e)))
 
     by_state : {m : ℕ} → m ≡ of_length composer_length (length state) (first_of (state_checks run)) → (m ≡ 0 → ⊥) → m ≡ close_refusal run lent
-    by_state told some =
-        let told' = told ∙ at_length _ _ _ long in
-        told' ∙ sym (past ∙ at_once (state_checks run) (open_checks run) (λ none. some (told' ∙ none)))
+    by_state = state_refused run (length state) long (open_checks run) past
 
     by_frame : 0 ≡ of_length composer_length (length state) (first_of (state_checks run)) → {m : ℕ} → m ≡ of_length composer_length (length state) (first_of (open_checks run)) → m ≡ close_refusal run lent
-    by_frame good told =
-        told ∙ at_length _ _ _ long ∙ sym (past ∙ onward (open_checks run) (state_none run (sym (good ∙ at_length _ _ _ long))))
+    by_frame good told = told ∙ at_length _ _ _ long ∙ sym (state_passed run (length state) long (open_checks run) past good)
 
 pub returns-then-lent-frame_bytes : goal.returns-then-lent-frame_bytes
 returns-then-lent-frame_bytes c = search (rules, off)

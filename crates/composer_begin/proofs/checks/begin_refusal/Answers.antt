@@ -16,7 +16,7 @@ use Rattle.setting.proofs.Checked.{width_none}
 use Rattle.setting.specs.Size.{slots_of}
 use Rattle.packet.specs.Packets.{frame_length}
 use Rattle.composer.specs.Composing.{Composer, state_checks, open_rule_checks, mark_checks, in_turn, begin_refusal}
-use Rattle.composer.proofs.Refusals.{state_none}
+use Rattle.composer.proofs.Refusals.{state_refused, state_passed}
 use Rattle.setting_bytes.specs.Kinds.{kind_of}
 use Rattle.setting_bytes.specs.Settings.{setting_length, setting_of}
 use Rattle.composer.specs.States.{composer_length, kind_at, composer_of}
@@ -59,13 +59,11 @@ module _ (state setting : List ℕ) (lent : ℕ) (long : length state ≡ compos
       past_length = passed _ _ (ap not (eq-eqb _ _ (fits ∙ frame_there state kind e)))
 
       by_state : {m : ℕ} → m ≡ of_length composer_length (length state) (first_of states) → (m ≡ 0 → ⊥) → m ≡ all
-      by_state told some =
-          let told' = told ∙ at_length _ _ _ long in
-          told' ∙ sym (past_length ∙ at_once states (widths ++ (its_rules ++ marks)) (λ none. some (told' ∙ none)))
+      by_state = state_refused run (length state) long (widths ++ (its_rules ++ marks)) past_length
 
       module _ (good : 0 ≡ of_length composer_length (length state) (first_of states)) where
         past_state : all ≡ first_of (widths ++ (its_rules ++ marks))
-        past_state = past_length ∙ onward (widths ++ (its_rules ++ marks)) (state_none run (sym (good ∙ at_length _ _ _ long)))
+        past_state = state_passed run (length state) long (widths ++ (its_rules ++ marks)) past_length good
 
         wide : {m : ℕ} → m ≡ of_length setting_length (length setting) (first_of (width_checks k new)) → m ≡ first_of widths
         wide told = told ∙ at_length _ _ _ whole ∙ ap (λ (x : Kind). first_of (width_checks x new)) (kind ∙ sym (kind_there state))

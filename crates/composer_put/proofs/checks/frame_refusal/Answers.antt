@@ -21,7 +21,7 @@ use Rattle.setting.proofs.Refusals.{at_length, answers, passed, onward, at_once}
 use Rattle.setting_bytes.specs.Kinds.{kind_of}
 use Rattle.packet.specs.Packets.{packet_length, frame_length}
 use Rattle.composer.specs.Composing.{Composer, state_checks, open_checks, stream_checks, put_refusal}
-use Rattle.composer.proofs.Refusals.{state_none, open_none}
+use Rattle.composer.proofs.Refusals.{open_none, state_refused, state_passed}
 use Rattle.composer.specs.States.{composer_length, kind_at, composer_of}
 use Rattle.composer.proofs.There.{kind_there, frame_there}
 use Rattle.composer_put.proofs.Streams.{at_least, outside}
@@ -78,13 +78,11 @@ module _ (state : List ℕ) (r : ℕ) (stream : List ℕ) (lent : ℕ) (long : l
         past_lengths = passed _ _ (ap not (eq-eqb _ _ (fits ∙ frame_there state kind e))) ∙ passed _ _ (ap not (eq-eqb _ _ whole))
 
         by_state : {m : ℕ} → m ≡ of_length composer_length (length state) (first_of states) → (m ≡ 0 → ⊥) → Says m
-        by_state told some =
-            let told' = told ∙ at_length _ _ _ long in
-            says some (past_lengths ∙ at_once states numbers (λ none. some (told' ∙ none)) ∙ sym told')
+        by_state told some = says some (sym (state_refused run (length state) long numbers past_lengths told some))
 
         module _ (good : 0 ≡ of_length composer_length (length state) (first_of states)) where
           past_state : all ≡ first_of numbers
-          past_state = past_lengths ∙ onward numbers (state_none run (sym (good ∙ at_length _ _ _ long)))
+          past_state = state_passed run (length state) long numbers past_lengths good
 
           no_stream : within first_stream last_stream r ≡ false → {m : ℕ} → m ≡ 17 → Says m
           no_stream out {m} e = says {n = m} (omega arith) (rw e (past_state ∙ answers _ _ (ap not (outside first_stream last_stream (streams_of run.kind) r (sized run.kind).streams out))))
