@@ -59,7 +59,7 @@ impl Streams<'_, '_> {
     // Whether streams i + 1 and j + 1 have equal identifier pairs and are both available.
     fn is_same(self, i: usize, j: usize) -> bool
         requires { (i < last_stream) × (j < last_stream) }
-        ensures { result ≡ same_pair self.entry.availability (ids_apart self.entry.ts.step last_stream self.entry.ts.bytes.now) (ids_apart self.entry.os.step last_stream self.entry.os.bytes.now) i j }
+        ensures { let s = self.entry in result ≡ same_pair s.availability (ids_apart s.ts.step last_stream s.ts.bytes.now) (ids_apart s.os.step last_stream s.os.bytes.now) i j }
     {
         if self.ts.id(i) != self.ts.id(j) {
             return false;
@@ -77,7 +77,7 @@ impl Streams<'_, '_> {
     // 32 bytes more of stack, and composer_begin does not have them.
     fn has_before(self, j: usize) -> bool
         requires { j < last_stream }
-        ensures { result ≡ any_below j (λ i. same_pair self.entry.availability (ids_apart self.entry.ts.step last_stream self.entry.ts.bytes.now) (ids_apart self.entry.os.step last_stream self.entry.os.bytes.now) i j) }
+        ensures { let s = self.entry in result ≡ any_below j (λ i. same_pair s.availability (ids_apart s.ts.step last_stream s.ts.bytes.now) (ids_apart s.os.step last_stream s.os.bytes.now) i j) }
     {
         for i in 0..j {
             if self.is_same(i, j) {
@@ -89,7 +89,7 @@ impl Streams<'_, '_> {
 
     // Whether some stream makes such a pair with one before it.
     fn has_some(self) -> bool
-        ensures { result ≡ pair_twice self.entry.availability (ids_apart self.entry.ts.step last_stream self.entry.ts.bytes.now) (ids_apart self.entry.os.step last_stream self.entry.os.bytes.now) }
+        ensures { let s = self.entry in result ≡ pair_twice s.availability (ids_apart s.ts.step last_stream s.ts.bytes.now) (ids_apart s.os.step last_stream s.os.bytes.now) }
     {
         for j in 0..STREAMS {
             if self.has_before(j) {

@@ -57,7 +57,8 @@ returns-then-bytes-ge-SLOT_ALLOCATION_TYPES c =
 
 pub returns-then-bytes-ge-FRAME_TYPES : goal.returns-then-bytes-ge-FRAME_TYPES
 returns-then-bytes-ge-FRAME_TYPES c =
-    sym (told _ _ c.if-bytes-ne-ANNOUNCED_BYTES.false ∙ passed _ _ (lt-leb _ _ c.if-bytes-ge-SLOT_ALLOCATION_TYPES.false) ∙ answers _ _ (le-leb _ _ c.if-bytes-ge-FRAME_TYPES.true))
+    sym (told _ _ c.if-bytes-ne-ANNOUNCED_BYTES.false
+    ∙ passed _ _ (lt-leb _ _ c.if-bytes-ge-SLOT_ALLOCATION_TYPES.false) ∙ answers _ _ (le-leb _ _ c.if-bytes-ge-FRAME_TYPES.true))
 
 pub returns-then-availability-ge-AVAILABILITIES : goal.returns-then-availability-ge-AVAILABILITIES
 returns-then-availability-ge-AVAILABILITIES c =

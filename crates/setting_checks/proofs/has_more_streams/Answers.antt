@@ -35,7 +35,8 @@ last e = ap (λ (t : Bool). cond t 17 0) e
 
 pub returns-then-availability-streams-ne0 : goal.returns-then-availability-streams-ne0
 returns-then-availability-streams-ne0 c =
-    sym (ap first_of (behind_of-in _ _ c.requires.0) ∙ answers _ _ (ap not (ne_eqb _ _ (λ e. c.if-availability-streams-ne0.true (bits c.requires.1 c.word-availability.ensures ∙ e)))))
+    sym (ap first_of (behind_of-in _ _ c.requires.0)
+    ∙ answers _ _ (ap not (ne_eqb _ _ (λ e. c.if-availability-streams-ne0.true (bits c.requires.1 c.word-availability.ensures ∙ e)))))
 
 pub returns-then-some_behind : goal.returns-then-some_behind
 returns-then-some_behind c =
@@ -43,7 +44,8 @@ returns-then-some_behind c =
 
 pub returns-then-some_behind-2 : goal.returns-then-some_behind-2
 returns-then-some_behind-2 c =
-    sym (past_bits (goal.at.returns-then-some_behind-2 c).Else-availability-streams-ne0 ∙ passed _ _ (sym c.if-some_behind.ensures) ∙ answers _ _ (sym c.if-some_behind-2.ensures))
+    sym (past_bits (goal.at.returns-then-some_behind-2 c).Else-availability-streams-ne0
+    ∙ passed _ _ (sym c.if-some_behind.ensures) ∙ answers _ _ (sym c.if-some_behind-2.ensures))
 
 pub returns : goal.returns
 returns c =

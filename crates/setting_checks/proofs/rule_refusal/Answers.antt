@@ -6,6 +6,7 @@ use mathlib.Core.List.{List}
 use native.Mathlib.Omega.{arith}
 use lib.ListN.{length}
 use Rattle.counters.specs.Counters.{last_stream}
+use Rattle.setting.specs.declared.Kind.{Kind}
 use Rattle.setting.specs.Refusal.{first_of, of_length}
 use Rattle.setting.specs.Rules.{pair_twice, rule_checks}
 use Rattle.setting_bytes.specs.Words.{word_at, words_of}
@@ -16,22 +17,22 @@ use Rattle.setting_bytes.proofs.Parts.{length_part}
 use Rattle.setting_bytes.proofs.InBytes.{in_setting}
 use Rattle.setting_checks.proofs.Rows.{rules_in, rule_checks-in, words_apart}
 use Rattle.setting_checks.proofs.rule_refusal.Goals as goal
-use Rattle.setting_checks.proofs.rule_refusal.Goals.{Else-bytes-ne-SETTING_BYTES, Else-not-frame_type_allowed, Else-has_unavailable}
 
-told : (c : Else-bytes-ne-SETTING_BYTES) → let s = c.args in of_length setting_length (length s.bytes.now) (first_of (rule_checks s.kind (setting_of s.bytes.now))) ≡ first_of (rules_in s.kind s.bytes.now)
-told c = at_length _ _ _ c.if-bytes-ne-SETTING_BYTES.false ∙ ap first_of (rule_checks-in c.args.kind c.args.bytes.now c.if-bytes-ne-SETTING_BYTES.false)
+told : (kind : Kind) (b : List ℕ) → length b ≡ setting_length → of_length setting_length (length b) (first_of (rule_checks kind (setting_of b))) ≡ first_of (rules_in kind b)
+told kind b long = at_length _ _ _ long ∙ ap first_of (rule_checks-in kind b long)
 
 pub returns-then-bytes-ne-SETTING_BYTES : goal.returns-then-bytes-ne-SETTING_BYTES
 returns-then-bytes-ne-SETTING_BYTES c = sym (off_length _ _ _ c.if-bytes-ne-SETTING_BYTES.true)
 
 pub returns-then-not-frame_type_allowed : goal.returns-then-not-frame_type_allowed
 returns-then-not-frame_type_allowed c =
-    sym (told (goal.at.returns-then-not-frame_type_allowed c).Else-bytes-ne-SETTING_BYTES ∙ answers _ _ (ap not (sym c.if-not-frame_type_allowed.ensures)))
+    sym (told _ _ c.if-bytes-ne-SETTING_BYTES.false ∙ answers _ _ (ap not (sym c.if-not-frame_type_allowed.ensures)))
 
 pub returns-then-has_unavailable : goal.returns-then-has_unavailable
 returns-then-has_unavailable c =
     let unavailable = sym (c.if-has_unavailable.ensures ∙ rw c.word-availability.ensures refl) in
-    sym (told (goal.at.returns-then-has_unavailable c).Else-bytes-ne-SETTING_BYTES ∙ passed _ _ (ap not (sym c.if-not-frame_type_allowed.ensures)) ∙ answers _ _ unavailable)
+    sym (told _ _ c.if-bytes-ne-SETTING_BYTES.false
+    ∙ passed _ _ (ap not (sym c.if-not-frame_type_allowed.ensures)) ∙ answers _ _ unavailable)
 
 -- the pairs that are asked are those of the setting
 module _ (b : List ℕ) (long : length b ≡ setting_length) where
@@ -48,11 +49,13 @@ pub returns-then-has_pair_twice : goal.returns-then-has_pair_twice
 returns-then-has_pair_twice c =
     let unavailable = sym (c.if-has_unavailable.ensures ∙ rw c.word-availability.ensures refl) in
     let pairs = sym (twice c.args.bytes.now c.if-bytes-ne-SETTING_BYTES.false c.word-availability.ensures c.if-has_pair_twice.ensures) in
-    sym (told (goal.at.returns-then-has_pair_twice c).Else-bytes-ne-SETTING_BYTES ∙ passed _ _ (ap not (sym c.if-not-frame_type_allowed.ensures)) ∙ passed _ _ unavailable ∙ answers _ _ pairs)
+    sym (told _ _ c.if-bytes-ne-SETTING_BYTES.false
+    ∙ passed _ _ (ap not (sym c.if-not-frame_type_allowed.ensures)) ∙ passed _ _ unavailable ∙ answers _ _ pairs)
 
 pub returns : goal.returns
 returns c =
     let unavailable = sym (c.if-has_unavailable.ensures ∙ rw c.word-availability.ensures refl) in
     let pairs = sym (twice c.args.bytes.now c.if-bytes-ne-SETTING_BYTES.false c.word-availability.ensures c.if-has_pair_twice.ensures) in
     c.bonding_refusal.ensures
-    ∙ sym (told (goal.at.returns c).Else-bytes-ne-SETTING_BYTES ∙ passed _ _ (ap not (sym c.if-not-frame_type_allowed.ensures)) ∙ passed _ _ unavailable ∙ passed _ _ pairs)
+    ∙ sym (told _ _ c.if-bytes-ne-SETTING_BYTES.false
+    ∙ passed _ _ (ap not (sym c.if-not-frame_type_allowed.ensures)) ∙ passed _ _ unavailable ∙ passed _ _ pairs)

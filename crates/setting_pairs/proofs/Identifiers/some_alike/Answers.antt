@@ -53,6 +53,6 @@ loop-j-preserved c =
 pub returns : goal.returns
 unfolding pair_twice
 returns c =
-    let args = c.args in
-    let all : c.loop-j.j ≡ length (ids_apart args.self.now.step last_stream args.self.now.bytes.now) = omega (arith, length_apart args.self.now.step last_stream args.self.now.bytes.now) in
+    let ts = c.args.self.now in
+    let all : c.loop-j.j ≡ length (ids_apart ts.step last_stream ts.bytes.now) = omega (arith, length_apart ts.step last_stream ts.bytes.now) in
     λ os e. rw all at (c.loop-j.invariant os e).none

@@ -8,4 +8,6 @@ use Rattle.setting_pairs.specs.Identifiers.{ids_apart}
 use Rattle.setting_pairs.proofs.Streams.has_before.Given as goal
 
 abbrev pub invariant-loop-i : goal.invariant-loop-i
-invariant-loop-i l = (any_below l.i (λ k. same_pair l.self.availability (ids_apart l.self.ts.step last_stream l.self.ts.bytes.now) (ids_apart l.self.os.step last_stream l.self.os.bytes.now) k l.j) ≡ false)
+invariant-loop-i l =
+    let s = l.self in
+    any_below l.i (λ k. same_pair s.availability (ids_apart s.ts.step last_stream s.ts.bytes.now) (ids_apart s.os.step last_stream s.os.bytes.now) k l.j) ≡ false

@@ -15,8 +15,8 @@ loop-j-init c = any_none _
 pub returns-then-has_before : goal.returns-then-has_before
 unfolding pair_twice
 returns-then-has_before c =
-    let args = c.args in
-    sym (any_found _ _ c.loop-j.j (omega (arith, length_apart args.self.ts.step last_stream args.self.ts.bytes.now)) (sym c.has_before.ensures ∙ c.if-has_before.true))
+    let ts = c.args.self.ts in
+    sym (any_found _ _ c.loop-j.j (omega (arith, length_apart ts.step last_stream ts.bytes.now)) (sym c.has_before.ensures ∙ c.if-has_before.true))
 
 pub loop-j-preserved : goal.loop-j-preserved
 loop-j-preserved c =
@@ -25,6 +25,6 @@ loop-j-preserved c =
 pub returns : goal.returns
 unfolding pair_twice
 returns c =
-    let args = c.args in
-    let all : c.loop-j.j ≡ length (ids_apart args.self.ts.step last_stream args.self.ts.bytes.now) = omega (arith, length_apart args.self.ts.step last_stream args.self.ts.bytes.now) in
+    let ts = c.args.self.ts in
+    let all : c.loop-j.j ≡ length (ids_apart ts.step last_stream ts.bytes.now) = omega (arith, length_apart ts.step last_stream ts.bytes.now) in
     sym (rw all at c.loop-j.invariant)

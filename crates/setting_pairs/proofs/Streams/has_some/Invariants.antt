@@ -8,4 +8,6 @@ use Rattle.setting_pairs.proofs.Pairs.{pairs}
 use Rattle.setting_pairs.proofs.Streams.has_some.Given as goal
 
 abbrev pub invariant-loop-j : goal.invariant-loop-j
-invariant-loop-j l = (any_below l.j (pairs l.self.availability (ids_apart l.self.ts.step last_stream l.self.ts.bytes.now) (ids_apart l.self.os.step last_stream l.self.os.bytes.now)) ≡ false)
+invariant-loop-j l =
+    let s = l.self in
+    any_below l.j (pairs s.availability (ids_apart s.ts.step last_stream s.ts.bytes.now) (ids_apart s.os.step last_stream s.os.bytes.now)) ≡ false
