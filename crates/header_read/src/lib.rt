@@ -22,6 +22,7 @@ pub fn read_into(packet: &[u8], pid: u16, kind: Kind, setting: &mut [u8]) -> Res
     if setting.len() != SETTING_BYTES {
         return Err(Refused::from(Refusal::Length));
     }
+    // The length is asked here and not only in the check, so that the parts behind it have it from the type.
     let packet: &[u8; HEADER_LENGTH] = packet.as_array().ok_or(Refusal::Length)?;
     let said = header_check::check(packet, pid, kind)?;
     reader::read_setting(setting, packet, kind, said);

@@ -72,7 +72,7 @@ fn write_streams(part: &mut [u8], kind: Kind, setting: &[u8; SETTING_BYTES])
     ensures { (pid : ℕ) → run 8 part.new ≡ line_bits (size_of kind) pid (setting_of setting.now) (stream_table (size_of kind)) }
 {
     let availability = bits::word(setting[AVAILABILITY], setting[AVAILABILITY_LOW]);
-    // Seven or eight bits and a reserved bit make a byte here: none is a byte of the availability.
+    // The availability has fifteen bits here, or seven, so what a byte takes of it is no byte of a number.
     match kind {
         Kind::Plain | Kind::Extended => {
             part[0] = (availability / 128 % 256) as u8;
