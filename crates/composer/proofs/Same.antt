@@ -15,7 +15,7 @@ use Rattle.setting.specs.declared.Kind.{Kind}
 use Rattle.setting.specs.Setting.{blank}
 use Rattle.setting.specs.Announcing.{announced}
 use Rattle.setting_bytes.specs.Words.{word_bytes}
-use Rattle.setting_bytes.specs.Kinds.{kinds, is_kind, kind_of, kind_number}
+use Rattle.setting_bytes.specs.Kinds.{kinds, is_kind, kind_number}
 use Rattle.setting_bytes.specs.Settings.{part, announced_bytes, setting_length, setting_bytes, setting_of, announced_at, announced_length}
 use Rattle.setting.proofs.Fields.{fit_some}
 use Rattle.setting_bytes.proofs.KindsBack.{kind_same}

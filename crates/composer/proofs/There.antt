@@ -1,22 +1,25 @@
 -- Where a state's bytes have what the calls look at. Assumes nothing.
 use Prim.Native.Nat.{ℕ, ◌+◌, ◌<◌}
-use mathlib.Core.Path.{◌≡◌, refl, ap, ◌∙◌}
-use mathlib.Core.Bool.{false}
-use mathlib.Core.List.{List, [], ◌++◌, append-nil}
+use mathlib.Core.Path.{◌≡◌, refl, sym, ap, ◌∙◌}
+use mathlib.Core.Bool.{false, not}
+use mathlib.Core.List.{List, [], ◌∷◌, ◌++◌, append-nil}
 use native.Mathlib.Omega.{arith}
-use borrow.Author.Tests.{eq-eqb}
+use borrow.Author.Tests.{eq-eqb, ne_eqb}
 use lib.Dec.{eqb}
 use lib.ListN.{length, get_or, take, drop, length-drop, drop_of_length-le, get_or-map}
 use lib.Seq.{get_or-take, get_or-drop}
 use Rattle.slices.proofs.Front.{put}
 use Rattle.setting.specs.declared.Kind.{Kind}
+use Rattle.setting.specs.Refusal.{Check, first_of}
 use Rattle.setting.specs.Size.{slots_of}
+use Rattle.setting.proofs.Refusals.{answers, passed}
 use Rattle.packet.specs.Packets.{frame_length}
 use Rattle.setting_bytes.specs.Words.{word_at}
 use Rattle.setting_bytes.specs.Kinds.{kind_of}
 use Rattle.setting_bytes.specs.Settings.{part, announced_length, announced_of, setting_length, setting_of, announced_at, numbers_at}
 use Rattle.setting_bytes.proofs.Parts.{length_part}
 use Rattle.setting_bytes.proofs.Same.{part_inside}
+use Rattle.composer.specs.Composing.{length_check}
 use Rattle.composer.specs.States.{composer_length, marks_of, composer_of, filled_at, kind_at, plan_at, said_at, setting_at, streams_at}
 use Rattle.counters.specs.Counters.{last_slot}
 
@@ -66,6 +69,14 @@ pub frame_there : (b : List ℕ) {kind : Kind} {lent : ℕ} → kind ≡ kind_of
     → lent ≡ frame_length (slots_of (composer_of b).kind)
 unfolding composer_of
 frame_there b k e = e ∙ ap (λ (t : Kind). frame_length (slots_of t)) k
+
+-- a lent frame that is not of the run's kind, and one that is
+module _ (b : List ℕ) {kind : Kind} (k : kind ≡ kind_of (get_or b kind_at 0)) (lent : ℕ) {n : ℕ} (e : n ≡ frame_length (slots_of kind)) (cs : List Check) where
+  pub frame_off : (lent ≡ n → ⊥) → 1 ≡ first_of (length_check (composer_of b) lent ∷ cs)
+  frame_off other = sym (answers _ _ (ap not (ne_eqb _ _ (λ s. other (s ∙ sym (frame_there b k e))))))
+
+  pub frame_fits : lent ≡ n → first_of (length_check (composer_of b) lent ∷ cs) ≡ first_of cs
+  frame_fits s = passed _ _ (ap not (eq-eqb _ _ (s ∙ frame_there b k e)))
 
 -- what bytes say as marks, one by one
 pub mark_at : (bytes : List ℕ) (i : ℕ) → get_or (marks_of bytes) i false ≡ eqb (get_or bytes i 0) 1

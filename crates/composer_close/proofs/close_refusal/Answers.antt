@@ -1,21 +1,19 @@
 -- `close_refusal` meets its contract. Assumes nothing.
 use Prim.Native.Nat.{ℕ}
-use mathlib.Core.Path.{◌≡◌, sym, ap, ◌∙◌}
-use mathlib.Core.Bool.{not}
+use mathlib.Core.Path.{◌≡◌, sym, ◌∙◌}
 use mathlib.Core.List.{List, ◌++◌}
 use borrow.Author.Rules.{rules}
-use borrow.Author.Tests.{eq-eqb, ne_eqb}
 use lib.ListN.{length, get_or}
 use Rattle.refusals.proofs.Refusals.{is_some_number}
 use Rattle.setting.specs.declared.Kind.{Kind}
 use Rattle.setting.specs.Size.{slots_of}
 use Rattle.setting.specs.Refusal.{first_of, of_length}
-use Rattle.setting.proofs.Refusals.{answers, passed, onward, at_once, at_length}
+use Rattle.setting.proofs.Refusals.{at_length}
 use Rattle.setting_bytes.specs.Kinds.{kind_of}
 use Rattle.composer.specs.Composing.{Composer, state_checks, open_checks, close_refusal}
 use Rattle.composer.proofs.Refusals.{state_refused, state_passed}
 use Rattle.composer.specs.States.{composer_length, kind_at, composer_of}
-use Rattle.composer.proofs.There.{frame_there}
+use Rattle.composer.proofs.There.{frame_off, frame_fits}
 use Rattle.packet.specs.Packets.{frame_length}
 use Rattle.composer_close.proofs.close_refusal.Goals as goal
 
@@ -25,12 +23,12 @@ module _ (state : List ℕ) (lent : ℕ) (long : length state ≡ composer_lengt
 
   off : (lent ≡ n → ⊥) → 1 ≡ close_refusal run lent
   unfolding close_refusal
-  off other = sym (answers _ _ (ap not (ne_eqb _ _ (λ s. other (s ∙ sym (frame_there state kind e))))))
+  off = frame_off state kind lent e _
 
   module _ (fits : lent ≡ n) where
     past : close_refusal run lent ≡ first_of (state_checks run ++ open_checks run)
     unfolding close_refusal
-    past = passed _ _ (ap not (eq-eqb _ _ (fits ∙ frame_there state kind e)))
+    past = frame_fits state kind lent e _ fits
 
     by_state : {m : ℕ} → m ≡ of_length composer_length (length state) (first_of (state_checks run)) → (m ≡ 0 → ⊥) → m ≡ close_refusal run lent
     by_state = state_refused run (length state) long (open_checks run) past

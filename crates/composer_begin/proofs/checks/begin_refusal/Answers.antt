@@ -1,17 +1,15 @@
 -- `begin_refusal` meets its contract, check by check. Assumes nothing.
 use Prim.Native.Nat.{ℕ}
 use mathlib.Core.Path.{◌≡◌, sym, ap, ◌∙◌}
-use mathlib.Core.Bool.{not}
 use mathlib.Core.List.{List, ◌++◌}
 use borrow.Author.Rules.{rules}
-use borrow.Author.Tests.{eq-eqb, ne_eqb}
 use lib.ListN.{length, get_or}
 use Rattle.refusals.proofs.Refusals.{is_some_number}
 use Rattle.setting.specs.declared.Kind.{Kind}
 use Rattle.setting.specs.declared.Setting.{Setting}
 use Rattle.setting.specs.Refusal.{Check, first_of, of_length}
 use Rattle.setting.specs.Rules.{width_checks, rule_checks}
-use Rattle.setting.proofs.Refusals.{answers, passed, onward, at_once, at_length}
+use Rattle.setting.proofs.Refusals.{onward, at_once, at_length}
 use Rattle.setting.proofs.Checked.{width_none}
 use Rattle.setting.specs.Size.{slots_of}
 use Rattle.packet.specs.Packets.{frame_length}
@@ -20,7 +18,7 @@ use Rattle.composer.proofs.Refusals.{state_refused, state_passed}
 use Rattle.setting_bytes.specs.Kinds.{kind_of}
 use Rattle.setting_bytes.specs.Settings.{setting_length, setting_of}
 use Rattle.composer.specs.States.{composer_length, kind_at, composer_of}
-use Rattle.composer.proofs.There.{kind_there, frame_there}
+use Rattle.composer.proofs.There.{kind_there, frame_off, frame_fits}
 use Rattle.composer_begin.proofs.Turns.{both_rules_none}
 use Rattle.composer_begin.proofs.checks.begin_refusal.Goals as goal
 
@@ -51,12 +49,12 @@ module _ (state setting : List ℕ) (lent : ℕ) (long : length state ≡ compos
   module _ (k : Kind) (kind : k ≡ kind_of (get_or state kind_at 0)) where
     off : {n : ℕ} → n ≡ frame_length (slots_of k) → (lent ≡ n → ⊥) → 1 ≡ all
     unfolding begin_refusal
-    off e other = sym (answers _ _ (ap not (ne_eqb _ _ (λ s. other (s ∙ sym (frame_there state kind e))))))
+    off e = frame_off state kind lent e _
 
     module _ {n : ℕ} (e : n ≡ frame_length (slots_of k)) (fits : lent ≡ n) where
       past_length : all ≡ first_of (states ++ (widths ++ (its_rules ++ marks)))
       unfolding begin_refusal
-      past_length = passed _ _ (ap not (eq-eqb _ _ (fits ∙ frame_there state kind e)))
+      past_length = frame_fits state kind lent e _ fits
 
       by_state : {m : ℕ} → m ≡ of_length composer_length (length state) (first_of states) → (m ≡ 0 → ⊥) → m ≡ all
       by_state = state_refused run (length state) long (widths ++ (its_rules ++ marks)) past_length

@@ -23,7 +23,7 @@ use Rattle.packet.specs.Packets.{packet_length, frame_length}
 use Rattle.composer.specs.Composing.{Composer, state_checks, open_checks, stream_checks, put_refusal}
 use Rattle.composer.proofs.Refusals.{open_none, state_refused, state_passed}
 use Rattle.composer.specs.States.{composer_length, kind_at, composer_of}
-use Rattle.composer.proofs.There.{kind_there, frame_there}
+use Rattle.composer.proofs.There.{kind_there, frame_off, frame_fits}
 use Rattle.composer_put.proofs.Streams.{at_least, outside}
 use Rattle.composer_put.proofs.checks.frame_refusal.Goals as goal
 
@@ -65,17 +65,17 @@ module _ (state : List ℕ) (r : ℕ) (stream : List ℕ) (lent : ℕ) (long : l
   module _ (k : Kind) (kind : k ≡ kind_of (get_or state kind_at 0)) {n : ℕ} (e : n ≡ frame_length (slots_of k)) where
     off : (lent ≡ n → ⊥) → all ≡ 1
     unfolding put_refusal
-    off other = answers _ _ (ap not (ne_eqb _ _ (λ s. other (s ∙ sym (frame_there state kind e)))))
+    off other = sym (frame_off state kind lent e _ other)
 
     module _ (fits : lent ≡ n) where
       parted : (length stream % packet_length ≡ 0 → ⊥) → all ≡ 1
       unfolding put_refusal
-      parted h = passed _ _ (ap not (eq-eqb _ _ (fits ∙ frame_there state kind e))) ∙ answers _ _ (ap not (ne_eqb _ _ h))
+      parted h = frame_fits state kind lent e _ fits ∙ answers _ _ (ap not (ne_eqb _ _ h))
 
       module _ (whole : length stream % packet_length ≡ 0) where
         past_lengths : all ≡ first_of (states ++ numbers)
         unfolding put_refusal
-        past_lengths = passed _ _ (ap not (eq-eqb _ _ (fits ∙ frame_there state kind e))) ∙ passed _ _ (ap not (eq-eqb _ _ whole))
+        past_lengths = frame_fits state kind lent e _ fits ∙ passed _ _ (ap not (eq-eqb _ _ whole))
 
         by_state : {m : ℕ} → m ≡ of_length composer_length (length state) (first_of states) → (m ≡ 0 → ⊥) → Says m
         by_state told some = says some (sym (state_refused run (length state) long numbers past_lengths told some))
