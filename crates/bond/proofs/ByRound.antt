@@ -113,8 +113,6 @@ due-from carriers frames v h e =
 -- ---- a round noted, one step after another
 
 module _ (carriers : ℕ) (frames : List ℕ) where
-  pub noted_none : {notes : List Note} → length notes ≡ round_steps → Noted carriers frames notes 0 0
-  noted_none h = record { left = refl; those = omega arith; few = omega arith; each = λ e l. absurd (omega arith); long = h }
 
   module _ {notes : List Note} {n v : ℕ} (c : Noted carriers frames notes n v) (h : v < round_steps) where
     -- the step looks at a place
@@ -292,11 +290,6 @@ module _ (slots : List ℕ) (notes : List Note) (list₀ : List ℕ) (q noted : 
   marked_from e h i =
       let left : noted - e ≡ suc (noted - (e + 1)) = omega arith in
       ap (marked_in slots notes q e) left ∙ ap (λ (b : Bool). cond b (packet_in notes q e ∷ []) [] ++ marked (e + 1)) i
-
-  pub going_none : Going list₀ 0 0
-  going_none =
-      let all : noted - 0 ≡ noted = omega arith in
-      record { same = ap (marked_in slots notes q 0) all; few = omega arith; early = omega arith; long = refl }
 
   module _ (room : noted < length list₀) {list : List ℕ} {n e : ℕ} (g : Going list n e) where
     pub going_all : noted ≤ e

@@ -52,10 +52,6 @@ module _ (z : Size) (ps : List Line) (s : Sized z) where
   unfolding laid_out place
   numbers_place = let b = s.stream_bytes in omega arith
 
-  pub private_place : place (rows_of (table_of z ps)) 17 ≡ private_start z * 8
-  unfolding laid_out place
-  private_place = let b = s.stream_bytes in let c = s.number-bytes in let e = first-place (rows_of ps) in omega arith
-
 -- the bits before the CRC, which every kind fills
 abbrev pub body_bits : ℕ
 body_bits = 1472

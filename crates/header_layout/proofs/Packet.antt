@@ -23,16 +23,6 @@ differs {v} n e h = ap not (ne_eqb v n (λ d. h (sym e ∙ d)))
 pub agrees : {v x : ℕ} (n : ℕ) → v ≡ x → x ≡ n → not (eqb v n) ≡ false
 agrees {v} n e h = ap not (eq-eqb v n (e ∙ h))
 
--- of two such tests, one that fails
-pub first_differs : {v x : ℕ} (n : ℕ) (b : Bool) → v ≡ x → (x ≡ n → ⊥) → not (eqb v n && b) ≡ true
-first_differs {v} n b e h = ap (λ (t : Bool). not (t && b)) (ne_eqb v n (λ d. h (sym e ∙ d)))
-
-pub second_differs : {v x : ℕ} (n : ℕ) (b : Bool) → v ≡ x → (x ≡ n → ⊥) → not (b && eqb v n) ≡ true
-second_differs {v} n b e h = ap (λ (t : Bool). not (b && t)) (ne_eqb v n (λ d. h (sym e ∙ d))) ∙ ap not (and-false b)
-
-pub both_agree : {v w x y : ℕ} (m n : ℕ) → v ≡ x → x ≡ m → w ≡ y → y ≡ n → not (eqb v m && eqb w n) ≡ false
-both_agree {v} {w} m n e h f g = ap₂ (λ (a b : Bool). not (a && b)) (eq-eqb v m (e ∙ h)) (eq-eqb w n (f ∙ g))
-
 module _ (p : List ℕ) (f : Fit 8 p) (l : length p ≡ header_length) where
   pub reads_sync_byte : start_value p Field.sync_byte_field ≡ get_or p 0 0
   unfolding start_table row_with decide row_at place cut

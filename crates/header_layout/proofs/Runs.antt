@@ -128,13 +128,6 @@ module _ (values part : List ℕ) (w held bits at i : ℕ) (t : Taken values par
 pub no_wrap : (w x : ℕ) → w ≤ 8 → x % 256 * 2 ^ w % 2 ^ 32 ≡ x % 256 * 2 ^ w
 no_wrap w x h = shl_exact 8 w 32 (mod-lt x (lit< tt)) (omega arith)
 
-pub moved_fits : (w x v : ℕ) → w ≤ 8 → v < 256 → x % 256 * 2 ^ w % 2 ^ 32 + v % 2 ^ w < 2 ^ 32
-moved_fits w x v h b =
-    let m : x % 256 * 2 ^ w < 2 ^ (8 + w) = shl_lt 8 w (mod-lt x (lit< tt)) in
-    let few : 8 + w ≤ 16 = omega arith in
-    let l : 2 ^ (8 + w) ≤ 2 ^ 16 = pow_mono few in
-    rw (no_wrap w x h) (omega (arith, mod-le v (2 ^ w)))
-
 -- a whole byte of the bits of n values, one more than `at`, has its place
 pub byte_has_room : (n w at bits i : ℕ) → i < n → at * 8 + bits ≡ (i + 1) * w → 8 ≤ bits → at < n * w / 8
 byte_has_room n w at bits i h e full =
@@ -151,6 +144,3 @@ byte_is_there n w at bits i len h e few all =
 -- the limit of a width: its power, which is no zero and no more than a byte's
 pub limit_is : (w : ℕ) → w ≤ 8 → 1 * 2 ^ w % 2 ^ 32 ≡ 2 ^ w
 limit_is w h = shl_exact 1 w 32 (lit< tt) (omega arith) ∙ one-mul (2 ^ w)
-
-pub limit_small : (w : ℕ) → w ≤ 8 → 2 ^ w ≤ 256
-limit_small w h = pow_mono h

@@ -46,9 +46,6 @@ module _ {A : Type 0} where
           left = onward ys rest e;
         }
 
-    pub toward_length : i ≤ length d₀ → length d ≡ length d₀
-    toward_length h = front_length d₀ t.done d i t.front h
-
     -- what is to follow is there already
     pub toward_all : drop i d₀ ≡ next → d ≡ whole
     toward_all e = t.front.is ∙ ap (λ (l : List A). t.done ++ l) e ∙ t.left

@@ -83,9 +83,6 @@ spare = replicate 4 0
 abbrev pub Filling : List Bool → List ℕ → ℕ → Type 0
 Filling marks bits i = Toward (bits_from 0 marks ++ spare) (replicate 56 0) bits (bits_from i (drop i marks) ++ spare) i
 
-pub filling_none : (marks : List Bool) → Filling marks (replicate 56 0) 0
-filling_none marks = toward_none (replicate 56 0) (bits_from 0 marks ++ spare)
-
 module _ (marks : List Bool) (long : length marks ≡ last_slot) {bits : List ℕ} {i : ℕ} (f : Filling marks bits i) where
   -- one slot more
   pub filling_more : {bit : ℕ} → i < last_slot → bit ≡ cond (get_or marks i false) (2 ^ (i % 8)) 0 → Filling marks (set bits i bit) (i + 1)

@@ -14,9 +14,6 @@ use Rattle.counters.specs.Counters.{last_slot}
 abbrev pub Marking : List Bool → List Bool → ℕ → Type 0
 Marking made marks i = Toward made (replicate last_slot false) marks (drop i made) i
 
-pub marking_none : (made : List Bool) → Marking made (replicate last_slot false) 0
-marking_none made = toward_none (replicate last_slot false) made
-
 module _ (made : List Bool) (long : length made ≡ last_slot) {marks : List Bool} {i : ℕ} (m : Marking made marks i) where
   -- one slot more
   pub marking_more : {b : Bool} → i < last_slot → get_or made i false ≡ b → Marking made (set marks i b) (i + 1)
