@@ -36,10 +36,10 @@ overflow_add-counter c =
     let p = close_passed _ _ (sym c.in_ok-close_refusal.ensures) in
     omega (arith, counter_there c.in_ok-state.field-0.now p.open_state.counter, p.open_state.counter)
 
-pub next_version-version-requires : goal.next_version-version-requires
-next_version-version-requires c =
+pub next_version-version-requires-clause-version : goal.next_version-version-requires-clause-version
+next_version-version-requires-clause-version c =
     let p = close_passed _ _ (sym c.in_ok-close_refusal.ensures) in
-    record { bytes = search rules; version = p.open_state.version }
+    p.open_state.version
 
 pub slice_bounds-write_header-end : goal.slice_bounds-write_header-end
 slice_bounds-write_header-end c =

@@ -5,15 +5,11 @@ use borrow.Author.Rules.{rules}
 use borrow.Author.Tests.{eq-eqb, ne_eqb}
 use lib.Dec.{eqb}
 use lib.ListN.{length, get_or}
-use Rattle.slices.proofs.Toward.{toward_none}
 use Rattle.setting_bytes.specs.Settings.{part, numbers_at}
 use Rattle.counters.specs.Counters.{last_slot}
 use Rattle.composer_close.proofs.Numbers.{numbers_more, numbers_all, numbered}
 use Rattle.composer_close.proofs.header.number.Goals as goal
 use Rattle.composer_close.proofs.header.number.Goals.{else-marks-i-eq1, then-marks-i-eq1}
-
-pub loop-i-init : goal.loop-i-init
-loop-i-init c = toward_none _ _
 
 pub loop-i-preserved : goal.loop-i-preserved
 loop-i-preserved c =
