@@ -113,7 +113,6 @@ due-from carriers frames v h e =
 -- ---- a round noted, one step after another
 
 module _ (carriers : ℕ) (frames : List ℕ) where
-
   module _ {notes : List Note} {n v : ℕ} (c : Noted carriers frames notes n v) (h : v < round_steps) where
     -- the step looks at a place
     pub noted_more : is_due carriers frames v ≡ true → (p f : ℕ) → p ≡ packet_at frames v → f ≡ frames_of frames v

@@ -6,7 +6,6 @@ use borrow.Author.Tests.{ne_eqb}
 use lib.ListN.{length}
 use Rattle.setting.specs.Refusal.{leaves}
 use Rattle.header_layout.specs.Header.{reading}
-use Rattle.header_write.specs.Writing.{written}
 use Rattle.header_check.specs.Checking.{read_refusal, refusal_by}
 use Rattle.header_read.specs.Reader.{read_of}
 use Rattle.header_read.proofs.Coded.{reading-long}

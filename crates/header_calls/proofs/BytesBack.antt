@@ -4,7 +4,7 @@ use mathlib.Core.Path.{◌≡◌, refl, ap, ◌∙◌}
 use mathlib.Core.List.{List}
 use lib.ListN.{length}
 use Rattle.setting.specs.Refusal.{leaves}
-use Rattle.header_layout.specs.Header.{header_length, header}
+use Rattle.header_layout.specs.Header.{header_length}
 use Rattle.header_layout.proofs.Whole.{length-header}
 use Rattle.header_write.specs.Writing.{written}
 use Rattle.header_read.specs.Reader.{Reading}

@@ -3,10 +3,10 @@ use Prim.Native.Nat.{ℕ, suc, ◌+◌, ◌-◌, ◌*◌, ◌/◌, ◌%◌, ◌^
 use mathlib.Core.Path.{◌≡◌, refl, sym, ap, ap₂, ◌∙◌}
 use mathlib.Core.List.{List, [], ◌∷◌, ◌++◌, append_assoc}
 use native.Mathlib.Omega.{arith}
-use native.Mathlib.Nat.{suc-mul, zero-mul, mod-le, mod-lt, mul-le-mul_right, one-mul}
+use native.Mathlib.Nat.{suc-mul, zero-mul, mod-lt, mul-le-mul_right, one-mul}
 use native.Mathlib.Numerals.{add-one}
 use lib.Dec.{lit<}
-use lib.Pow.{shl_exact, shl_lt, pow_mono}
+use lib.Pow.{shl_exact}
 use lib.ListN.{length, take, drop, get_or, set}
 use lib.Seq.{take-suc, take-suc-set, drop-cons, take_at, drop_at, drop-drop}
 use Rattle.bits.specs.Fields.{bits_of, number, run, cut}

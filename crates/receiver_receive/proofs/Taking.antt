@@ -2,7 +2,7 @@
 use Prim.Native.Nat.{ℕ, ◌+◌, ◌*◌, ◌^◌, ◌≤◌, ◌<◌}
 use mathlib.Core.Path.{◌≡◌, refl, sym, ap, ap₂, ◌∙◌}
 use mathlib.Core.Bool.{true, false, not}
-use mathlib.Core.List.{List, [], ◌∷◌, ◌++◌, append-nil}
+use mathlib.Core.List.{List, [], ◌++◌, append-nil}
 use native.Mathlib.Omega.{arith}
 use borrow.Author.Tests.{eq-eqb, ne_eqb, lt-ltb, le-ltb}
 use lib.ListN.{length, get_or, set, replicate, take, drop, length-drop, length-append, drop_of_length-le}
@@ -28,7 +28,7 @@ use Rattle.receiver.specs.Bytes.{kind_at, stage_at, counter_at, stored_at, numbe
 use Rattle.receiver.specs.Calls.{lent_refusal, state_refused}
 use Rattle.receiver.proofs.LentRefusal.{one_anyway}
 use Rattle.receiver.proofs.Standing.{Stands, waits, opens, readies, standing, has_kind}
-use Rattle.receiver.proofs.Bytes.{stage-length, moved-bytes, renumbered-bytes, over-stage, front_kept, counted, unstaged}
+use Rattle.receiver.proofs.Bytes.{moved-bytes, renumbered-bytes, over-stage, front_kept, counted, unstaged}
 use Rattle.receiver_receive.proofs.Sorts.{other_sort}
 use Rattle.receiver_receive.proofs.Receipts.{sound_state, keeping, renumbering, other_receipt, other_store}
 

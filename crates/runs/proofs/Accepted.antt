@@ -1,6 +1,6 @@
 -- What is not refused, over the calls. Assumes nothing.
 use Prim.Native.Nat.{ℕ, ◌*◌, ◌≤◌}
-use mathlib.Core.Path.{◌≡◌, refl, sym, ap, ap₂, subst, ◌∙◌}
+use mathlib.Core.Path.{◌≡◌, sym, ap, ap₂, subst, ◌∙◌}
 use mathlib.Core.Bool.{true}
 use mathlib.Core.List.{List, [], ◌∷◌}
 use lib.ListN.{length}
@@ -11,7 +11,7 @@ use Rattle.setting_bytes.specs.Kinds.{kind_of}
 use Rattle.setting_bytes.specs.Settings.{setting_of}
 use Rattle.setting_bytes.proofs.Typed.{setting_typed}
 use Rattle.setting_bytes.proofs.Same.{setting_same}
-use Rattle.composer.specs.Composing.{Composer, answer, begin_refusal, begin_of, put_refusal, put_of, close_refusal, close_of, fresh}
+use Rattle.composer.specs.Composing.{Composer, answer, begin_refusal, begin_of, put_refusal, put_of, close_refusal, close_of}
 use Rattle.composer.specs.States.{composer_bytes, composer_of}
 use Rattle.composer.specs.Calls.{begin_refused, put_refused, close_refused}
 use Rattle.composer.proofs.Coding.{state_back}
@@ -26,11 +26,11 @@ use Rattle.receiver.proofs.OnBytes.{calls_on_bytes as receiver-on-bytes}
 use Rattle.runs.specs.Runs.{Each, none, more, Run, started, after}
 use Rattle.runs.specs.Work.{Work, no_work, work_after}
 use Rattle.runs.proofs.Reception.{Reception, fresh_with, after_packet}
-use Rattle.runs.specs.Firmware.{FirmwareCall, OfBytes, Multiplexer, started_as, after_call, after_calls, Demultiplexer, tuned_to, heard, heard_all, ready_bytes}
+use Rattle.runs.specs.Firmware.{FirmwareCall, OfBytes, Multiplexer, started_as, after_call, after_calls, Demultiplexer, tuned_to, heard, heard_all}
 use Rattle.runs.specs.Demands.{RunOfCalls}
 use Rattle.runs.specs.Accepted.{reached, BeginsAccepted, PutsAccepted, ClosesAccepted, Reached, reached_by, ReceivesAccepted, HandOutsAccepted}
 use Rattle.runs.proofs.Table.{Set, accepted}
-use Rattle.runs.proofs.Vouched.{Fits, not_refused}
+use Rattle.runs.proofs.Vouched.{not_refused}
 use Rattle.runs.specs.Composed.{valued}
 use Rattle.runs.proofs.Made.{Alike, alike_after}
 use Rattle.runs.proofs.Tuned.{Tuned, codable, tuned_heard, before_is}

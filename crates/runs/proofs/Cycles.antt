@@ -1,7 +1,7 @@
 -- Runs of which no call is refused: frame after frame begun, given one packet for stream 1, and closed. Assumes nothing.
-use Prim.Native.Nat.{ℕ, ◌+◌, ◌*◌, ◌%◌, ◌^◌, ◌<◌}
+use Prim.Native.Nat.{ℕ, ◌*◌, ◌%◌, ◌^◌}
 use mathlib.Core.Path.{◌≡◌, refl, sym, ap, ap₂, subst, ◌∙◌}
-use mathlib.Core.Bool.{Bool, true, false, not, decide}
+use mathlib.Core.Bool.{Bool, true, false, decide}
 use mathlib.Core.List.{List, [], ◌∷◌, ◌++◌, map}
 use native.Mathlib.Omega.{arith}
 use lib.Dec.{lit<}
@@ -23,7 +23,7 @@ use Rattle.header_layout.specs.Rows.{place, row_at}
 use Rattle.header_layout.specs.Meets.{MeetsRules}
 use Rattle.header_layout.specs.Layout.{start_table, row_with}
 use Rattle.packet.specs.Packets.{packet_length, frame_length, slot, unfit, some_unfit_in}
-use Rattle.composer.specs.Composing.{Composer, opened, marked, asked, begin_refusal, put_refusal, close_refusal}
+use Rattle.composer.specs.Composing.{Composer, opened, marked, begin_refusal, put_refusal, close_refusal}
 use Rattle.runs.specs.Runs.{Call, begin, put, close, Each, none, more, OfTypes, Run, started, refusal_of, after, frames_of}
 use Rattle.runs.specs.Work.{Work, added, work_after, done_by, works_of, no_work, headed, frame_of}
 use Rattle.runs.proofs.Carried.{length-slots}

@@ -1,7 +1,7 @@
 -- Demands 2 and 3 over the calls. Assumes nothing.
-use Prim.Native.Nat.{ℕ, zero, suc, ◌*◌, ◌≤◌}
+use Prim.Native.Nat.{ℕ, zero, suc, ◌≤◌}
 use mathlib.Core.Path.{◌≡◌, refl, sym, ap, ap₂, subst, ◌∙◌}
-use mathlib.Core.Bool.{Bool, true, false, not, false≢true}
+use mathlib.Core.Bool.{true, false, not, false≢true}
 use mathlib.Core.List.{List, [], ◌∷◌, ◌++◌, map, append-nil}
 use native.Mathlib.Omega.{arith}
 use borrow.Author.Tests.{not-false}
@@ -12,12 +12,11 @@ use Rattle.setting.specs.Refusal.{leaves}
 use Rattle.setting.specs.Size.{slots_of}
 use Rattle.setting.specs.Rules.{pid_allowed}
 use Rattle.setting.specs.Announcing.{announced}
-use Rattle.setting.specs.Setting.{blank}
 use Rattle.setting.proofs.Refusals.{none_first, none_at}
 use Rattle.setting_bytes.specs.Kinds.{is_kind, kind_of}
 use Rattle.packet.specs.Packets.{packet_length}
 use Rattle.composer.specs.Composing.{fresh}
-use Rattle.composer.specs.States.{composer_length, composer_bytes, OfItsTypes as StateOfItsTypes}
+use Rattle.composer.specs.States.{composer_length, OfItsTypes as StateOfItsTypes}
 use Rattle.composer.specs.Calls.{start_refused, start_state}
 use Rattle.receiver.specs.Store.{store_length, numbered}
 use Rattle.receiver.specs.Bytes.{receiver_length}
@@ -25,7 +24,7 @@ use Rattle.receiver.specs.Calls.{start_refused as receiver_refused, start_state 
 use Rattle.runs.specs.Runs.{Each, none, more, OfTypes, started, frames_of}
 use Rattle.runs.specs.Work.{no_work}
 use Rattle.runs.specs.Losses.{Sent, MayHappen, arriving, numbers_in, entire, wanted}
-use Rattle.runs.proofs.Reception.{fresh_with, handed_out}
+use Rattle.runs.proofs.Reception.{fresh_with}
 use Rattle.runs.specs.Firmware.{FirmwareCall, OfBytes, started_as, Closed, tuned_to}
 use Rattle.runs.specs.Demands.{RunOfCalls, frames_closed, FreshAndAsked, hands_out, AlwaysRoom, DemandThree, whole, header_alone, PacketForPacket, placed_in, RunForRun}
 use Rattle.setting_bytes.proofs.Typed.{blank_types}

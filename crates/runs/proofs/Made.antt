@@ -26,7 +26,7 @@ use Rattle.composer.specs.States.{composer_length, composer_bytes, OfItsTypes as
 use Rattle.composer.specs.Calls.{begin_refused, begin_state, begin_memory, put_placed, put_state, put_memory, close_refused, close_state, close_memory}
 use Rattle.composer.proofs.OnBytes.{calls_on_bytes}
 use Rattle.receiver.specs.Store.{numbered, slots_for}
-use Rattle.runs.specs.Runs.{begin, put, close, Each, none, more, OfTypes, Run, refusal_of, after, closed_by, frames_of}
+use Rattle.runs.specs.Runs.{put, close, Each, none, more, OfTypes, Run, refusal_of, after, closed_by, frames_of}
 use Rattle.runs.specs.Work.{Work, added, work_after, said, frame_of}
 use Rattle.runs.specs.Losses.{numbers_in}
 use Rattle.runs.specs.Firmware.{FirmwareCall, begins, puts, closes, OfBytes, Multiplexer, answered, put_front, after_call, Closed, closed_in, closed_frames}

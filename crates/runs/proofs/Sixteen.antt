@@ -23,7 +23,6 @@ use Rattle.setting_bytes.proofs.KindsBack.{kind_back}
 use Rattle.counters.specs.Counters.{available}
 use Rattle.setting.specs.Rules.{some_unavailable, pair_twice, absent_checks, width_checks, bonding_checks, rule_checks}
 use Rattle.setting_bytes.specs.Settings.{announced_bytes, setting_bytes}
-use Rattle.setting_bytes.proofs.Back.{long}
 use Rattle.setting.specs.Refusal.{first_of}
 use Rattle.setting.specs.Size.{size_of, slots_of}
 use Rattle.setting.proofs.Refusals.{none_at}

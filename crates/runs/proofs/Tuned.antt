@@ -1,16 +1,16 @@
 -- A receiver's bytes go along with its state as a value, packet by packet. Assumes nothing.
-use Prim.Native.Nat.{ℕ, suc, ◌+◌, ◌*◌, ◌^◌, ◌≤◌, ◌<◌}
+use Prim.Native.Nat.{ℕ, suc, ◌+◌, ◌*◌, ◌≤◌}
 use mathlib.Core.Path.{◌≡◌, refl, sym, ap, ap₂, subst, ◌∙◌}
-use mathlib.Core.Bool.{Bool, true, false, cond, not, ◌&&◌, false≢true}
+use mathlib.Core.Bool.{Bool, true, false, cond, ◌&&◌, false≢true}
 use mathlib.Core.List.{List, [], ◌∷◌, ◌++◌}
 use native.Mathlib.Omega.{arith}
 use native.Mathlib.Decide.{ℕ_discrete}
-use borrow.Author.Tests.{eq-eqb, ne_eqb}
+use borrow.Author.Tests.{ne_eqb}
 use lib.Dec.{eqb, ltb}
 use lib.ListN.{length, take}
 use Rattle.setting.specs.declared.Kind.{Kind}
 use Rattle.setting.specs.Refusal.{first_of, leaves}
-use Rattle.setting.specs.Rules.{pid_allowed, width_checks, rule_checks}
+use Rattle.setting.specs.Rules.{width_checks, rule_checks}
 use Rattle.setting.proofs.Refusals.{none_before, none_at}
 use Rattle.setting.proofs.Fields.{at_most, narrow}
 use Rattle.setting.proofs.Sizes.{fit_four}
@@ -37,7 +37,7 @@ use Rattle.receiver.proofs.OnBytes.{numbers_said, calls_on_bytes}
 use Rattle.runs.proofs.Reception.{Reception, after_packet, handed, handed_out}
 use Rattle.runs.specs.Firmware.{Demultiplexer, heard, says_ready, given, given_out, ready_bytes, WithRoom}
 use Rattle.runs.proofs.Table.{Asked, Set, event_is, after_is, bad_set}
-use Rattle.runs.proofs.Vouched.{GoodHeader, good_set, Fits, fits_all, handed_is}
+use Rattle.runs.proofs.Vouched.{GoodHeader, good_set, fits_all, handed_is}
 
 -- ---- a receiver stays in range, whatever it is given
 

@@ -1,7 +1,7 @@
 -- What is not refused: on every state that calls can reach, as statements. The proofs stand apart.
 use Rattle.std.specs.Prelude.{ℕ, ◌%◌, ◌≤◌, ◌≡◌, true, false, List, length}
 use Rattle.bits.specs.Fields.{Fit}
-use Rattle.counters.specs.Counters.{first_stream, last_stream, available}
+use Rattle.counters.specs.Counters.{first_stream, available}
 use Rattle.setting.specs.Size.{slots_of, streams_of}
 use Rattle.header_layout.specs.Meets.{MeetsRules}
 use Rattle.packet.specs.Packets.{packet_length, frame_length, some_unfit_in}

@@ -9,7 +9,7 @@ use Rattle.composer.specs.Calls.{start_refused}
 use Rattle.receiver.specs.Store.{store_length}
 use Rattle.receiver.specs.Calls.{start_refused as receiver_refused}
 use Rattle.runs.specs.Runs.{Each}
-use Rattle.runs.specs.Firmware.{FirmwareCall, OfBytes, started_as, Closed, closed_frames, Demultiplexer, tuned_to, given_out, WithRoom}
+use Rattle.runs.specs.Firmware.{FirmwareCall, OfBytes, started_as, Closed, closed_frames, tuned_to, given_out, WithRoom}
 use Rattle.runs.specs.Losses.{kept, Sent, MayHappen, InARowAtMost, arriving, wanted}
 
 -- A run: the composer was started with this PID and this kind, and any calls followed

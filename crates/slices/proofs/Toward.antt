@@ -5,7 +5,7 @@ use mathlib.Core.Path.{◌≡◌, refl, sym, ap, subst, ◌∙◌}
 use mathlib.Core.List.{List, [], ◌∷◌, ◌++◌, append_assoc}
 use native.Mathlib.Omega.{arith}
 use lib.ListN.{length, take, drop, set}
-use Rattle.slices.proofs.Front.{Front, put, front_none, front-more, front_kept, front-part, front_length}
+use Rattle.slices.proofs.Front.{Front, put, front_none, front-more, front_kept, front-part}
 
 -- d is d₀ with i elements of `whole` over its front, behind which `whole` has `next`
 pub record Toward {A : Type 0} (whole d₀ d next : List A) (i : ℕ) : Type 0 where

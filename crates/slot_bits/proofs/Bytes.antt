@@ -9,7 +9,7 @@ use native.Mathlib.Omega.{arith}
 use lib.ListN.{length, get_or, take, drop, set, replicate, drop_of_length-le}
 use lib.Pow.{pow-add}
 use lib.Seq.{drop-cons, drop-drop}
-use Rattle.slices.proofs.Toward.{Toward, toward_none, toward_more, toward_all}
+use Rattle.slices.proofs.Toward.{Toward, toward_more, toward_all}
 use Rattle.counters.specs.Counters.{last_slot}
 use Rattle.slot_bits.specs.Bits.{as_bits, slots_as_bits, total, in_bytes}
 

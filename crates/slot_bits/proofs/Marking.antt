@@ -7,7 +7,7 @@ use native.Mathlib.Numerals.{add-one}
 use native.Mathlib.Omega.{arith}
 use lib.ListN.{length, get_or, drop, set, replicate, drop_of_length-le}
 use lib.Seq.{drop-cons}
-use Rattle.slices.proofs.Toward.{Toward, toward_none, toward_more, toward_all}
+use Rattle.slices.proofs.Toward.{Toward, toward_more, toward_all}
 use Rattle.counters.specs.Counters.{last_slot}
 
 -- the first i of them are made

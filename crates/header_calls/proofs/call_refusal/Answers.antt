@@ -7,7 +7,6 @@ use Rattle.header_layout.specs.Header.{header_length}
 use Rattle.setting_bytes.specs.Kinds.{kinds}
 use Rattle.setting_bytes.specs.Settings.{setting_length}
 use Rattle.header_calls.specs.Calls.{call_refused}
-use borrow.Author.Rules.{rules}
 use Rattle.header_calls.proofs.call_refusal.Goals as goal
 
 pub returns-then-packet-ne-PACKET_BYTES : goal.returns-then-packet-ne-PACKET_BYTES

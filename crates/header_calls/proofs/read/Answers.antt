@@ -1,12 +1,12 @@
 -- `read` meets its contract. Assumes nothing.
-use mathlib.Core.Path.{◌≡◌, refl, sym, ap, ◌∙◌}
+use mathlib.Core.Path.{◌≡◌, sym, ap, ◌∙◌}
 use borrow.Author.Rules.{rules}
 use Rattle.std.specs.Prelude.{Err}
 use Rattle.refusals.proofs.Refusals.{is_some_number}
 use Rattle.setting.specs.declared.Kind.{Kind}
 use Rattle.setting_bytes.specs.Kinds.{kind_of}
 use Rattle.header_check.specs.declared.Refused.{Refused}
-use Rattle.header_check.specs.OnPaper.{Refusal, refusal_in}
+use Rattle.header_check.specs.OnPaper.{refusal_in}
 use Rattle.header_read.specs.Reader.{into_refused, into_memory}
 use Rattle.header_calls.proofs.Called.{called}
 use Rattle.header_calls.proofs.ReadCall.{when_call_refused, call_granted}

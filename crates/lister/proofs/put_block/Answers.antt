@@ -1,6 +1,5 @@
 -- `put_block` meets its contract: a call whose numbers fit and that has room lists. Assumes nothing.
 use mathlib.Core.Path.{◌≡◌, refl, ap, ◌∙◌}
-use Rattle.io.specs.Counts.{IsPrefixLen}
 use Rattle.std.specs.Prelude.{ℕ, Result, Ok, Err}
 use Rattle.std.specs.Result.{result_unwrap_or}
 use Rattle.refusals.specs.declared.Refusal.{Refusal}

@@ -1,10 +1,9 @@
 -- `list` meets its contract: a call is refused, or lists. Assumes nothing.
-use mathlib.Core.Path.{◌≡◌, refl, sym, ap, ◌∙◌}
+use mathlib.Core.Path.{◌≡◌, refl, sym, ap}
 use borrow.Author.Rules.{rules}
 use lib.ListN.{length}
 use Rattle.std.specs.Prelude.{ℕ, Result, Err}
 use Rattle.refusals.specs.declared.Refusal.{Refusal}
-use Rattle.refusals.specs.Refusals.{number}
 use Rattle.refusals.proofs.Refusals.{is_some_number}
 use Rattle.listing.specs.Listing.{listed_in}
 use Rattle.listing.proofs.Calls.{let_through, stopped, done}

@@ -21,7 +21,6 @@ use Rattle.receiver.specs.Calls.{lent_refusal}
 use Rattle.receiver.proofs.Answers.{Receives, when_receive_refused, receives}
 use Rattle.receiver.proofs.LentRefusal.{no_length, lent_accepted}
 use Rattle.receiver_receive.specs.Receive.{told_in}
-use Rattle.receiver_receive.specs.Usual.{Usual}
 use Rattle.receiver_receive.proofs.Receipts.{whole_packet, whole_store, unfit_store}
 use Rattle.receiver_receive.proofs.Taking.{stored_on}
 use Rattle.receiver_receive.proofs.receive.Goals as goal

@@ -3,7 +3,7 @@ use Prim.Native.Nat.{◌<◌}
 use mathlib.Core.Path.{sym, ◌∙◌}
 use native.Mathlib.Omega.{arith}
 use lib.ListN.{length}
-use Rattle.bond.proofs.ByRound.{Reckoned, reckoned, going_more, going_less, going_all}
+use Rattle.bond.proofs.ByRound.{going_more, going_less, going_all}
 use Rattle.bond.proofs.rounds.list_round.Goals as goal
 use Rattle.bond.proofs.rounds.list_round.Goals.{else-is_marked, then-is_marked}
 

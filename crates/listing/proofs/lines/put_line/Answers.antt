@@ -1,5 +1,4 @@
 -- `put_line` meets its contract: the number, and behind it what the reading says. Assumes nothing.
-use mathlib.Core.Path.{ap, sym}
 use native.Mathlib.Omega.{arith}
 use borrow.Author.Tests.{ne_eqb}
 use Rattle.refusals.proofs.Refusals.{is_some_number}
