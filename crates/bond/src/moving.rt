@@ -1,5 +1,5 @@
-// Moves a stream's packets to and from the marked places of a group, a round at a time: so the list of places stays short. It is made once
-// for all rounds: made anew in each, it costs 5 % of the speed.
+// Moves a stream's packets to and from the marked places of a group, a round at a time: so the list of places stays short. Its room is made
+// once for all rounds: made anew in each, it costs 5 % of the speed.
 ghost use Rattle.std.specs.Prelude.{◌≡◌, ◌+◌, ◌*◌, ◌≤◌, length, take, drop};
 ghost use Rattle.slices.specs.Slices.{copied, over};
 ghost use Rattle.packet.specs.Packets.{packet_length};

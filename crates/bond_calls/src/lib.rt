@@ -27,8 +27,6 @@ pub extern "C" fn niranbok_read_headers(
     ensures packets_after { packets.new ≡ (planned_of (bond_of carriers pid ts_id original_network_id) group.now).plan.packets }
 {
     // This call has no use for the plan itself: it lends no room for it.
-    let mut frames = [0u8; 1];
-    let mut slots = [0u64; 1];
     let headers = bond_group::read_headers(
         group,
         Bond {
@@ -37,8 +35,8 @@ pub extern "C" fn niranbok_read_headers(
             ts_id,
             original_network_id,
         },
-        &mut frames[0..0],
-        &mut slots[0..0],
+        &mut [],
+        &mut [],
     );
     *is_carried = 0;
     *packets = 0;

@@ -54,7 +54,8 @@ pub fn close(state: &mut [u8], frame: &mut [u8]) -> Result<(), Refusal>
     let kind = setting_bytes::kind_of(state[KIND]);
     let counter = (state[COUNTER] + 1) % 16;
     let version = header::next_version(state);
-    // The checks have made sure that this setting obeys the rules. By slices: a part of an array that was lent has no proof.
+    // The checks have made sure that this setting obeys the rules. The parts that go on from here are cut from the slice: the prover does not
+    // follow a part with a start of an array that was lent.
     header::say(&mut state.as_mut_slice()[SETTING..], counter, version);
     header_write::write_header(
         &mut frame[0..PACKET_BYTES],

@@ -29,12 +29,7 @@ pub(crate) fn empty_slots(plan: &[u8], filled: &[u8], r: RelativeNumber) -> u64
 pub(crate) fn packets_for(slots: u64, bytes: usize) -> usize
     ensures { result ≡ min (bytes / packet_length) (ones slots) }
 {
-    let empty = u64::count_ones(slots) as usize;
-    let packets = bytes / PACKET_BYTES;
-    if packets < empty {
-        return packets;
-    }
-    empty
+    (bytes / PACKET_BYTES).min(slots.count_ones() as usize)
 }
 
 // Where a slot's packet starts in the frame.

@@ -26,8 +26,8 @@ pub fn is_within(first: u8, last: u8, n: u8) -> bool
     first <= n && n <= last
 }
 
-// The number itself, if it is within its range. Each of the three types has a constructor of its own above this, since the scope document wants three
-// types with their own first and last value.
+// The number itself, if it is within its range. Each of the three types has a constructor of its own over this, since none of
+// them is ever passed for another.
 fn checked(first: u8, last: u8, n: u8) -> Result<u8, Refusal>
     ensures { answered (λ v. v) result ≡ checked first last n }
 {

@@ -64,9 +64,9 @@ impl Distance {
     }
 }
 
-// The lowest byte of `x`, `n` shifts on. The register has 64 bits, so that nothing falls out of it. The compiler makes a loop for each
-// number of `one`, and of each loop one look into a table. It does so only where `one` stands in the loop and `r` is shifted in one place.
-// With the number as an argument there would be no table, and all would take five times as long.
+// The lowest byte of `x`, `n` shifts on. The register has 64 bits, so that nothing falls out of it. For each
+// distance the compiler makes a loop of its own, and then a look into a table in place of the loop. It does so only where `one` stands in the loop and
+// `r` is shifted in one place. With the number of `one` as an argument there would be no table, and all would take five times as long.
 fn byte_on(x: u64, n: Distance) -> u64
     ensures { Ahead n.shifts 8 x result }
 {
@@ -96,7 +96,7 @@ fn low_on(x: u64, n: Distance) -> u64
 }
 
 // The 64 bits of `x`, `n` shifts on. The high half stands 32 bits before the low one, so it goes 32 shifts further. Both distances are made here from
-// one number, so the fact that they are in use is a clause here, and in `Distance` everywhere else.
+// one number, so here a clause says that they are in use. Elsewhere `Distance` says it.
 fn long_on(x: u64, n: u32) -> u64
     requires { Tabled n × Tabled (n + 32) }
     ensures { reduced result ≡ shifts n (reduced x) }

@@ -1,5 +1,5 @@
 // The call that writes a header. It has a crate of its own: in one crate with the call that reads, the compiler would make the CRC a shared
-// function instead of inlining it, and writing would take a tenth longer.
+// function instead of inlining it, and writing would take 15 % longer.
 #![tactic(auto)]
 
 ghost use Rattle.std.specs.Prelude.{◌≡◌};

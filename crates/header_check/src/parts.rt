@@ -149,7 +149,7 @@ fn has_pair_twice(packet: &[u8; HEADER_LENGTH], kind: Kind, availability: u16) -
     )
 }
 
-// The bonding fields: those of the packet for an extended header, zeros for any other.
+// The bonding fields: those of the packet for an extended header, zeros for any other. Bytes that are not checked yet, so no part of `Said`.
 #[derive(Clone, Copy)]
 struct Bonding {
     group_id: u8,

@@ -13,27 +13,14 @@ ghost use Rattle.header_layout.specs.Header.{paired, line_bits, body};
 use crate::packed;
 use counters::SHORT_SLOTS;
 use setting::{AUXILIARY_BYTES, Kind, PRIVATE_BYTES};
+use setting_bytes::in_setting::{
+    AVAILABILITY, AVAILABILITY_LOW, EMERGENCY, FRAME_TYPE, NETWORK_IDS, SLOT_ALLOCATION_TYPE,
+    STATUSES, STREAM_IDS,
+};
 use setting_bytes::{
-    ANNOUNCED, AUXILIARY, BONDING, CARRIERS, COUNTER, FRAMES, NUMBERS, POSITION, PRIVATE, SEQUENCE,
+    AUXILIARY, BONDING, CARRIERS, COUNTER, FRAMES, NUMBERS, POSITION, PRIVATE, SEQUENCE,
     SETTING_BYTES, VERSION,
 };
-
-// Where what is announced stands in a setting.
-const SLOT_ALLOCATION_TYPE: usize = ANNOUNCED + setting_bytes::SLOT_ALLOCATION_TYPE;
-
-const FRAME_TYPE: usize = ANNOUNCED + setting_bytes::FRAME_TYPE;
-
-const AVAILABILITY: usize = ANNOUNCED + setting_bytes::AVAILABILITY;
-
-const AVAILABILITY_LOW: usize = ANNOUNCED + setting_bytes::AVAILABILITY_LOW;
-
-const STREAM_IDS: usize = ANNOUNCED + setting_bytes::TS_ID;
-
-const NETWORK_IDS: usize = ANNOUNCED + setting_bytes::ORIGINAL_NETWORK_ID;
-
-const STATUSES: usize = ANNOUNCED + setting_bytes::RECEIVE_STATUS;
-
-const EMERGENCY: usize = ANNOUNCED + setting_bytes::EMERGENCY;
 
 // What an extended header has in the place of private data.
 const EXTENDED_BYTES: usize = AUXILIARY_BYTES

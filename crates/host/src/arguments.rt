@@ -30,7 +30,8 @@ fn is_there(rt: HostRuntime, i: usize) -> bool {
     !matches!(rt.arg(i, &mut first), Err(FillError::NotPresent))
 }
 
-// How many arguments the program was started with, its own name among them.
+// How many arguments the program was started with, its own name among them. A proved loop has to end: this one does, at the latest, when the
+// numbers run out.
 pub fn argument_count(rt: HostRuntime) -> usize {
     for i in 0..usize::MAX {
         if !is_there(rt, i) {

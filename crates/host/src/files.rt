@@ -1,4 +1,4 @@
-// Inputs and outputs. Each call of these is a call of the system: nothing is kept back or read ahead.
+// Inputs and outputs. Nothing is kept back or read ahead: what a call reads or writes, the system reads or writes within it.
 ghost use Rattle.std.specs.Prelude.{◌≤◌, length};
 ghost use Rattle.std.specs.Io.{ReadsAtMost};
 ghost use Rattle.io.specs.Counts.{IsPrefixLen};

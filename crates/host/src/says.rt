@@ -27,8 +27,8 @@ fn text_of(error: Error) -> [u8; TEXT_BYTES] {
     to.into_inner()
 }
 
-// Writes a line: what failed, a colon and why. By `io::write_all`: the library's standard error is had of a runtime, and a caller that only
-// reads, as the lister does, has none at hand.
+// Writes a line: what failed, a colon and why. By `io::write_all`, since what failed may be a file's name, which is bytes and
+// need not be text.
 pub fn fail(what: &[u8], error: Error) {
     let text = text_of(error);
     let end = text_end(&text);

@@ -2,7 +2,7 @@
 use counters::{SHORT_SLOTS, SLOTS, STREAMS};
 use packet::PACKET_BYTES;
 use setting::{AUXILIARY_BYTES, Kind, PRIVATE_BYTES};
-use setting_bytes::{ANNOUNCED, BONDING};
+use setting_bytes::{BONDING, in_setting};
 use std::fmt;
 
 #[derive(Clone, Copy)]
@@ -69,33 +69,21 @@ pub(crate) fn private_lengths() -> [Length; 2] {
 
 pub(crate) fn places() -> [Place; 5] {
     [
-        place_of("continuity_counter", 0, 1),
-        place_of("version_number", 1, 1),
-        place_of("slot_allocation_type", ANNOUNCED, 1),
-        place_of("frame_type", ANNOUNCED + 1, 1),
-        place_of("availability", ANNOUNCED + 2, 2),
+        place_of("continuity_counter", setting_bytes::COUNTER, 1),
+        place_of("version_number", setting_bytes::VERSION, 1),
+        place_of("slot_allocation_type", in_setting::SLOT_ALLOCATION_TYPE, 1),
+        place_of("frame_type", in_setting::FRAME_TYPE, 1),
+        place_of("availability", in_setting::AVAILABILITY, 2),
     ]
 }
 
 // What a setting has for each stream and for each slot.
 pub(crate) fn stream_places() -> [Place; 5] {
     [
-        place_of("ts_id", ANNOUNCED + setting_bytes::TS_ID, 2 * STREAMS),
-        place_of(
-            "original_network_id",
-            ANNOUNCED + setting_bytes::ORIGINAL_NETWORK_ID,
-            2 * STREAMS,
-        ),
-        place_of(
-            "receive_status",
-            ANNOUNCED + setting_bytes::RECEIVE_STATUS,
-            STREAMS,
-        ),
-        place_of(
-            "emergency_indicator",
-            ANNOUNCED + setting_bytes::EMERGENCY,
-            1,
-        ),
+        place_of("ts_id", in_setting::STREAM_IDS, 2 * STREAMS),
+        place_of("original_network_id", in_setting::NETWORK_IDS, 2 * STREAMS),
+        place_of("receive_status", in_setting::STATUSES, STREAMS),
+        place_of("emergency_indicator", in_setting::EMERGENCY, 1),
         place_of("relative_ts_number", setting_bytes::NUMBERS, SLOTS),
     ]
 }
@@ -106,9 +94,9 @@ pub(crate) fn extended_places() -> [Place; 7] {
         place_of("private_data", setting_bytes::PRIVATE, PRIVATE_BYTES),
         place_of("auxiliary", setting_bytes::AUXILIARY, AUXILIARY_BYTES),
         place_of("group_id", BONDING, 1),
-        place_of("number_of_carriers", BONDING + 1, 1),
-        place_of("carrier_sequence", BONDING + 2, 1),
-        place_of("number_of_frames", BONDING + 3, 1),
-        place_of("frame_position", BONDING + 4, 1),
+        place_of("number_of_carriers", setting_bytes::CARRIERS, 1),
+        place_of("carrier_sequence", setting_bytes::SEQUENCE, 1),
+        place_of("number_of_frames", setting_bytes::FRAMES, 1),
+        place_of("frame_position", setting_bytes::POSITION, 1),
     ]
 }

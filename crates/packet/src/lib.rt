@@ -14,7 +14,7 @@ use setting::Kind;
 // A header is a packet.
 pub const PACKET_BYTES: usize = HEADER_LENGTH;
 
-// The frame of a kind that has as many slots as there can be.
+// The bytes of a frame that has as many slots as there can be.
 pub const FRAME_BYTES: usize = PACKET_BYTES * (SLOTS + 1);
 
 // How many bytes a frame of this kind has: its header, and a packet for each slot.

@@ -1,4 +1,4 @@
-// Why a call refuses: the paper's table of refusals, each with its number.
+// Why a call refuses: the table of refusals, each with its number.
 #![tactic(auto)]
 
 ghost use Rattle.std.specs.Prelude.{◌≡◌};
@@ -60,8 +60,8 @@ impl Refusal {
     }
 }
 
-// What a start by value answers. A refused start has a state too, the fresh plain one of PID 0, so this is no Result: the scope document
-// promises it, and the wrong programs `refused_start_that_keeps_the_pid` break it.
+// What a start by value answers. A refused start has a state too, the fresh plain one of PID 0, so this is no Result: that state is
+// promised, and the wrong programs `refused_start_that_keeps_the_pid` break it.
 #[derive(Clone, Copy)]
 pub struct Started<const N: usize> {
     pub checked: Result<(), Refusal>,

@@ -25,7 +25,7 @@ pub fn read_words(words: &mut [u16], part: &[u8])
 pub const LAST_KIND: u8 = 2;
 
 // The kind of a number: 1 is extended, 2 is short; any other number counts as plain. It is no `From<u8>`, which would read as if every number
-// were a kind, and no `TryFrom`, since lengths are asked before the number is.
+// were a kind, and no `TryFrom`: the kind in a saved state decides on lengths, and those are asked before the number is.
 #[tactic(auto, unfolding(crate::specs::Kinds::kind_of))]
 pub fn kind_of(n: u8) -> Kind
     ensures { result ≡ kind_of n }
@@ -92,3 +92,24 @@ pub const FRAMES: usize = SEQUENCE + 1;
 pub const POSITION: usize = FRAMES + 1;
 
 pub const SETTING_BYTES: usize = POSITION + 1;
+
+// Where, in a whole setting, the parts of what it announces stand.
+pub mod in_setting {
+    use super::ANNOUNCED;
+
+    pub const SLOT_ALLOCATION_TYPE: usize = ANNOUNCED + super::SLOT_ALLOCATION_TYPE;
+
+    pub const FRAME_TYPE: usize = ANNOUNCED + super::FRAME_TYPE;
+
+    pub const AVAILABILITY: usize = ANNOUNCED + super::AVAILABILITY;
+
+    pub const AVAILABILITY_LOW: usize = ANNOUNCED + super::AVAILABILITY_LOW;
+
+    pub const STREAM_IDS: usize = ANNOUNCED + super::TS_ID;
+
+    pub const NETWORK_IDS: usize = ANNOUNCED + super::ORIGINAL_NETWORK_ID;
+
+    pub const STATUSES: usize = ANNOUNCED + super::RECEIVE_STATUS;
+
+    pub const EMERGENCY: usize = ANNOUNCED + super::EMERGENCY;
+}

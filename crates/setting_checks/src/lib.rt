@@ -13,30 +13,20 @@ ghost use Rattle.setting_checks.specs.Absent.{bonding_absent_in, absent_in};
 use counters::{FramePosition, RelativeNumber};
 use refusals::Refusal;
 use setting::{Kind, PRIVATE_BYTES, limits};
+use setting_bytes::in_setting::{
+    AVAILABILITY, AVAILABILITY_LOW, FRAME_TYPE, NETWORK_IDS, STATUSES, STREAM_IDS,
+};
 use setting_bytes::{
     ANNOUNCED, ANNOUNCED_BYTES, CARRIERS, COUNTER, EMERGENCY, FRAMES, NUMBERS, ORIGINAL_NETWORK_ID,
     POSITION, PRIVATE, RECEIVE_STATUS, SEQUENCE, SETTING_BYTES, TS_ID, VERSION,
 };
-
-// Where what is announced stands in a setting.
-const FRAME_TYPE: usize = ANNOUNCED + setting_bytes::FRAME_TYPE;
-
-const AVAILABILITY: usize = ANNOUNCED + setting_bytes::AVAILABILITY;
-
-const AVAILABILITY_LOW: usize = ANNOUNCED + setting_bytes::AVAILABILITY_LOW;
-
-const STREAM_IDS: usize = ANNOUNCED + TS_ID;
-
-const NETWORK_IDS: usize = ANNOUNCED + ORIGINAL_NETWORK_ID;
-
-const STATUSES: usize = ANNOUNCED + RECEIVE_STATUS;
 
 // An identifier is two bytes, and the next one stands directly behind it.
 const ID_BYTES: u8 = 2;
 
 // 17 of what a header announced, and 1 where it is not 80 bytes. The statuses and the emergency bit behind them are sixteen bytes, which the
 // compiler compares at once: an emergency bit that is too large for a status is too large for itself too.
-// Put into its callers, as what it calls: a call more would take stack that the composer's calls do not have.
+// It is put into its callers: a call more would take stack that the composer's calls do not have.
 #[inline(always)]
 pub fn announced_refusal(kind: Kind, bytes: &[u8]) -> Result<(), Refusal>
     ensures { answer result ≡ of_length announced_length (length bytes.now) (first_of (announced_checks kind (announced_of bytes.now))) }

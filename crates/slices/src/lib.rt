@@ -45,7 +45,7 @@ pub fn copy(dst: &mut [u8], src: &[u8])
     copy_long(&mut dst[..n], &src[..n]);
 }
 
-// Sets each element of dst to v.
+// Sets each element of dst to v: the library's method, with a clause in the definitions' words.
 pub fn fill(dst: &mut [u8], v: u8)
     ensures { dst.new ≡ replicate (length dst.old) v }
 {
@@ -53,7 +53,7 @@ pub fn fill(dst: &mut [u8], v: u8)
 }
 
 // Whether some element of xs is `limit` or more. Looks for the largest and does not stop early, so that many elements are
-// compared at a time.
+// compared at a time. It keeps the largest by an `if`: with a flag for each element header write took a tenth longer.
 pub fn some_at_least(xs: &[u8], limit: u8) -> bool
     ensures { result ≡ some_at_least limit xs.now }
 {

@@ -4,11 +4,12 @@ ghost use Rattle.counters.specs.Counters.{last_carrier};
 ghost use Rattle.tools.specs.Sizes.{group_length};
 
 use crate::arguments::{Arguments, NETWORK_ID, PID, TS_ID};
-use crate::carriers::{CARRIERS, GROUP_BYTES, STREAM_BYTES, STREAM_PACKETS, Share};
+use crate::carriers::{GROUP_BYTES, STREAM_BYTES, STREAM_PACKETS, Share};
 use crate::headings::Bonded;
-use crate::problem::{About, Field, Problem, allowed, said, say_progress};
+use crate::problem::{About, Field, Problem, SUPER_FRAMES_PROGRESS, allowed, said, say_progress};
 use crate::{carriers, headings, input, nulls};
 use bond_group::Bond;
+use bond_group::headers::CARRIERS;
 use counters::Slot;
 use host::{Input, Output};
 use packet::{FRAME_BYTES, PACKET_BYTES};
@@ -38,7 +39,7 @@ const FRAMES: Field = Field {
 };
 
 // Reads how many frames and slots each of so many carriers has. Stops behind the first of which one is out of range, and says so; then there
-// are none.
+// are none. Both numbers of a carrier may be said, so it answers none and no problem.
 fn read_shares(args: Arguments, count: usize) -> Option<[Option<Share>; CARRIERS]>
     requires { count ≤ last_carrier }
 {
@@ -186,7 +187,7 @@ impl Bonding {
                 return Ok(());
             }
             self.fill(group, stream)?;
-            say_progress(self.rt, number + 1, PROGRESS, "super frames");
+            say_progress(self.rt, number + 1, SUPER_FRAMES_PROGRESS, "super frames");
         }
         Ok(())
     }
@@ -198,9 +199,6 @@ impl Bonding {
         self.make_all(input, &mut group, &mut stream)
     }
 }
-
-// On a long input, a line of progress every so many super frames.
-const PROGRESS: u64 = 10000;
 
 // The stream whose identifiers are arguments i and the next one, bonded over so many carriers.
 pub(crate) fn bond_at(args: Arguments, i: usize, pid: u16, carriers: u8) -> Result<Bond, Problem> {

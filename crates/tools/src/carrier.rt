@@ -224,7 +224,8 @@ impl Carrier {
         }
     }
 
-    // Reads on until a super frame behind the one with this number has begun, or the input has ended.
+    // Reads on until a super frame behind the one with this number has begun, or the input has ended. A proved loop has to end: this one does, at
+    // the latest, when the numbers run out.
     pub(crate) fn read_on(&mut self, want: u64) {
         self.have = 0;
         for _ in 0..u64::MAX {

@@ -5,15 +5,12 @@ ghost use Rattle.packet.specs.Packets.{frame_length};
 ghost use Rattle.tools.specs.Sizes.{group_length};
 
 use crate::problem::{About, Field, Problem};
+use bond_group::headers::FRAMES;
 use counters::SLOTS;
 use packet::{FRAME_BYTES, PACKET_BYTES};
 use setting::limits;
 
-pub(crate) const CARRIERS: usize = limits::LAST_CARRIER as usize;
-
-// The most frames of a group, the bytes of such a group, and of a stream that fills all its slots.
-const FRAMES: usize = CARRIERS * limits::MOST_FRAMES as usize;
-
+// The bytes of a group that has the most frames, and of a stream that fills all its slots.
 pub(crate) const GROUP_BYTES: usize = FRAME_BYTES * FRAMES;
 
 pub(crate) const STREAM_PACKETS: usize = SLOTS * FRAMES;

@@ -4,10 +4,11 @@ ghost use Rattle.tools.specs.Sizes.{group_length};
 
 use crate::arguments::Arguments;
 use crate::carrier::Carrier;
-use crate::carriers::{CARRIERS, GROUP_BYTES, STREAM_BYTES, STREAM_PACKETS};
+use crate::carriers::{GROUP_BYTES, STREAM_BYTES, STREAM_PACKETS};
 use crate::input;
-use crate::problem::{About, Problem, said, say_progress};
+use crate::problem::{About, Problem, SUPER_FRAMES_PROGRESS, said, say_progress};
 use bond_group::Bond;
+use bond_group::headers::CARRIERS;
 use header_check::Refused;
 use packet::PACKET_BYTES;
 use std::fmt;
@@ -22,15 +23,12 @@ pub(crate) struct Count {
     said: bool,
 }
 
-// On a long input, a line of progress every so many super frames.
-const PROGRESS: u64 = 10000;
-
 impl Count {
     // Counts a super frame that went out, with so many packets.
     fn count_out(&mut self, rt: HostRuntime, packets: usize) {
         self.out = self.out.wrapping_add(1);
         self.packets = self.packets.wrapping_add(packets as u64);
-        say_progress(rt, self.out, PROGRESS, "super frames out");
+        say_progress(rt, self.out, SUPER_FRAMES_PROGRESS, "super frames out");
     }
 
     pub(crate) fn count_dropped(&mut self) {
@@ -112,7 +110,7 @@ impl Group {
         }
     }
 
-    // Gathers a group of so many bytes, and writes the stream.
+    // Gathers a group, and writes the stream.
     fn gather(&mut self, group: &[u8], stream: &mut [u8; STREAM_BYTES]) -> Result<(), Problem> {
         match bond::gather(group, stream, self.bond) {
             Ok(packets) => {

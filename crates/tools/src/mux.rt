@@ -5,7 +5,7 @@ ghost use Rattle.packet.specs.Packets.{packet_length};
 
 use crate::arguments::{Arguments, NETWORK_ID, PID, TS_ID};
 use crate::plan::SHARES;
-use crate::problem::{About, Field, Problem, allowed, said, say_progress};
+use crate::problem::{About, FRAMES_PROGRESS, Field, Problem, allowed, said, say_progress};
 use crate::{input, plan, settings, sizes};
 use composer::COMPOSER_BYTES;
 use counters::{RelativeNumber, SLOTS, STREAMS};
@@ -29,7 +29,7 @@ struct Words {
     network_id: u16,
 }
 
-// Reads them. Says what is out of range.
+// Reads them. Says what is out of range: that may be several of them, so it answers none and no problem.
 fn read_words(args: Arguments, r: RelativeNumber, all: u8) -> Option<Words> {
     let about = About::Stream(r.0);
     let slots = said(args.rt, args.number(0, about, Field::up_to("SLOTS", all)));
@@ -123,9 +123,6 @@ impl Stream {
     }
 }
 
-// On a long run, a line of progress every so many frames, which is about a gigabyte.
-const PROGRESS: u64 = 100000;
-
 // Writes a frame. Of one for which no stream had packets only the header is written: it vouches for the frame before.
 fn write_frame(rt: HostRuntime, frame: &[u8], packets: usize) -> Result<(), Problem>
     requires { packet_length ≤ length frame.now }
@@ -190,7 +187,7 @@ impl Mux {
             if packets == 0 {
                 return Ok(());
             }
-            say_progress(self.rt, made, PROGRESS, "frames");
+            say_progress(self.rt, made, FRAMES_PROGRESS, "frames");
         }
         Ok(())
     }

@@ -1,4 +1,4 @@
-// Null packets.
+// Null packets for a whole group. The composer has a function of its own, which writes one slot and says in a clause what it wrote.
 use packet::PACKET_BYTES;
 
 // The head of a null packet. Behind it stand ones.

@@ -164,7 +164,12 @@ pub(crate) fn allowed<T: Drop, E: Into<Refused>>(
     outcome.map_err(|why| Problem::Refused(about, what, why.into()))
 }
 
-// On a long run, a line of progress each time that so many more are done.
+// On a long run there is a line of progress every so many frames, which is about a gigabyte, or super frames.
+pub(crate) const FRAMES_PROGRESS: u64 = 100000;
+
+pub(crate) const SUPER_FRAMES_PROGRESS: u64 = 10000;
+
+// A line of progress each time that so many more are done.
 pub(crate) fn say_progress(rt: HostRuntime, done: u64, every: u64, what: &str) {
     if done.is_multiple_of(every) {
         let _ = eprintln!(rt; "{done} {what}");

@@ -1,5 +1,5 @@
 // Counts what happened to the frames of an input, and prints the summary.
-use crate::problem::{Why, say_progress};
+use crate::problem::{FRAMES_PROGRESS, Why, say_progress};
 use crate::receiving;
 use header_check::Refused;
 use receiver::Event;
@@ -34,9 +34,6 @@ pub(crate) struct Tally {
     // The first header with a wrong CRC that dropped a frame.
     spoiled: Option<Spoiled>,
 }
-
-// On a long input, a line of progress every so many frames, which is about a gigabyte.
-const PROGRESS: u64 = 100000;
 
 // Whether a packet that is refused as a header for this has the header PID: the checks up to that of the PID found nothing.
 fn has_pid(refusal: Refusal) -> bool {
@@ -73,7 +70,7 @@ impl Tally {
         match event {
             Event::Ready => {
                 self.ready = self.ready.wrapping_add(1);
-                say_progress(rt, self.ready, PROGRESS, "frames ready");
+                say_progress(rt, self.ready, FRAMES_PROGRESS, "frames ready");
             }
             Event::Short => self.short = self.short.wrapping_add(1),
             Event::Jump => self.jump = self.jump.wrapping_add(1),
