@@ -37,7 +37,8 @@ impl Note {
 }
 
 // Where a group's packets are bonded: how many carriers it has, the number of frames of each, and the bonded slots of each frame, slot i in
-// bit i.
+// bit i. That it can be walked stands in clauses and not on the type: that fact goes by cases, 3 frames or 4, which a ghost field does not keep in a
+// form that proofs can take apart. The number of carriers stands beside the eight numbers of frames, as the walk of the definitions has them.
 #[derive(Clone, Copy)]
 pub(crate) struct Plan<'a> {
     pub carriers: usize,

@@ -94,7 +94,8 @@ pub fn open_rule_refusal(bytes: &[u8]) -> Result<(), Refusal>
     setting_checks::rule_refusal(setting_bytes::kind_of(bytes[KIND]), &bytes[SETTING..FILLED])
 }
 
-// Whether a slot that is planned for no stream is marked filled. The loop never stops early, so that the compiler can compare many
+// Whether a slot that is planned for no stream is marked filled. Plan and marks are parts of the state: as arrays they would want a test of their
+// length that cannot fail. The loop never stops early, so that the compiler can compare many
 // slots at a time.
 fn has_unplanned(plan: &[u8], filled: &[u8]) -> bool
     requires { (length plan.now ≡ last_slot) × (length filled.now ≡ last_slot) }
