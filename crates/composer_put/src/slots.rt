@@ -12,7 +12,8 @@ ghost use Rattle.slot_bits.specs.Bits.{slots_as_bits};
 use counters::{RelativeNumber, SLOTS, Slot};
 use packet::PACKET_BYTES;
 
-// The still empty slots planned for stream r, as bits. The loop never stops early, so that the compiler can compare many slots at a
+// The still empty slots planned for stream r, as bits. Plan and marks are parts of the state: as arrays they would want a test of their length that
+// cannot fail. The loop never stops early, so that the compiler can compare many slots at a
 // time.
 pub(crate) fn empty_slots(plan: &[u8], filled: &[u8], r: RelativeNumber) -> u64
     requires { (length plan.now ≡ last_slot) × (length filled.now ≡ last_slot) }

@@ -1,4 +1,5 @@
-// The parts of the check: what a packet of 188 bytes shows and says, as far as the check needs it.
+// The parts of the check: what a packet of 188 bytes shows and says, as far as the check needs it. A packet and its kind go on as two, as the definition
+// `reading kind packet` has them: a struct of both would be taken apart in each function.
 ghost use Rattle.std.specs.Prelude.{◌≡◌, ◌+◌, ◌*◌, ◌/◌, ◌<◌, length, get_or, replicate, IfOk, Ok};
 ghost use Rattle.bits.specs.Fields.{run, cut};
 ghost use Rattle.setting.specs.Refusal.{first_of};

@@ -1,4 +1,5 @@
-// The parts of the reader: each writes the bytes of its part of a setting straight from the packet.
+// The parts of the reader: each writes the bytes of its part of a setting straight from the packet. How many streams a header knows goes on as a plain
+// count, bounded by a clause: a type for it would be unwrapped at each place that it helps to find.
 ghost use Rattle.std.specs.Prelude.{◌≡◌, ◌+◌, ◌*◌, ◌≤◌, length, Ok};
 ghost use Rattle.counters.specs.Counters.{last_stream};
 ghost use Rattle.setting.specs.Setting.{private_bytes, auxiliary_bytes};
