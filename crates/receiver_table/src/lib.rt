@@ -31,7 +31,7 @@ fn vouch(slots: u8, from: u8, k: u8, to: u8) -> Row
         };
     }
     if k == slots {
-        if std::num::wrapping_sub_u8(to, from) % 16 == 1 {
+        if to.wrapping_sub(from) % 16 == 1 {
             return Row {
                 event: Event::Ready,
                 stage: Stage::Ready(to),
@@ -54,11 +54,7 @@ pub fn broken_row(stage: Stage, remainder: u32) -> Row
             event: Event::Nothing,
             stage: Stage::Waiting,
         },
-        Stage::Open(_, _) => Row {
-            event: Event::Broken(remainder),
-            stage: Stage::Waiting,
-        },
-        Stage::Ready(_) => Row {
+        Stage::Open(_, _) | Stage::Ready(_) => Row {
             event: Event::Broken(remainder),
             stage: Stage::Waiting,
         },

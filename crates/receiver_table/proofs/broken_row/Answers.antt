@@ -1,5 +1,5 @@
 -- `broken_row` meets its contract, stage by stage. Assumes nothing.
-use Rattle.std.proofs.Common.{refl}
+use Rattle.std.proofs.Common.{refl, inl, inr}
 use Rattle.receiver.specs.Table.{open_row, row_of}
 use Rattle.receiver_table.proofs.broken_row.Goals as goal
 
@@ -9,8 +9,4 @@ returns-in-Waiting c slots = rw c.in-Waiting.is refl
 
 pub returns-in-Open : goal.returns-in-Open
 unfolding row_of open_row
-returns-in-Open c slots = rw c.in-Open.is refl
-
-pub returns-in-Ready : goal.returns-in-Ready
-unfolding row_of open_row
-returns-in-Ready c slots = rw c.in-Ready.is refl
+returns-in-Open c slots = elim c.in-Open.is [ inl w ↦ rw w.2 refl | inr w ↦ rw w.1 refl ]
