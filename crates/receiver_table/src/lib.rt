@@ -46,6 +46,7 @@ fn vouch(slots: u8, from: u8, k: u8, to: u8) -> Row
 
 // What a broken packet does, however many slots there are: it lacks 0x47, or bears the header PID without being a good header. Its remainder
 // goes with 'broken'; a receiver that waits has no use for it.
+#[tactic(auto, unfolding(receiver::specs::Table::row_of, receiver::specs::Table::open_row))]
 pub fn broken_row(stage: Stage, remainder: u32) -> Row
     ensures { (slots : ℕ) → result ≡ row_of slots stage (broken remainder) 0 }
 {
