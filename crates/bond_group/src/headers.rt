@@ -50,7 +50,7 @@ fn number_of(ts: &[u8], os: &[u8], availability: u16, b: Bond) -> u8
     ensures upper_bound { result ≤ last_stream }
 {
     let mut number = 0u8;
-    // By number, since a stream's two identifiers stand apart in two lists.
+    // By number, as the definition counts the streams: `ts` starts at the first TS_id, `os` two bytes behind it.
     for k in 0..STREAMS {
         let at = header_layout::STREAM_BYTES as usize * k;
         let ts_id = bits::word(ts[at], ts[at + 1]);
@@ -188,9 +188,7 @@ fn standing_refusal(h: Shown, behind: Shown, carriers: u8, group_id: u8) -> Resu
             return Err(Refusal::Group);
         }
     }
-    let position = h.frame_position;
-    let next = next_position(behind);
-    if position.0 != next.0 {
+    if h.frame_position != next_position(behind) {
         return Err(Refusal::Group);
     }
     Ok(())
@@ -205,8 +203,8 @@ fn set_number<T: Copy>(numbers: &mut [T], i: usize, v: T)
     }
 }
 
-// Writes the numbers of the plan before the first header is read, and of a group that is refused: zeros, as many as there is room for. What a longer list has behind them
-// stays as it was.
+// Writes the numbers of the plan before the first header is read, and of a group that is refused: zeros, as many as there is room for. What a
+// longer list has behind them stays as it was.
 pub(crate) fn clear(frames: &mut [u8], slots: &mut [u64])
     ensures frames_after { frames.new ≡ copied frames.old nothing_seen.frames }
     ensures slots_after { slots.new ≡ copied slots.old nothing_seen.slots }
@@ -218,7 +216,8 @@ pub(crate) fn clear(frames: &mut [u8], slots: &mut [u64])
 }
 
 // Checks the headers of the group, one after another: each as a header and then for 14, where its frame stands. At the end 14 again, for
-// missing frames. Answers how many bonded slots there are, or none if no header carries the stream. Writes each carrier's number of frames and the bonded slots of each frame, slot i in bit i, into what the caller lends.
+// missing frames. Answers how many bonded slots there are, or none if no header carries the stream. Writes each carrier's number of frames and
+// the bonded slots of each frame, slot i in bit i, into what the caller lends.
 pub(crate) fn plan_of(
     group: &[u8],
     b: Bond,
@@ -233,9 +232,11 @@ pub(crate) fn plan_of(
 {
     let count = group.len() / FRAME_BYTES;
     clear(frames, slots);
+    // Apart from the count: a header can carry the stream and give it no slot, which is not the same as no header that carries it.
     let mut is_carried = false;
     let mut packets = 0;
     let mut behind = nothing_shown();
+    // The first header sets it, and so is held against its own.
     let mut group_id = 0u8;
     for j in 0..count {
         let at = FRAME_BYTES * j;
@@ -268,9 +269,5 @@ pub(crate) fn plan_of(
         clear(frames, slots);
         return Err(Refused::from(Refusal::Group));
     }
-    if is_carried {
-        Ok(Some(packets))
-    } else {
-        Ok(None)
-    }
+    Ok(is_carried.then_some(packets))
 }

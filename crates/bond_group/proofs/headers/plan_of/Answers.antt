@@ -5,7 +5,8 @@ use mathlib.Core.Bool.{Bool, true, false}
 use mathlib.Core.List.{List}
 use native.Mathlib.Omega.{arith}
 use lib.Count.{ones}
-use Rattle.std.specs.Prelude.{Ok, Err}
+use Rattle.std.specs.Prelude.{Ok, Err, Option}
+use Rattle.std.specs.Bool.{then_some}
 use Rattle.slices.specs.Slices.{copied}
 use Rattle.refusals.specs.Refusals.{number}
 use Rattle.refusals.proofs.Refusals.{is_some_number}
@@ -173,20 +174,18 @@ module _ (b : Bond) (group frames₀ slots₀ : List ℕ) {frames slots : List �
       let within = t.within in
       leaves_by frames₀ slots₀ (planned_all b group (none_missing b group behind group_id j t l (sym whole))) (written_all w refl (omega arith))
 
-pub returns-then-is_carried : goal.returns-then-is_carried
-returns-then-is_carried c =
-    let a = c.args in
-    let all = all_headers a.b a.group.now a.frames.now a.slots.now c.loop-j.invariant.written c.loop-j.behind c.loop-j.group_id c.loop-j.invariant.through (omega arith) c.if-not-is_end.ensures in
-    let said : record { refusal = bare 0; is_carried = true; packets = c.loop-j.packets } ≡ record { refusal = bare 0; is_carried = c.loop-j.is_carried; packets = c.loop-j.packets } =
-    λ i. record { refusal = bare 0; is_carried = sym c.if-is_carried.true i; packets = c.loop-j.packets } in
-    record { value = said ∙ all.0; frames_after = all.1.0; slots_after = all.1.1 }
+-- the answer is none where no header carries the stream
+answered : (x : Bool) (packets : ℕ) → (x ≡ false → packets ≡ 0) → headers_in (Ok (then_some x packets)) ≡ record { refusal = bare 0; is_carried = x; packets = packets }
+answered true packets none = refl
+answered false packets none = λ i. record { refusal = bare 0; is_carried = false; packets = sym (none refl) i }
 
-pub returns-else-is_carried : goal.returns-else-is_carried
-returns-else-is_carried c =
+pub returns : goal.returns
+returns c =
     let a = c.args in
     let w = c.loop-j.invariant.written in
     let all = all_headers a.b a.group.now a.frames.now a.slots.now w c.loop-j.behind c.loop-j.group_id c.loop-j.invariant.through (omega arith) c.if-not-is_end.ensures in
-    let none : c.loop-j.packets ≡ 0 = w.packets_are ∙ uncarried a.b a.group.now c.loop-j.j (sym w.carried_is ∙ c.if-is_carried.false) in
-    let said : record { refusal = bare 0; is_carried = false; packets = 0 } ≡ record { refusal = bare 0; is_carried = c.loop-j.is_carried; packets = c.loop-j.packets } =
-    λ i. record { refusal = bare 0; is_carried = sym c.if-is_carried.false i; packets = sym none i } in
-    record { value = said ∙ all.0; frames_after = all.1.0; slots_after = all.1.1 }
+    record {
+      value = ap (λ (o : Option ℕ). headers_in (Ok o)) c.then_some.ensures ∙ answered c.loop-j.is_carried c.loop-j.packets (λ none. w.packets_are ∙ uncarried a.b a.group.now c.loop-j.j (sym w.carried_is ∙ none)) ∙ all.0;
+      frames_after = all.1.0;
+      slots_after = all.1.1;
+    }
