@@ -113,15 +113,17 @@ fn nothing_shown() -> Shown
     }
 }
 
-fn shown_by(said: Said) -> Shown
-    ensures { (s : Setting) → on_paper (Ok said) ≡ parts_of (bare 0) s → result ≡ shown_by s }
-{
-    Shown {
-        group_id: said.group_id,
-        number_of_carriers: said.number_of_carriers,
-        carrier_sequence: said.carrier_sequence,
-        number_of_frames: said.number_of_frames,
-        frame_position: said.frame_position,
+impl From<Said> for Shown {
+    ghost from_gives = { λ said shown. (s : Setting) → on_paper (Ok said) ≡ parts_of (bare 0) s → shown ≡ shown_by s };
+
+    fn from(said: Said) -> Shown {
+        Shown {
+            group_id: said.group_id,
+            number_of_carriers: said.number_of_carriers,
+            carrier_sequence: said.carrier_sequence,
+            number_of_frames: said.number_of_frames,
+            frame_position: said.frame_position,
+        }
     }
 }
 
@@ -248,7 +250,7 @@ pub(crate) fn plan_of(
                 return Err(why);
             }
         };
-        let shown = shown_by(said);
+        let shown = Shown::from(said);
         if j == 0 {
             group_id = shown.group_id;
         }

@@ -55,8 +55,8 @@ said_so c =
     said_is c.args.b c.args.group.now c.requires.last_slot_len.1 c.loop-j.j (omega arith) (on_paper (Ok c.in-Ok.said)) c.in-Ok.ensures refl
 
 -- what it shows
-shown_so : (c : After-standing_refusal) → c.shown_by-shown.result ≡ shown_by (said c.args.group.now c.loop-j.j)
-shown_so c = c.shown_by-shown.ensures _ (said_so c)
+shown_so : (c : After-standing_refusal) → c.from-shown.result ≡ shown_by (said c.args.group.now c.loop-j.j)
+shown_so c = c.from-shown.ensures _ (said_so c)
 
 -- the group id that it is held against is the first header's
 group_so : (c : After-standing_refusal) → c.if-j-eq0.group_id ≡ (said c.args.group.now 0).group_id
@@ -66,7 +66,7 @@ group_so c =
 
 -- the checks of where it stands are those of the group's own values
 standing_is : (c : After-standing_refusal)
-    → first_of (standing_checks c.args.b.carriers c.if-j-eq0.group_id c.loop-j.behind c.shown_by-shown.result)
+    → first_of (standing_checks c.args.b.carriers c.if-j-eq0.group_id c.loop-j.behind c.from-shown.result)
     ≡ first_of (standing_checks c.args.b.carriers (said c.args.group.now 0).group_id (before c.args.group.now c.loop-j.j) (shown_by (said c.args.group.now c.loop-j.j)))
 standing_is c =
     λ i. first_of (standing_checks c.args.b.carriers (group_so c i) (c.loop-j.invariant.through.behind_is i) (shown_so c i))
@@ -107,11 +107,11 @@ record Room (j packets sequence : ℕ) : Type 0 where
   frame : j < most_frames
   few : packets ≤ frame_packets * j
 
-module _ (c : After-standing_refusal) (stood : 0 ≡ first_of (standing_checks c.args.b.carriers c.if-j-eq0.group_id c.loop-j.behind c.shown_by-shown.result)) where
+module _ (c : After-standing_refusal) (stood : 0 ≡ first_of (standing_checks c.args.b.carriers c.if-j-eq0.group_id c.loop-j.behind c.from-shown.result)) where
   stands : first_of (standing_checks c.args.b.carriers (said c.args.group.now 0).group_id (before c.args.group.now c.loop-j.j) (shown_by (said c.args.group.now c.loop-j.j))) ≡ 0
   stands = sym (stood ∙ standing_is c)
 
-  room : Room c.loop-j.j c.loop-j.packets c.shown_by-shown.result.carrier_sequence
+  room : Room c.loop-j.j c.loop-j.packets c.from-shown.result.carrier_sequence
   unfolding shown_by
   room =
       let each = stand_each c.args.b c.args.group.now c.requires.last_slot_len.1 c.loop-j.j (omega arith) c.loop-j.behind c.loop-j.group_id c.loop-j.invariant.through
@@ -150,8 +150,8 @@ loop-j-preserved c =
     let carrier = o.carrier in
     record {
       through = through_more a.b a.group.now c.requires.last_slot_len.1 c.loop-j.j (omega arith) c.loop-j.behind c.loop-j.group_id c.loop-j.invariant.through
-          (on_paper (Ok c.in-Ok.said)) c.in-Ok.ensures refl (stands place c.in_default.ensures) c.shown_by-shown.result c.if-j-eq0.group_id (shown_so place) (group_so place);
-      written = written-more c.loop-j.invariant.written c.shown_by-shown.result c.unwrap_or-marks.result c.is_some-is_carried.result
+          (on_paper (Ok c.in-Ok.said)) c.in-Ok.ensures refl (stands place c.in_default.ensures) c.from-shown.result c.if-j-eq0.group_id (shown_so place) (group_so place);
+      written = written-more c.loop-j.invariant.written c.from-shown.result c.unwrap_or-marks.result c.is_some-is_carried.result
           c.set_number.ensures c.set_number-in-loop-j.ensures
           (shown_so place) (c.unwrap_or-marks.ensures ∙ c.bonded_by-bonded.ensures.marks ∙ ap (marks a.b) same)
           (c.is_some-is_carried.ensures ∙ c.bonded_by-bonded.ensures.is_carried ∙ ap (carries a.b) same) (omega arith) o.frame;
