@@ -1,5 +1,5 @@
 // The headers of a group, each read once: whether they stand where they should, and what they say of the stream.
-ghost use Rattle.std.specs.Prelude.{◌≡◌, true, ◌≤◌, ◌%◌, length, set, Ok, is_some, unwrap_or};
+ghost use Rattle.std.specs.Prelude.{◌≡◌, true, false, ◌≤◌, ◌%◌, length, set, Ok, is_some, is_err, unwrap_or};
 ghost use Rattle.std.specs.Int.Count.{ones};
 ghost use Rattle.counters.specs.Counters.{first_slot, last_slot, last_stream, last_position, last_carrier};
 ghost use Rattle.slices.specs.Slices.{copied};
@@ -219,7 +219,8 @@ pub(crate) fn clear(frames: &mut [u8], slots: &mut [u64])
 
 // Checks the headers of the group, one after another: each as a header and then for 14, where its frame stands. At the end 14 again, for
 // missing frames. Answers how many bonded slots there are, or none if no header carries the stream. Writes each carrier's number of frames and
-// the bonded slots of each frame, slot i in bit i, into what the caller lends.
+// the bonded slots of each frame, slot i in bit i, into what the caller lends and has cleared. A group that is refused leaves numbers there, so
+// that the caller clears again; what stands behind the plan's numbers stays as it was.
 pub(crate) fn plan_of(
     group: &[u8],
     b: Bond,
@@ -228,12 +229,13 @@ pub(crate) fn plan_of(
 ) -> Result<Option<usize>, Refused>
     requires last_slot_len { (length group.now % frame_length last_slot ≡ 0) × (pid_allowed b.pid ≡ true) }
     requires le_carriers { (1 ≤ b.carriers) × (b.carriers ≤ last_carrier) }
+    requires cleared { (frames.now ≡ copied frames.now nothing_seen.frames) × (slots.now ≡ copied slots.now nothing_seen.slots) }
     ensures value { headers_in result ≡ headers_of (planned_by b group.now) }
-    ensures frames_after { frames.new ≡ copied frames.old (planned_by b group.now).plan.frames }
-    ensures slots_after { slots.new ≡ copied slots.old (planned_by b group.now).plan.slots }
+    ensures frames_after { is_err result ≡ false → frames.new ≡ copied frames.old (planned_by b group.now).plan.frames }
+    ensures slots_after { is_err result ≡ false → slots.new ≡ copied slots.old (planned_by b group.now).plan.slots }
+    ensures cleared_again { (copied frames.new nothing_seen.frames ≡ copied frames.old nothing_seen.frames) × (copied slots.new nothing_seen.slots ≡ copied slots.old nothing_seen.slots) }
 {
     let count = group.len() / FRAME_BYTES;
-    clear(frames, slots);
     // Apart from the count: a header can carry the stream and give it no slot, which is not the same as no header that carries it.
     let mut is_carried = false;
     let mut packets = 0;
@@ -243,21 +245,12 @@ pub(crate) fn plan_of(
     for j in 0..count {
         let at = FRAME_BYTES * j;
         let header = &group[at..at + PACKET_BYTES];
-        let said = match header_check::check(header, b.pid, Kind::Extended) {
-            Ok(said) => said,
-            Err(why) => {
-                clear(frames, slots);
-                return Err(why);
-            }
-        };
+        let said = header_check::check(header, b.pid, Kind::Extended)?;
         let shown = Shown::from(said);
         if j == 0 {
             group_id = shown.group_id;
         }
-        if let Err(refusal) = standing_refusal(shown, behind, b.carriers, group_id) {
-            clear(frames, slots);
-            return Err(Refused::from(refusal));
-        }
+        standing_refusal(shown, behind, b.carriers, group_id)?;
         let bonded = bonded_by(header, said, b);
         let marks = bonded.unwrap_or(0);
         let carrier = shown.carrier_sequence as usize - 1;
@@ -268,7 +261,6 @@ pub(crate) fn plan_of(
         behind = shown;
     }
     if !is_end(behind, b.carriers) {
-        clear(frames, slots);
         return Err(Refused::from(Refusal::Group));
     }
     Ok(is_carried.then_some(packets))
