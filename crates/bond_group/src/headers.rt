@@ -233,14 +233,15 @@ pub(crate) fn plan_of(
     ensures value { headers_in result ≡ headers_of (planned_by b group.now) }
     ensures frames_after { is_err result ≡ false → frames.new ≡ copied frames.old (planned_by b group.now).plan.frames }
     ensures slots_after { is_err result ≡ false → slots.new ≡ copied slots.old (planned_by b group.now).plan.slots }
-    ensures cleared_again { (copied frames.new nothing_seen.frames ≡ copied frames.old nothing_seen.frames) × (copied slots.new nothing_seen.slots ≡ copied slots.old nothing_seen.slots) }
+    ensures cleared_again { (copied frames.new nothing_seen.frames ≡ copied frames.old nothing_seen.frames)
+        × (copied slots.new nothing_seen.slots ≡ copied slots.old nothing_seen.slots) }
 {
     let count = group.len() / FRAME_BYTES;
-    // Apart from the count: a header can carry the stream and give it no slot, which is not the same as no header that carries it.
+    // Kept beside the count: a header may carry the stream in no slot, which is another answer than no header that carries it.
     let mut is_carried = false;
     let mut packets = 0;
     let mut behind = nothing_shown();
-    // The first header sets it, and so is held against its own.
+    // The first header sets it, and so is compared with itself.
     let mut group_id = 0u8;
     for j in 0..count {
         let at = FRAME_BYTES * j;

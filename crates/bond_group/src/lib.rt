@@ -35,8 +35,9 @@ pub fn read_headers(
     headers::clear(frames, slots);
     checks::call_refusal(b, group.len())?;
     let planned = headers::plan_of(group, b, frames, slots);
-    if planned.is_err() {
+    if let Err(why) = planned {
         headers::clear(frames, slots);
+        return Err(why);
     }
     planned
 }

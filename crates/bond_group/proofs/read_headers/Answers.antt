@@ -1,8 +1,7 @@
 -- `read_headers` meets its contract: its own checks, then the headers. Assumes nothing.
 use mathlib.Core.Path.{◌≡◌, sym, ap, refl, ◌∙◌}
-use mathlib.Core.Bool.{true, false, true≢false}
 use borrow.Author.Rules.{rules}
-use Rattle.std.specs.Prelude.{ℕ, Result, Ok, Err, Option, Some, None, is_err}
+use Rattle.std.specs.Prelude.{Err}
 use Rattle.slices.specs.Slices.{copied}
 use lib.ListN.{length}
 use Rattle.refusals.specs.Refusals.{number}
@@ -46,24 +45,18 @@ plan_of-planned-requires c =
       );
     }
 
--- a refusal has a number
-numbered : (r : Result (Option ℕ) Refused) → is_err r ≡ true → (headers_in r).refusal.number ≡ 0 → ⊥
-numbered (Ok (Some x)) e z = true≢false (sym e)
-numbered (Ok None) e z = true≢false (sym e)
-numbered (Err why) e z = is_some_number why.refusal z
-
-pub returns-then-is_err : goal.returns-then-is_err
-returns-then-is_err c =
+pub returns-in-Err : goal.returns-in-Err
+returns-in-Err c =
     let a = c.args in
-    let planned = c.plan_of-planned.ensures in
-    let fails : is_err c.plan_of-planned.result ≡ true = sym c.if-is_err.ensures.value in
-    let none = plan_refused a.b a.group.now (λ z. numbered c.plan_of-planned.result fails (ap (λ (h : Headers). h.refusal.number) planned.value ∙ z)) in
-    let all = leaves_by a.frames.now a.slots.now (headers_answer a.b a.group.now (asked (goal.at.returns-then-is_err c).In_ok-call_refusal)) (
+    let why = c.in-Err.why in
+    let planned = c.in-Err.ensures in
+    let none = plan_refused a.b a.group.now (λ z. is_some_number why.refusal (ap (λ (h : Headers). h.refusal.number) planned.value ∙ z)) in
+    let all = leaves_by a.frames.now a.slots.now (headers_answer a.b a.group.now (asked (goal.at.returns-in-Err c).In_ok-call_refusal)) (
       planned.value,
       (
-        c.clear-then-is_err.ensures.frames_after ∙ planned.cleared_again.0 ∙ copied_again a.frames.now _ _ c.clear.ensures.frames_after refl refl
+        c.clear-in-Err.ensures.frames_after ∙ planned.cleared_again.0 ∙ copied_again a.frames.now _ _ c.clear.ensures.frames_after refl refl
             ∙ sym (ap (λ (p : Plan). copied a.frames.now p.frames) none),
-        c.clear-then-is_err.ensures.slots_after ∙ planned.cleared_again.1 ∙ copied_again a.slots.now _ _ c.clear.ensures.slots_after refl refl
+        c.clear-in-Err.ensures.slots_after ∙ planned.cleared_again.1 ∙ copied_again a.slots.now _ _ c.clear.ensures.slots_after refl refl
             ∙ sym (ap (λ (p : Plan). copied a.slots.now p.slots) none),
       ),
     ) in record {
@@ -72,16 +65,15 @@ returns-then-is_err c =
       slots_after = all.1.1;
     }
 
-pub returns-else-is_err : goal.returns-else-is_err
-returns-else-is_err c =
+pub returns : goal.returns
+returns c =
     let a = c.args in
-    let planned = c.plan_of-planned.ensures in
-    let answers : is_err c.plan_of-planned.result ≡ false = sym c.if-is_err.ensures.value in
-    let all = leaves_by a.frames.now a.slots.now (headers_answer a.b a.group.now (asked (goal.at.returns-else-is_err c).In_ok-call_refusal)) (
-      planned.value,
+    let planned = c.in_default.ensures in
+    let all = leaves_by a.frames.now a.slots.now (headers_answer a.b a.group.now (asked (goal.at.returns c).In_ok-call_refusal)) (
+      c.plan_of-planned.ensures.value,
       (
-        copied_again a.frames.now _ _ c.clear.ensures.frames_after (frames_planned a.b a.group.now) (planned.frames_after answers),
-        copied_again a.slots.now _ _ c.clear.ensures.slots_after (slots_planned a.b a.group.now) (planned.slots_after answers),
+        copied_again a.frames.now _ _ c.clear.ensures.frames_after (frames_planned a.b a.group.now) (planned.frames_after refl),
+        copied_again a.slots.now _ _ c.clear.ensures.slots_after (slots_planned a.b a.group.now) (planned.slots_after refl),
       ),
     ) in record {
       value = all.0;
