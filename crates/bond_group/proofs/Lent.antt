@@ -34,16 +34,6 @@ copied_nowhere : (from : List ℕ) → copied [] from ≡ []
 unfolding copied
 copied_nowhere from = drop-nil (length from)
 
--- the list stays as long as it was
-copied-long : (into from : List ℕ) → length (copied into from) ≡ length into
-unfolding copied
-copied-long [] from = ap length (copied_nowhere from)
-copied-long (x ∷ into) [] = refl
-copied-long (x ∷ into) (y ∷ from) = ap suc (copied-long into from)
-
-pub as_long : {now : List ℕ} (into from : List ℕ) → now ≡ copied into from → length now ≡ length into
-as_long into from e = ap length e ∙ copied-long into from
-
 -- one number written over
 copied-set : (into from : List ℕ) (i v : ℕ) → i < length from → set (copied into from) i v ≡ copied into (set from i v)
 unfolding copied
