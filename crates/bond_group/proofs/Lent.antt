@@ -1,11 +1,14 @@
 -- The numbers of a plan written into lists that the caller lends, as many as there is room for. Assumes nothing.
 use Prim.Native.Nat.{ℕ, zero, suc, ◌+◌, ◌-◌, ◌<◌}
 use mathlib.Core.Path.{◌≡◌, refl, sym, ap, ap₂, subst, ◌∙◌}
-use mathlib.Core.Bool.{Bool, false, ◌||◌}
+use mathlib.Core.Bool.{Bool, true, false, cond, ◌||◌}
 use mathlib.Core.List.{List, [], ◌∷◌, ◌++◌}
 use native.Mathlib.Omega.{arith}
 use native.Mathlib.Numerals.{add-one}
+use borrow.Author.Tests.{ne_eqb}
 use lib.Count.{ones}
+use lib.Dec.{eqb}
+use Rattle.setting.specs.Refusal.{first_of}
 use lib.ListN.{length, set, replicate, drop, length-replicate, drop_of_length-le}
 use Rattle.std.proofs.Common.{min, inl, inr}
 use Rattle.std.proofs.lemmas.Bool.{cases_lt}
@@ -15,13 +18,13 @@ use Rattle.slices.specs.Slices.{copied}
 use Rattle.counters.specs.Counters.{last_carrier}
 use Rattle.bond_places.specs.Walk.{most_frames}
 use Rattle.header_check.specs.OnPaper.{Refusal}
-use Rattle.header_check.specs.Checking.{bare}
+use Rattle.header_check.specs.Checking.{bare, refusal_by}
 use Rattle.bond_group.specs.declared.Bond.{Bond}
 use Rattle.bond_group.specs.Plan.{Headers}
 use Rattle.bond_group.specs.declared.headers.Shown.{Shown}
 use Rattle.bond_group.specs.Group.{frames_in, said, carries}
-use Rattle.bond_group.specs.Standing.{shown_by}
-use Rattle.bond_group.specs.Plan.{Planned, headers_of, marks, nothing_seen, no_plan, plan_after, seen}
+use Rattle.bond_group.specs.Standing.{shown_by, group_checks}
+use Rattle.bond_group.specs.Plan.{Planned, headers_of, marks, nothing_seen, plan_after, planned_by, seen}
 use Rattle.bond_group.proofs.Planned.{frames-long, slots-long}
 
 -- ---- what is written over the front of a list
@@ -30,16 +33,6 @@ use Rattle.bond_group.proofs.Planned.{frames-long, slots-long}
 copied_nowhere : (from : List ℕ) → copied [] from ≡ []
 unfolding copied
 copied_nowhere from = drop-nil (length from)
-
--- the list stays as long as it was
-copied-long : (into from : List ℕ) → length (copied into from) ≡ length into
-unfolding copied
-copied-long [] from = ap length (copied_nowhere from)
-copied-long (x ∷ into) [] = refl
-copied-long (x ∷ into) (y ∷ from) = ap suc (copied-long into from)
-
-pub as_long : {now : List ℕ} (into from : List ℕ) → now ≡ copied into from → length now ≡ length into
-as_long into from e = ap length e ∙ copied-long into from
 
 -- one number written over
 copied-set : (into from : List ℕ) (i v : ℕ) → i < length from → set (copied into from) i v ≡ copied into (set from i v)
@@ -58,7 +51,7 @@ copied_twice (x ∷ into) [] (z ∷ ys) e = absurd (omega arith)
 copied_twice (x ∷ into) (y ∷ xs) [] e = absurd (omega arith)
 copied_twice (x ∷ into) (y ∷ xs) (z ∷ ys) e = ap (λ (l : List ℕ). z ∷ l) (copied_twice into xs ys (omega arith))
 
-copied_again : {now next : List ℕ} (into xs ys : List ℕ) → now ≡ copied into xs → length xs ≡ length ys → next ≡ copied now ys → next ≡ copied into ys
+pub copied_again : {now next : List ℕ} (into xs ys : List ℕ) → now ≡ copied into xs → length xs ≡ length ys → next ≡ copied now ys → next ≡ copied into ys
 copied_again into xs ys e l f = f ∙ ap (λ (m : List ℕ). copied m ys) e ∙ copied_twice into xs ys l
 
 -- zeros written over, as many as there is room for
@@ -104,29 +97,33 @@ module _ (b : Bond) (group : List ℕ) (j : ℕ) where
   unfolding plan_after
   slots_same = slots-long b group j ∙ sym (slots-long b group 0)
 
--- lists that were cleared hold what no header says
-pub written_none : (b : Bond) (group frames₀ slots₀ : List ℕ) {frames slots : List ℕ} → frames ≡ copied frames₀ nothing_seen.frames
-    → slots ≡ copied slots₀ nothing_seen.slots → Written b group frames slots frames slots false 0 0
-unfolding plan_after nothing_seen
-written_none b group frames₀ slots₀ f s =
-    record {
-      frames_are = f ∙ sym (copied_again frames₀ _ _ f refl refl);
-      slots_are = s ∙ sym (copied_again slots₀ _ _ s refl refl);
-      carried_is = refl;
-      packets_are = refl;
-    }
+-- whatever the headers lead to, the plan has as many
+pub frames_planned : (b : Bond) (group : List ℕ) → length nothing_seen.frames ≡ length (planned_by b group).plan.frames
+unfolding planned_by
+frames_planned b group = by_test (eqb (first_of (group_checks b group)) 0)
+  where
+    by_test : (x : Bool) → length nothing_seen.frames ≡ length (cond x (plan_after b group (frames_in group)) nothing_seen).frames
+    by_test true = sym (frames_same b group (frames_in group))
+    by_test false = refl
 
--- and what is written into them is written into the lists as they were lent
-pub written_lent : {b : Bond} {group frames slots : List ℕ} {is-carried : Bool} {packets j : ℕ} (frames₀ slots₀ : List ℕ) {cleared-frames cleared-slots : List ℕ}
-    → cleared-frames ≡ copied frames₀ nothing_seen.frames → cleared-slots ≡ copied slots₀ nothing_seen.slots
-    → Written b group cleared-frames cleared-slots frames slots is-carried packets j → Written b group frames₀ slots₀ frames slots is-carried packets j
-written_lent {b} {group} {j = j} frames₀ slots₀ f s w =
-    record {
-      frames_are = copied_again frames₀ nothing_seen.frames (plan_after b group j).frames f (sym (frames_same b group j)) w.frames_are;
-      slots_are = copied_again slots₀ nothing_seen.slots (plan_after b group j).slots s (sym (slots_same b group j)) w.slots_are;
-      carried_is = w.carried_is;
-      packets_are = w.packets_are;
-    }
+pub slots_planned : (b : Bond) (group : List ℕ) → length nothing_seen.slots ≡ length (planned_by b group).plan.slots
+unfolding planned_by
+slots_planned b group = by_test (eqb (first_of (group_checks b group)) 0)
+  where
+    by_test : (x : Bool) → length nothing_seen.slots ≡ length (cond x (plan_after b group (frames_in group)) nothing_seen).slots
+    by_test true = sym (slots_same b group (frames_in group))
+    by_test false = refl
+
+-- with a refusal it is the empty plan
+pub plan_refused : (b : Bond) (group : List ℕ) → ((planned_by b group).refusal.number ≡ 0 → ⊥) → (planned_by b group).plan ≡ nothing_seen
+unfolding planned_by refusal_by
+plan_refused b group d = rw (ne_eqb (first_of (group_checks b group)) 0 d) refl
+
+-- cleared lists hold what no header says
+pub written_none : (b : Bond) (group : List ℕ) {frames slots : List ℕ} → frames ≡ copied frames nothing_seen.frames
+    → slots ≡ copied slots nothing_seen.slots → Written b group frames slots frames slots false 0 0
+unfolding plan_after nothing_seen
+written_none b group f s = record { frames_are = f; slots_are = s; carried_is = refl; packets_are = refl }
 
 module _ {b : Bond} {group frames₀ slots₀ frames slots : List ℕ} {is-carried : Bool} {packets j : ℕ} (w : Written b group frames₀ slots₀ frames slots is-carried packets j) where
   -- one header more
@@ -165,12 +162,9 @@ module _ {b : Bond} {group frames₀ slots₀ frames slots : List ℕ} {is-carri
     ),
   )
 
-  -- a refusal behind some headers
-  pub written_refused : (x : Refusal) {h : Headers} {frames' slots' : List ℕ} → Leaves (no_plan x) h frames slots frames' slots' → Leaves (no_plan x) h frames₀ slots₀ frames' slots'
-  written_refused x l = (
-    l.0,
-    (
-      copied_again frames₀ (plan_after b group j).frames nothing_seen.frames w.frames_are (frames_same b group j) l.1.0,
-      copied_again slots₀ (plan_after b group j).slots nothing_seen.slots w.slots_are (slots_same b group j) l.1.1,
-    ),
+  -- behind some headers the lists are cleared to what they were cleared to before
+  pub cleared-same : (copied frames nothing_seen.frames ≡ copied frames₀ nothing_seen.frames) × (copied slots nothing_seen.slots ≡ copied slots₀ nothing_seen.slots)
+  cleared-same = (
+    copied_again frames₀ (plan_after b group j).frames nothing_seen.frames w.frames_are (frames_same b group j) refl,
+    copied_again slots₀ (plan_after b group j).slots nothing_seen.slots w.slots_are (slots_same b group j) refl,
   )

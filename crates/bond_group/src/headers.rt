@@ -1,5 +1,5 @@
 // The headers of a group, each read once: whether they stand where they should, and what they say of the stream.
-ghost use Rattle.std.specs.Prelude.{◌≡◌, true, ◌≤◌, ◌%◌, length, set, Ok, is_some, unwrap_or};
+ghost use Rattle.std.specs.Prelude.{◌≡◌, true, false, ◌≤◌, ◌%◌, length, set, Ok, is_some, is_err, unwrap_or};
 ghost use Rattle.std.specs.Int.Count.{ones};
 ghost use Rattle.counters.specs.Counters.{first_slot, last_slot, last_stream, last_position, last_carrier};
 ghost use Rattle.slices.specs.Slices.{copied};
@@ -50,7 +50,7 @@ fn number_of(ts: &[u8], os: &[u8], availability: u16, b: Bond) -> u8
     ensures upper_bound { result ≤ last_stream }
 {
     let mut number = 0u8;
-    // By number, since a stream's two identifiers stand apart in two lists.
+    // By number, as the definition counts the streams: `ts` starts at the first TS_id, `os` two bytes behind it.
     for k in 0..STREAMS {
         let at = header_layout::STREAM_BYTES as usize * k;
         let ts_id = bits::word(ts[at], ts[at + 1]);
@@ -113,15 +113,17 @@ fn nothing_shown() -> Shown
     }
 }
 
-fn shown_by(said: Said) -> Shown
-    ensures { (s : Setting) → on_paper (Ok said) ≡ parts_of (bare 0) s → result ≡ shown_by s }
-{
-    Shown {
-        group_id: said.group_id,
-        number_of_carriers: said.number_of_carriers,
-        carrier_sequence: said.carrier_sequence,
-        number_of_frames: said.number_of_frames,
-        frame_position: said.frame_position,
+impl From<Said> for Shown {
+    ghost from_gives = { λ said shown. (s : Setting) → on_paper (Ok said) ≡ parts_of (bare 0) s → shown ≡ shown_by s };
+
+    fn from(said: Said) -> Shown {
+        Shown {
+            group_id: said.group_id,
+            number_of_carriers: said.number_of_carriers,
+            carrier_sequence: said.carrier_sequence,
+            number_of_frames: said.number_of_frames,
+            frame_position: said.frame_position,
+        }
     }
 }
 
@@ -188,9 +190,7 @@ fn standing_refusal(h: Shown, behind: Shown, carriers: u8, group_id: u8) -> Resu
             return Err(Refusal::Group);
         }
     }
-    let position = h.frame_position;
-    let next = next_position(behind);
-    if position.0 != next.0 {
+    if h.frame_position != next_position(behind) {
         return Err(Refusal::Group);
     }
     Ok(())
@@ -205,8 +205,8 @@ fn set_number<T: Copy>(numbers: &mut [T], i: usize, v: T)
     }
 }
 
-// Writes the numbers of the plan before the first header is read, and of a group that is refused: zeros, as many as there is room for. What a longer list has behind them
-// stays as it was.
+// Writes the numbers of the plan before the first header is read, and of a group that is refused: zeros, as many as there is room for. What a
+// longer list has behind them stays as it was.
 pub(crate) fn clear(frames: &mut [u8], slots: &mut [u64])
     ensures frames_after { frames.new ≡ copied frames.old nothing_seen.frames }
     ensures slots_after { slots.new ≡ copied slots.old nothing_seen.slots }
@@ -218,7 +218,9 @@ pub(crate) fn clear(frames: &mut [u8], slots: &mut [u64])
 }
 
 // Checks the headers of the group, one after another: each as a header and then for 14, where its frame stands. At the end 14 again, for
-// missing frames. Answers how many bonded slots there are, or none if no header carries the stream. Writes each carrier's number of frames and the bonded slots of each frame, slot i in bit i, into what the caller lends.
+// missing frames. Answers how many bonded slots there are, or none if no header carries the stream. Writes each carrier's number of frames and
+// the bonded slots of each frame, slot i in bit i, into what the caller lends and has cleared. A group that is refused leaves numbers there, so
+// that the caller clears again; what stands behind the plan's numbers stays as it was.
 pub(crate) fn plan_of(
     group: &[u8],
     b: Bond,
@@ -227,34 +229,29 @@ pub(crate) fn plan_of(
 ) -> Result<Option<usize>, Refused>
     requires last_slot_len { (length group.now % frame_length last_slot ≡ 0) × (pid_allowed b.pid ≡ true) }
     requires le_carriers { (1 ≤ b.carriers) × (b.carriers ≤ last_carrier) }
+    requires cleared { (frames.now ≡ copied frames.now nothing_seen.frames) × (slots.now ≡ copied slots.now nothing_seen.slots) }
     ensures value { headers_in result ≡ headers_of (planned_by b group.now) }
-    ensures frames_after { frames.new ≡ copied frames.old (planned_by b group.now).plan.frames }
-    ensures slots_after { slots.new ≡ copied slots.old (planned_by b group.now).plan.slots }
+    ensures frames_after { is_err result ≡ false → frames.new ≡ copied frames.old (planned_by b group.now).plan.frames }
+    ensures slots_after { is_err result ≡ false → slots.new ≡ copied slots.old (planned_by b group.now).plan.slots }
+    ensures cleared_again { (copied frames.new nothing_seen.frames ≡ copied frames.old nothing_seen.frames)
+        × (copied slots.new nothing_seen.slots ≡ copied slots.old nothing_seen.slots) }
 {
     let count = group.len() / FRAME_BYTES;
-    clear(frames, slots);
+    // Kept beside the count: a header may carry the stream in no slot, which is another answer than no header that carries it.
     let mut is_carried = false;
     let mut packets = 0;
     let mut behind = nothing_shown();
+    // The first header sets it, and so is compared with itself.
     let mut group_id = 0u8;
     for j in 0..count {
         let at = FRAME_BYTES * j;
         let header = &group[at..at + PACKET_BYTES];
-        let said = match header_check::check(header, b.pid, Kind::Extended) {
-            Ok(said) => said,
-            Err(why) => {
-                clear(frames, slots);
-                return Err(why);
-            }
-        };
-        let shown = shown_by(said);
+        let said = header_check::check(header, b.pid, Kind::Extended)?;
+        let shown = Shown::from(said);
         if j == 0 {
             group_id = shown.group_id;
         }
-        if let Err(refusal) = standing_refusal(shown, behind, b.carriers, group_id) {
-            clear(frames, slots);
-            return Err(Refused::from(refusal));
-        }
+        standing_refusal(shown, behind, b.carriers, group_id)?;
         let bonded = bonded_by(header, said, b);
         let marks = bonded.unwrap_or(0);
         let carrier = shown.carrier_sequence as usize - 1;
@@ -265,12 +262,7 @@ pub(crate) fn plan_of(
         behind = shown;
     }
     if !is_end(behind, b.carriers) {
-        clear(frames, slots);
         return Err(Refused::from(Refusal::Group));
     }
-    if is_carried {
-        Ok(Some(packets))
-    } else {
-        Ok(None)
-    }
+    Ok(is_carried.then_some(packets))
 }

@@ -32,9 +32,12 @@ pub fn read_headers(
     ensures frames_after { frames.new ≡ copied frames.old (planned_of b group.now).plan.frames }
     ensures slots_after { slots.new ≡ copied slots.old (planned_of b group.now).plan.slots }
 {
-    if let Err(refusal) = checks::call_refusal(b, group.len()) {
+    headers::clear(frames, slots);
+    checks::call_refusal(b, group.len())?;
+    let planned = headers::plan_of(group, b, frames, slots);
+    if let Err(why) = planned {
         headers::clear(frames, slots);
-        return Err(Refused::from(refusal));
+        return Err(why);
     }
-    headers::plan_of(group, b, frames, slots)
+    planned
 }

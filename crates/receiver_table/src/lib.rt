@@ -31,7 +31,7 @@ fn vouch(slots: u8, from: u8, k: u8, to: u8) -> Row
         };
     }
     if k == slots {
-        if std::num::wrapping_sub_u8(to, from) % 16 == 1 {
+        if to.wrapping_sub(from) % 16 == 1 {
             return Row {
                 event: Event::Ready,
                 stage: Stage::Ready(to),
@@ -46,6 +46,7 @@ fn vouch(slots: u8, from: u8, k: u8, to: u8) -> Row
 
 // What a broken packet does, however many slots there are: it lacks 0x47, or bears the header PID without being a good header. Its remainder
 // goes with 'broken'; a receiver that waits has no use for it.
+#[tactic(auto, unfolding(receiver::specs::Table::row_of, receiver::specs::Table::open_row))]
 pub fn broken_row(stage: Stage, remainder: u32) -> Row
     ensures { (slots : ℕ) → result ≡ row_of slots stage (broken remainder) 0 }
 {
@@ -54,11 +55,7 @@ pub fn broken_row(stage: Stage, remainder: u32) -> Row
             event: Event::Nothing,
             stage: Stage::Waiting,
         },
-        Stage::Open(_, _) => Row {
-            event: Event::Broken(remainder),
-            stage: Stage::Waiting,
-        },
-        Stage::Ready(_) => Row {
+        Stage::Open(_, _) | Stage::Ready(_) => Row {
             event: Event::Broken(remainder),
             stage: Stage::Waiting,
         },

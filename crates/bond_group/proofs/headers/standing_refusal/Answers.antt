@@ -18,15 +18,15 @@ past_1 c = passed 14 _ (sym c.is_end.ensures ∙ c.if-is_end.false)
 
 past_2 : (c : Else-h-next_carrier) → Past 2 (standing_checks c.args.carriers c.args.group_id c.args.behind c.args.h)
 unfolding standing_checks
-past_2 c = past_1 c.before.before.before ∙ passed 14 _ (ap not (eq-eqb _ _ (c.if-h-next_carrier.false ∙ c.next_carrier.ensures)))
+past_2 c = past_1 c.before.before ∙ passed 14 _ (ap not (eq-eqb _ _ (c.if-h-next_carrier.false ∙ c.next_carrier.ensures)))
 
 past_3 : (c : Else-h-group_id) → Past 3 (standing_checks c.args.carriers c.args.group_id c.args.behind c.args.h)
 unfolding standing_checks
-past_3 c = past_2 c.before.before ∙ passed 14 _ (ap not (eq-eqb _ _ c.if-h-group_id.false))
+past_3 c = past_2 c.before ∙ passed 14 _ (ap not (eq-eqb _ _ c.if-h-group_id.false))
 
 past_4 : (c : Else-h-carriers) → Past 4 (standing_checks c.args.carriers c.args.group_id c.args.behind c.args.h)
 unfolding standing_checks
-past_4 c = past_3 c.before.before ∙ passed 14 _ (ap not (eq-eqb _ _ c.if-h-carriers.false))
+past_4 c = past_3 c.before ∙ passed 14 _ (ap not (eq-eqb _ _ c.if-h-carriers.false))
 
 past_5 : (c : Joined-not-is_last) → Past 5 (standing_checks c.args.carriers c.args.group_id c.args.behind c.args.h)
 unfolding standing_checks
@@ -59,14 +59,14 @@ returns-then-h-behind c =
     let last = sym c.is_last.ensures ∙ not-true _ c.if-not-is_last.true-raw in
     sym (past_4 (goal.at.returns-then-h-behind c).Else-h-carriers ∙ answers 14 _ (simp (last, ne_eqb _ _ c.if-h-behind.true)))
 
-pub returns-then-position-next : goal.returns-then-position-next
+pub returns-then-ne : goal.returns-then-ne
 unfolding standing_checks
-returns-then-position-next c =
-    let asked = ap (λ (p : FramePosition). p.0) c.next_position-next.ensures in
-    sym (past_5 (goal.at.returns-then-position-next c).Joined-not-is_last ∙ answers 14 _ (ap not (ne_eqb _ _ (λ e. c.if-position-next.true (e ∙ sym asked)))))
+returns-then-ne c =
+    let asked = ap (λ (p : FramePosition). not (eqb c.args.h.frame_position.0 p.0)) c.next_position.ensures in
+    sym (past_5 (goal.at.returns-then-ne c).Joined-not-is_last ∙ answers 14 _ (sym asked ∙ sym c.ne.ensures ∙ c.if-ne.true))
 
 pub returns : goal.returns
 unfolding standing_checks first_of
 returns c =
-    let asked = ap (λ (p : FramePosition). p.0) c.next_position-next.ensures in
-    sym (past_5 (goal.at.returns c).Joined-not-is_last ∙ passed 14 [] (ap not (eq-eqb _ _ (c.if-position-next.false ∙ asked))))
+    let asked = ap (λ (p : FramePosition). not (eqb c.args.h.frame_position.0 p.0)) c.next_position.ensures in
+    sym (past_5 (goal.at.returns c).Joined-not-is_last ∙ passed 14 [] (sym asked ∙ sym c.ne.ensures ∙ c.if-ne.false))

@@ -1,11 +1,11 @@
--- `shown_by` meets its contract: it is the record of the definition. Assumes nothing.
+-- `from` meets its contract: it is the record of the definition. Assumes nothing.
 use mathlib.Core.Path.{◌≡◌}
 use Rattle.setting.specs.declared.Setting.{Setting}
 use Rattle.std.specs.Prelude.{Ok}
 use Rattle.header_check.specs.OnPaper.{Checked, on_paper}
 use Rattle.header_check.specs.Checking.{bare, parts_of}
 use Rattle.bond_group.specs.Standing.{shown_by}
-use Rattle.bond_group.proofs.headers.shown_by.Goals as goal
+use Rattle.bond_group.proofs.headers.ShownFromSaid.from.Goals as goal
 
 shown : (h : Checked) (s : Setting) → h ≡ parts_of (bare 0) s
     → record {
