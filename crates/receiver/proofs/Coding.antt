@@ -1,12 +1,10 @@
 -- Decoding what was encoded gives the value back. Assumes nothing.
 use Prim.Native.Nat.{ℕ}
 use mathlib.Core.Path.{◌≡◌, refl}
-use mathlib.Core.Bool.{true}
 use mathlib.Core.List.{[], ◌∷◌}
 use native.Mathlib.Nat.{le_of_eq}
 use native.Mathlib.Omega.{arith}
 use lib.Seq.{take_at, drop_at, take_all}
-use Rattle.setting.specs.declared.Kind.{Kind}
 use Rattle.setting_bytes.specs.Words.{word_bytes, word_at}
 use Rattle.setting_bytes.proofs.KindsBack.{kind_back, kind_is}
 use Rattle.receiver.specs.Packed.{packed_length, packed}

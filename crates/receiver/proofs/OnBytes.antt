@@ -1,8 +1,8 @@
 -- On the bytes of a state each call is the receiver's own. Assumes nothing.
-use Prim.Native.Nat.{ℕ, ◌<◌}
-use mathlib.Core.Path.{◌≡◌, refl, sym, ap, subst, ◌∙◌}
+use Prim.Native.Nat.{ℕ}
+use mathlib.Core.Path.{◌≡◌, refl, sym, ap, ◌∙◌}
 use mathlib.Core.Bool.{Bool, true, false, cond, false≢true}
-use mathlib.Core.List.{List, [], ◌∷◌, ◌++◌}
+use mathlib.Core.List.{List, ◌++◌}
 use native.Mathlib.Omega.{arith}
 use native.Mathlib.Decide.{ℕ_discrete}
 use borrow.Author.Tests.{eq-eqb, ne_eqb}
@@ -24,8 +24,8 @@ use Rattle.receiver.specs.declared.Stage.{Stage}
 use Rattle.receiver.specs.Packed.{packed}
 use Rattle.receiver.specs.Table.{Sort, good, broken, other}
 use Rattle.receiver.specs.Arriving.{shown_remainder, sort_of}
-use Rattle.receiver.specs.Receiving.{Receiver, Received, moved, renumbered, receiver_after, receive_refusal, row_for, receive_of, receive_store}
-use Rattle.receiver.specs.Bytes.{receiver_length, stage_bytes, receiver_bytes, receiver_of, Codable}
+use Rattle.receiver.specs.Receiving.{Receiver, Received, moved, renumbered, receiver_after, receive_refusal, row_for, receive_of}
+use Rattle.receiver.specs.Bytes.{receiver_length, stage_bytes, receiver_bytes, Codable}
 use Rattle.receiver.specs.Calls.{lent_refusal, receive_refused, receive_told, receive_state, receive_memory, hand_out_refused, hand_out_packets, hand_out_memory}
 use Rattle.receiver.specs.Demands.{OnBytes, CallsOnBytes}
 use Rattle.receiver.proofs.Packing.{length-packed}
