@@ -1,8 +1,8 @@
 // The calls that start a run of frames. One answers the state as a value, the other writes it into the caller's bytes.
 #![tactic(auto)]
 
+ghost use lib.Dec.{lit<};
 ghost use Rattle.std.specs.Prelude.{◌≡◌};
-ghost use Rattle.std.proofs.Common.{rules};
 ghost use Rattle.refusals.specs.Refusals.{answer};
 ghost use Rattle.composer.specs.Composing.{fresh, start_of};
 ghost use Rattle.composer.specs.States.{composer_bytes};
@@ -17,7 +17,7 @@ struct Run;
 impl Fresh<COMPOSER_BYTES> for Run {
     ghost fresh = { λ kind pid. composer_bytes (fresh kind pid) };
 
-    ghost short = { Prim.search rules };
+    ghost short = { lit< tt };
 
     // The counter and the version are the ones before those of the first header.
     fn write(state: &mut [u8; COMPOSER_BYTES], pid: u16, kind: u8) {

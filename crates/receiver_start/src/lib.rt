@@ -1,8 +1,8 @@
 // The calls that start a receiver. One answers the state as a value, the other writes it into the caller's bytes.
 #![tactic(auto)]
 
+ghost use lib.Dec.{lit<};
 ghost use Rattle.std.specs.Prelude.{◌≡◌};
-ghost use Rattle.std.proofs.Common.{rules};
 ghost use Rattle.refusals.specs.Refusals.{answer};
 ghost use Rattle.receiver.specs.Receiving.{waiting, start_of};
 ghost use Rattle.receiver.specs.Bytes.{receiver_bytes};
@@ -17,7 +17,7 @@ struct Receiving;
 impl Fresh<RECEIVER_BYTES> for Receiving {
     ghost fresh = { λ kind pid. receiver_bytes (waiting kind pid) };
 
-    ghost short = { Prim.search rules };
+    ghost short = { lit< tt };
 
     // The PID and the kind, then zeros, which say that the receiver waits and that no slot has a number.
     fn write(state: &mut [u8; RECEIVER_BYTES], pid: u16, kind: u8) {

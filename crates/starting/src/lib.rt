@@ -1,4 +1,4 @@
-// The calls that start a run of frames or a receiver, over what the fresh state of either is.
+// The calls that start a run of frames or a receiver, one code for both: only their fresh states differ.
 #![tactic(auto)]
 
 ghost use Rattle.std.specs.Prelude.{ℕ, ◌^◌, List, ◌≡◌, ◌<◌};
