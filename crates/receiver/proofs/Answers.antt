@@ -1,17 +1,14 @@
 -- What each call answers and leaves over its bytes, by how it went. Assumes nothing.
-use Prim.Native.Nat.{ℕ, ◌/◌, ◌%◌, ◌<◌, ◌≤◌}
+use Prim.Native.Nat.{ℕ, ◌/◌, ◌%◌, ◌<◌}
 use mathlib.Core.Path.{◌≡◌, refl, sym, ap, ◌∙◌}
-use mathlib.Core.Bool.{true, false, not}
 use mathlib.Core.List.{List, [], ◌∷◌}
 use native.Mathlib.Decide.{ℕ_discrete}
-use native.Mathlib.Omega.{arith}
-use borrow.Author.Tests.{eq-eqb, ne_eqb, lt-ltb, le-ltb}
+use borrow.Author.Tests.{eq-eqb, ne_eqb}
 use lib.ListN.{length, replicate}
 use Rattle.slices.specs.Slices.{copied}
-use Rattle.setting.specs.Refusal.{of_length, first_of, none}
-use Rattle.setting.specs.Rules.{pid_allowed}
-use Rattle.setting.proofs.Refusals.{answers, passed, first_none, kept, written}
-use Rattle.setting_bytes.specs.Kinds.{kinds, is_kind, kind_of}
+use Rattle.setting.specs.Refusal.{of_length}
+use Rattle.setting.proofs.Refusals.{kept, written}
+use Rattle.setting_bytes.specs.Kinds.{kinds, kind_of}
 use Rattle.setting_bytes.specs.Words.{word_bytes}
 use Rattle.setting_bytes.proofs.KindsBack.{kind_same}
 use Rattle.receiver.specs.Receiving.{HandedOut}
@@ -19,7 +16,7 @@ use Rattle.receiver.specs.declared.Event.{Event}
 use Rattle.receiver.specs.Bytes.{Told}
 use Rattle.receiver.specs.Receiving.{waiting, receive_refusal, receive_of, receive_store, hand_out_refusal, hand_out_of, hand_out_buffer}
 use Rattle.receiver.specs.Bytes.{receiver_length, stage_bytes, receiver_bytes, receiver_of, told}
-use Rattle.receiver.specs.Calls.{lent_refusal, start_refused, start_state, receive_refused, receive_told, receive_event, receive_remainder, receive_state, receive_memory, hand_out_refused, hand_out_packets, hand_out_memory}
+use Rattle.receiver.specs.Calls.{lent_refusal, receive_refused, receive_told, receive_event, receive_remainder, receive_state, receive_memory, hand_out_refused, hand_out_packets, hand_out_memory}
 use Rattle.receiver.proofs.Bytes.{zeros-packed}
 
 -- ---- start
@@ -32,38 +29,6 @@ fresh-bytes state pid kind l h {zeros} n e =
     let none_yet : zeros ≡ replicate receiver_length 0 = n ∙ ap (λ (m : ℕ). replicate m 0) l in
     let bytes : receiver_bytes (waiting (kind_of kind) pid) ≡ pid / 256 ∷ pid % 256 ∷ kind ∷ replicate 55 0 = rw (zeros-packed, kind_same kind h) refl in
     e ∙ rw none_yet (sym bytes)
-
-module _ (state : List ℕ) (pid kind : ℕ) where
-  -- what is asked of the answer and of what the state is then
-  abbrev Starts : ℕ → List ℕ → Type 0
-  Starts n after = (n ≡ start_refused state pid kind) × (after ≡ start_state state pid kind)
-
-  refused : {n : ℕ} → n ≡ start_refused state pid kind → (n ≡ 0 → ⊥) → Starts n state
-  unfolding start_state
-  refused e h = (e, kept e _ state h)
-
-  pub start_no_state : (length state ≡ receiver_length → ⊥) → Starts 1 state
-  unfolding start_refused
-  start_no_state h = refused (sym (answers 1 _ (ap not (ne_eqb _ _ h)))) (λ z. omega (arith, z))
-
-  module _ (l : length state ≡ receiver_length) where
-    pub start_no_pid : pid_allowed pid ≡ false → Starts 2 state
-    unfolding start_refused
-    start_no_pid p = refused (sym (passed 1 _ (ap not (eq-eqb _ _ l)) ∙ answers 2 _ (ap not p))) (λ z. omega (arith, z))
-
-    module _ (p : pid_allowed pid ≡ true) where
-      by_kind : start_refused state pid kind ≡ first_of ((17, not (is_kind kind)) ∷ [])
-      unfolding start_refused
-      by_kind = passed 1 _ (ap not (eq-eqb _ _ l)) ∙ passed 2 _ (ap not p)
-
-      pub start_no_kind : kinds ≤ kind → Starts 17 state
-      start_no_kind k = refused (sym (by_kind ∙ answers 17 [] (ap not (le-ltb kind kinds k)))) (λ z. omega (arith, z))
-
-      pub starts : kind < kinds → {after : List ℕ} → after ≡ receiver_bytes (waiting (kind_of kind) pid) → Starts 0 after
-      unfolding start_state
-      starts h e =
-          let granted = sym (by_kind ∙ passed 17 [] (ap not (lt-ltb kind kinds h)) ∙ first_none none) in
-          (granted, e ∙ written granted _ state refl)
 
 -- ---- receive
 

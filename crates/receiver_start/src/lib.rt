@@ -1,63 +1,39 @@
 // The calls that start a receiver. One answers the state as a value, the other writes it into the caller's bytes.
 #![tactic(auto)]
 
-ghost use Rattle.std.specs.Prelude.{◌≡◌, ◌<◌, length};
+ghost use lib.Dec.{lit<};
+ghost use Rattle.std.specs.Prelude.{◌≡◌};
 ghost use Rattle.refusals.specs.Refusals.{answer};
-ghost use Rattle.setting_bytes.specs.Kinds.{kinds, kind_of};
 ghost use Rattle.receiver.specs.Receiving.{waiting, start_of};
-ghost use Rattle.receiver.specs.Bytes.{receiver_length, receiver_bytes};
+ghost use Rattle.receiver.specs.Bytes.{receiver_bytes};
 ghost use Rattle.receiver.specs.Calls.{start_refused, start_state};
 
 use receiver::RECEIVER_BYTES;
-use refusals::{Refusal, Started};
 use setting::Kind;
-use setting_bytes::LAST_KIND;
+use starting::{Fresh, Started};
 
-// Writes a fresh state: the PID and the kind, then zeros, which say that the receiver waits and that no slot has a number.
-fn write_fresh(state: &mut [u8; RECEIVER_BYTES], pid: u16, kind: u8)
-    requires { kind < kinds }
-    ensures { state.new ≡ receiver_bytes (waiting (kind_of kind) pid) }
-{
-    let [high, low] = pid.to_be_bytes();
-    let front = [high, low, kind];
-    slices::fill(state, 0);
-    slices::copy(state, &front);
+struct Receiving;
+
+impl Fresh<RECEIVER_BYTES> for Receiving {
+    ghost fresh = { λ kind pid. receiver_bytes (waiting kind pid) };
+
+    ghost short = { lit< tt };
+
+    // The PID and the kind, then zeros, which say that the receiver waits and that no slot has a number.
+    fn write(state: &mut [u8; RECEIVER_BYTES], pid: u16, kind: u8) {
+        let [high, low] = pid.to_be_bytes();
+        let front = [high, low, kind];
+        slices::fill(state, 0);
+        slices::copy(state, &front);
+    }
 }
 
-// Starts a receiver for this header PID and kind. Answers the state as a value. `composer_start` has a
-// start like it: one function for both would take `write_fresh` as a closure, and its clauses would say no more plainly what is written.
+// Starts a receiver for this header PID and kind. Answers the state as a value.
 pub fn start(pid: u16, kind: Kind) -> Started<RECEIVER_BYTES>
     ensures refusal_value { answer result.checked ≡ (start_of kind pid).refusal }
     ensures state_value { result.state ≡ receiver_bytes (start_of kind pid).state }
 {
-    let mut state = [0u8; RECEIVER_BYTES];
-    if !setting::pid_allowed(pid) {
-        write_fresh(&mut state, 0, 0);
-        return Started {
-            checked: Err(Refusal::HeaderPid),
-            state,
-        };
-    }
-    write_fresh(&mut state, pid, setting_bytes::kind_number(kind));
-    Started {
-        checked: Ok(()),
-        state,
-    }
-}
-
-fn write_start(state: &mut [u8], pid: u16, kind: u8) -> Result<(), Refusal>
-    ensures value { answer result ≡ start_refused state.old pid kind }
-    ensures state_after { state.new ≡ start_state state.old pid kind }
-{
-    let state: &mut [u8; RECEIVER_BYTES] = state.as_mut_array().ok_or(Refusal::Length)?;
-    if !setting::pid_allowed(pid) {
-        return Err(Refusal::HeaderPid);
-    }
-    if LAST_KIND < kind {
-        return Err(Refusal::OutOfRange);
-    }
-    write_fresh(state, pid, kind);
-    Ok(())
+    starting::start::<RECEIVER_BYTES, Receiving>(pid, kind)
 }
 
 // The same, written into the caller's bytes. A refusal leaves them as they were.
@@ -66,5 +42,5 @@ pub extern "C" fn niranbok_receiver_start(state: &mut [u8], pid: u16, kind: u8) 
     ensures value { result ≡ start_refused state.old pid kind }
     ensures state_after { state.new ≡ start_state state.old pid kind }
 {
-    refusals::answer(write_start(state, pid, kind))
+    refusals::answer(starting::write_start::<RECEIVER_BYTES, Receiving>(state, pid, kind))
 }

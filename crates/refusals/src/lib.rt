@@ -60,14 +60,6 @@ impl Refusal {
     }
 }
 
-// What a start by value answers. A refused start has a state too, the fresh plain one of PID 0, so this is no Result: that state is
-// promised, and the wrong programs `refused_start_that_keeps_the_pid` break it.
-#[derive(Clone, Copy)]
-pub struct Started<const N: usize> {
-    pub checked: Result<(), Refusal>,
-    pub state: [u8; N],
-}
-
 // What a call for C answers: 0, or the refusal's number.
 pub fn answer<T: Drop>(checked: Result<T, Refusal>) -> u8
     ensures { result ≡ answer checked }

@@ -2,3 +2,4 @@ pub mod One
 mod Again
 pub mod Calls
 pub mod Functions
+pub mod Starts

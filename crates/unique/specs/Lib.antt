@@ -2,3 +2,4 @@
 pub mod Outcomes
 pub mod Calls
 pub mod Functions
+pub mod Starts

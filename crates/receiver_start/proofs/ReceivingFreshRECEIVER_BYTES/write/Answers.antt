@@ -1,4 +1,4 @@
--- `write_fresh` meets its contract: PID and kind over zeros. Assumes nothing.
+-- A fresh receiver is written: PID and kind over zeros. Assumes nothing.
 use Prim.Native.Nat.{◌/◌, ◌%◌}
 use mathlib.Core.Path.{◌≡◌}
 use native.Mathlib.Omega.{arith}
@@ -6,7 +6,7 @@ use borrow.Author.Rules.{rules}
 use lib.ListN.{length, get_or}
 use Rattle.receiver.specs.Bytes.{receiver_length}
 use Rattle.receiver.proofs.Answers.{fresh-bytes}
-use Rattle.receiver_start.proofs.write_fresh.Goals as goal
+use Rattle.receiver_start.proofs.ReceivingFreshRECEIVER_BYTES.write.Goals as goal
 
 pub returns : goal.returns
 returns c =

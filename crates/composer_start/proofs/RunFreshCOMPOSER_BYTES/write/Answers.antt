@@ -1,4 +1,4 @@
--- `write_fresh` meets its contract: five bytes over zeros. Assumes nothing.
+-- A fresh run is written: five bytes over zeros. Assumes nothing.
 use Prim.Native.Nat.{ℕ, ◌/◌, ◌%◌}
 use mathlib.Core.Path.{◌≡◌, refl, ap, ◌∙◌}
 use borrow.Author.Rules.{rules}
@@ -9,7 +9,7 @@ use Rattle.setting_bytes.specs.Words.{word_bytes}
 use Rattle.composer.specs.States.{composer_length}
 use Rattle.setting_bytes.proofs.KindsBack.{kind_same}
 use Rattle.composer.proofs.Same.{fresh-bytes}
-use Rattle.composer_start.proofs.write_fresh.Goals as goal
+use Rattle.composer_start.proofs.RunFreshCOMPOSER_BYTES.write.Goals as goal
 
 pub returns : goal.returns
 unfolding word_bytes
