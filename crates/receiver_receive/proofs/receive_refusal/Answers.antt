@@ -1,11 +1,9 @@
 -- `receive_refusal` meets its contract, check by check. Assumes nothing.
 use mathlib.Core.Path.{◌≡◌, ap, sym, ◌∙◌}
-use borrow.Author.Rules.{rules}
 use Rattle.setting.specs.declared.Kind.{Kind}
 use Rattle.setting.specs.Size.{slots_of}
 use Rattle.receiver.specs.Store.{store_length}
 use Rattle.receiver.specs.Bytes.{receiver_of}
-use Rattle.receiver.proofs.LentRefusal.{no_length}
 use Rattle.receiver_receive.proofs.Taking.{no_packet, no_store, the_states}
 use Rattle.receiver_receive.proofs.receive_refusal.Goals as goal
 use Rattle.receiver_receive.proofs.receive_refusal.Goals.{After-store_bytes}

@@ -26,10 +26,9 @@ use Rattle.receiver.specs.Store.{store_length}
 use Rattle.receiver.specs.Arriving.{shown_remainder}
 use Rattle.receiver.specs.Bytes.{receiver_of, receiver_length, pid_at, kind_at, numbers_at, no_stage, stage_in, told}
 use Rattle.receiver.proofs.Bytes.{over-stage}
-use Rattle.receiver.proofs.Packing.{length-packed}
 use Rattle.receiver_receive.proofs.Sorts.{broken_sort, good_sort, checked-refusal, checked_remainder, checked_counter}
 use Rattle.receiver_receive.proofs.Receipts.{whole_packet, broken_receipt, good_receipt}
-use Rattle.receiver_receive.proofs.Taking.{keeps, renews, renewed, renewed_length}
+use Rattle.receiver_receive.proofs.Taking.{keeps, renews, renewed}
 use Rattle.receiver_receive.proofs.take_header.Goals as goal
 
 -- what the check said, of the PID and the kind that the bytes say
@@ -76,8 +75,7 @@ returns-in-Err c =
 
 pub renumber-requires : goal.renumber-requires
 renumber-requires c =
-    let long : length c.args.state.now ≡ receiver_length = search rules in
-    (length-take-le (packed_length + packed_length) (drop numbers_at c.args.state.now) (rw length-drop (omega (arith, long))), whole_packet _ _ _ c.requires.packet_value.1)
+    (length-take-le (packed_length + packed_length) (drop numbers_at c.args.state.now) (rw length-drop (omega arith)), whole_packet _ _ _ c.requires.packet_value.1)
 
 pub returns-in-Ok : goal.returns-in-Ok
 returns-in-Ok c =
