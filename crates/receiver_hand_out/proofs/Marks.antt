@@ -8,7 +8,7 @@ use native.Mathlib.Nat.{lt_of_not-le}
 use native.Mathlib.Omega.{arith}
 use lib.Count.{ones, ones_cat, count_leading_zeros, leading_unique}
 use lib.Dec.{eqb}
-use lib.ListN.{length, get_or, take, drop, length-drop}
+use lib.ListN.{length, get_or, take, drop, replicate, length-drop}
 use lib.Pow.{pow-add, pow_pos, shl-shr}
 use Rattle.bits.proofs.Laws.{fit_drop}
 use Rattle.packet.specs.Packets.{packet_length}
@@ -36,10 +36,22 @@ eight : (t : Bool) → eqb (cond t 8 0) 8 ≡ t
 eight true = refl
 eight false = refl
 
-pub marked_again : (r : ℕ) (ns : List ℕ) → marked 8 (marked r ns) ≡ marked r ns
+marked_again : (r : ℕ) (ns : List ℕ) → marked 8 (marked r ns) ≡ marked r ns
 unfolding marked
 marked_again r [] = refl
 marked_again r (n ∷ ns) = ap₂ (λ (t : Bool) (l : List ℕ). cond t 8 0 ∷ l) (eight (eqb n r)) (marked_again r ns)
+
+-- a word that was marked is a word of marks, and so is one that has such marks in its four lowest halves
+pub are_marked : (r m : ℕ) (hs : List ℕ) → halves_of m ≡ marked r hs → marked 8 (halves_of m) ≡ halves_of m
+are_marked r m hs e = ap (marked 8) e ∙ marked_again r hs ∙ sym e
+
+passed_again : (k : ℕ) {hs : List ℕ} → marked 8 hs ≡ hs → marked 8 (replicate k 0 ++ hs) ≡ replicate k 0 ++ hs
+unfolding marked
+passed_again zero e = e
+passed_again (suc k) e = ap (λ (l : List ℕ). 0 ∷ l) (passed_again k e)
+
+pub are_marked_last : (r m : ℕ) (hs : List ℕ) → halves_of m ≡ replicate 12 0 ++ marked r hs → marked 8 (halves_of m) ≡ halves_of m
+are_marked_last r m hs e = ap (marked 8) e ∙ passed_again 12 (marked_again r hs) ∙ sym e
 
 pub marked-slots : (r : ℕ) (ns : List ℕ) → slots_for 8 (marked r ns) ≡ slots_for r ns
 unfolding marked slots_for

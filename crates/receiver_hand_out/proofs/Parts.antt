@@ -14,7 +14,7 @@ use Rattle.packet.specs.Packets.{packet_length}
 use Rattle.receiver.specs.Store.{numbered, slots_for, HasPackets}
 use Rattle.receiver.proofs.Store.{length-numbered}
 use Rattle.receiver_hand_out.specs.Halves.{halves_of, marked}
-use Rattle.receiver_hand_out.proofs.Marks.{marked_again, marked-slots, marked-numbered, marked-held}
+use Rattle.receiver_hand_out.proofs.Marks.{marked-slots, marked-numbered, marked-held}
 use Rattle.receiver_hand_out.proofs.Packets.{has_take, has_drop, has_passed}
 
 -- ---- numbers in two parts
@@ -44,7 +44,6 @@ numbered_append r (x ∷ xs) ys bytes =
 
 -- the marks of m are those of the slots whose numbers are hs, behind k others
 pub record Says (r m : ℕ) (hs : List ℕ) (k : ℕ) : Type 0 where
-  pub are : marked 8 (halves_of m) ≡ halves_of m
   pub count : slots_for 8 (halves_of m) ≡ slots_for r hs
   pub packets : (bytes : List ℕ) → numbered 8 (halves_of m) bytes ≡ numbered r hs (drop (packet_length * k) bytes)
   pub held : (bytes : List ℕ) → HasPackets r hs (drop (packet_length * k) bytes) → HasPackets 8 (halves_of m) bytes
@@ -52,7 +51,6 @@ pub record Says (r m : ℕ) (hs : List ℕ) (k : ℕ) : Type 0 where
 pub says : (r m : ℕ) {hs : List ℕ} → halves_of m ≡ marked r hs → Says r m hs 0
 says r m {hs} e =
     record {
-      are = ap (marked 8) e ∙ marked_again r hs ∙ sym e;
       count = ap (slots_for 8) e ∙ marked-slots r hs;
       packets = λ bytes. ap (λ (l : List ℕ). numbered 8 l bytes) e ∙ marked-numbered r hs bytes;
       held = λ bytes h. subst (λ (l : List ℕ). HasPackets 8 l bytes) (sym e) (marked-held h);
@@ -72,15 +70,9 @@ passed_numbered (suc k) hs bytes =
     passed_numbered k hs (drop packet_length bytes)
     ∙ ap (numbered 8 hs) (drop-drop (packet_length * k) packet_length bytes ∙ ap (λ (n : ℕ). drop n bytes) next)
 
-passed_again : (k : ℕ) {hs : List ℕ} → marked 8 hs ≡ hs → marked 8 (replicate k 0 ++ hs) ≡ replicate k 0 ++ hs
-unfolding marked
-passed_again zero e = e
-passed_again (suc k) e = ap (λ (l : List ℕ). 0 ∷ l) (passed_again k e)
-
 pub says_last : (r m : ℕ) (hs : List ℕ) → halves_of m ≡ replicate 12 0 ++ marked r hs → Says r m hs 12
 says_last r m hs e =
     record {
-      are = ap (marked 8) e ∙ passed_again 12 (marked_again r hs) ∙ sym e;
       count = ap (slots_for 8) e ∙ passed_slots 12 (marked r hs) ∙ marked-slots r hs;
       packets = λ bytes.
           ap (λ (l : List ℕ). numbered 8 l bytes) e ∙ passed_numbered 12 (marked r hs) bytes ∙ marked-numbered r hs (drop (packet_length * 12) bytes);

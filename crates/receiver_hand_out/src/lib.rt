@@ -12,7 +12,7 @@ ghost use Rattle.receiver_hand_out.specs.Handing.{handed};
 ghost use Rattle.receiver_hand_out.specs.Ready.{ready_checks};
 
 use counters::RelativeNumber;
-use receiver::{BEFORE, KIND, RECEIVER_BYTES, STAGE};
+use receiver::{BEFORE, KIND, PACKED_BYTES, RECEIVER_BYTES, STAGE};
 use refusals::Refusal;
 
 // All checks but 15, in the table's order: the lengths, the state, the stream's number, and whether a frame is ready. For 15 the packets
@@ -51,7 +51,9 @@ pub fn hand_out(
     ensures out_after { out.new ≡ hand_out_memory state.now r.0 store.now out.old }
 {
     ready_refusal(state, r, store.len())?;
-    numbered::hand_out(out, store, &state[BEFORE..RECEIVER_BYTES], r)
+    // So many bytes are an array, which is proved: `unwrap` asks nothing when it runs.
+    let numbers: &[u8; PACKED_BYTES] = state[BEFORE..RECEIVER_BYTES].as_array().unwrap();
+    numbered::hand_out(out, store, numbers, r)
 }
 
 // The same for C.

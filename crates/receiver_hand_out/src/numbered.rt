@@ -9,53 +9,65 @@ ghost use Rattle.receiver_hand_out.specs.Halves.{halves_of, marked};
 
 use counters::RelativeNumber;
 use packet::PACKET_BYTES;
+use receiver::PACKED_BYTES;
 use refusals::Refusal;
+
+// A word of marks: each half of it is 8, the mark of a slot, or 0.
+#[derive(Clone, Copy)]
+struct Marks {
+    word: u64,
+    ghost are_marks: { marked 8 (halves_of word) ≡ halves_of word },
+}
 
 // Marks each half byte of `word` that is r, by the highest bit of that half. In x such a half is 0. In y the highest bit of a half is set
 // unless that half of x is 0; the sum carries nothing from one half to the next.
-fn marks(word: u64, r: RelativeNumber) -> u64
+fn mark(word: u64, r: RelativeNumber) -> Marks
     requires { r.0 ≤ 15 }
-    ensures { halves_of result ≡ marked r.0 (halves_of word) }
+    ensures { halves_of result.word ≡ marked r.0 (halves_of word) }
 {
     let x = word ^ (bits::wide(r.0) * 0x1111_1111_1111_1111);
     let y = ((x & 0x7777_7777_7777_7777) + 0x7777_7777_7777_7777) | x;
-    (y & 0x8888_8888_8888_8888) ^ 0x8888_8888_8888_8888
+    Marks {
+        word: (y & 0x8888_8888_8888_8888) ^ 0x8888_8888_8888_8888,
+    }
 }
 
 // The slots with number r among the sixteen whose numbers stand from byte `at` on.
-fn marks_at(numbers: &[u8], at: usize, r: RelativeNumber) -> u64
-    requires { (length numbers.now ≡ packed_length) × (at + 8 ≤ packed_length) × (r.0 ≤ 15) }
-    ensures { halves_of result ≡ marked r.0 (take 16 (drop (2 * at) (unpacked numbers.now))) }
+fn marks_at(numbers: &[u8; PACKED_BYTES], at: usize, r: RelativeNumber) -> Marks
+    requires { (at + 8 ≤ packed_length) × (r.0 ≤ 15) }
+    ensures { halves_of result.word ≡ marked r.0 (take 16 (drop (2 * at) (unpacked numbers.now))) }
 {
-    marks(bits::long(&numbers[at..at + 8]), r)
+    mark(bits::long(&numbers[at..at + 8]), r)
 }
 
 // The same for the last four slots, whose marks are in the four low halves.
-fn last_marks(numbers: &[u8], r: RelativeNumber) -> u64
-    requires { (length numbers.now ≡ packed_length) × (r.0 ≤ 15) }
-    ensures { halves_of result ≡ replicate 12 0 ++ marked r.0 (take 4 (drop 48 (unpacked numbers.now))) }
+fn last_marks(numbers: &[u8; PACKED_BYTES], r: RelativeNumber) -> Marks
+    requires { r.0 ≤ 15 }
+    ensures { halves_of result.word ≡ replicate 12 0 ++ marked r.0 (take 4 (drop 48 (unpacked numbers.now))) }
 {
-    marks(bits::long(&numbers[24..26]), r) % 0x1_0000
+    let sixteen = mark(bits::long(&numbers[24..26]), r);
+    Marks {
+        word: sixteen.word % 0x1_0000,
+    }
 }
 
 // How many slots are marked in four words. A mark takes one bit of its half. So the four words, shifted by 0 to 3 bits, fit into one word,
 // and its ones are counted once.
-fn count(a: u64, b: u64, c: u64, d: u64) -> usize
-    requires { (marked 8 (halves_of a) ≡ halves_of a) × (marked 8 (halves_of b) ≡ halves_of b) × (marked 8 (halves_of c) ≡ halves_of c) × (marked 8 (halves_of d) ≡ halves_of d) }
-    ensures value { result ≡ slots_for 8 (halves_of a) + slots_for 8 (halves_of b) + slots_for 8 (halves_of c) + slots_for 8 (halves_of d) }
+fn count(a: Marks, b: Marks, c: Marks, d: Marks) -> usize
+    ensures value { result ≡ slots_for 8 (halves_of a.word) + slots_for 8 (halves_of b.word) + slots_for 8 (halves_of c.word) + slots_for 8 (halves_of d.word) }
     ensures upper_bound { result ≤ 64 }
 {
-    u64::count_ones(a + b / 2 + c / 4 + d / 8) as usize
+    u64::count_ones(a.word + b.word / 2 + c.word / 4 + d.word / 8) as usize
 }
 
 // Copies the packets of the marked slots to `out`, from place `from` on. The marks are for the sixteen slots behind slot `first`. Answers
-// where the copies end. It stays a `while`: an iterator over the set bits would be no plainer.
-fn copy_marked(out: &mut [u8], from: usize, store: &[u8], first: usize, marks: u64) -> usize
-    requires { (marked 8 (halves_of marks) ≡ halves_of marks) × (HasPackets 8 (halves_of marks) (drop (packet_length * first) store.now)) × (from + packet_length * slots_for 8 (halves_of marks) ≤ length out.old) }
-    ensures value { result ≡ from + packet_length * slots_for 8 (halves_of marks) }
-    ensures out_after { out.new ≡ over from (numbered 8 (halves_of marks) (drop (packet_length * first) store.now)) out.old }
+// where the copies end. It stays a `while`: an iterator over the set bits would need a type of its own with its laws, for this one loop.
+fn copy_marked(out: &mut [u8], from: usize, store: &[u8], first: usize, marks: Marks) -> usize
+    requires { (HasPackets 8 (halves_of marks.word) (drop (packet_length * first) store.now)) × (from + packet_length * slots_for 8 (halves_of marks.word) ≤ length out.old) }
+    ensures value { result ≡ from + packet_length * slots_for 8 (halves_of marks.word) }
+    ensures out_after { out.new ≡ over from (numbered 8 (halves_of marks.word) (drop (packet_length * first) store.now)) out.old }
 {
-    let mut rest = marks;
+    let mut rest = marks.word;
     let mut at = from;
     while rest != 0 {
         let zeros = u64::leading_zeros(rest);
@@ -71,14 +83,15 @@ fn copy_marked(out: &mut [u8], from: usize, store: &[u8], first: usize, marks: u
 }
 
 // Copies the packets with number r, in slot order, to the front of `out`; 15 if it has no room for them. The marks of the last four slots
-// are the end of those for the last sixteen. The four words stand apart, since a table of them with their first slots would be no plainer.
+// are the end of those for the last sixteen. The four words stand apart: they start at slots 0, 16, 32 and 36, and the last one has four marks,
+// so a table of them would have as many lines.
 pub(crate) fn hand_out(
     out: &mut [u8],
     store: &[u8],
-    numbers: &[u8],
+    numbers: &[u8; PACKED_BYTES],
     r: RelativeNumber,
 ) -> Result<usize, Refusal>
-    requires { (length numbers.now ≡ packed_length) × (HasPackets r.0 (unpacked numbers.now) store.now) × (r.0 ≤ 15) }
+    requires { (HasPackets r.0 (unpacked numbers.now) store.now) × (r.0 ≤ 15) }
     ensures value { handed result ≡ cond (ltb (length out.old) (packet_length * slots_for r.0 (unpacked numbers.now))) (record { refusal = 15; packets = 0 }) (record { refusal = 0; packets = slots_for r.0 (unpacked numbers.now) }) }
     ensures out_after { out.new ≡ cond (ltb (length out.old) (packet_length * slots_for r.0 (unpacked numbers.now))) out.old (over 0 (numbered r.0 (unpacked numbers.now) store.now) out.old) }
 {

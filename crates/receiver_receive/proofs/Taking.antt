@@ -5,7 +5,7 @@ use mathlib.Core.Bool.{true, false, not}
 use mathlib.Core.List.{List, [], ◌++◌, append-nil}
 use native.Mathlib.Omega.{arith}
 use borrow.Author.Tests.{eq-eqb, ne_eqb, lt-ltb, le-ltb}
-use lib.ListN.{length, get_or, set, replicate, take, drop, length-drop, length-append, drop_of_length-le}
+use lib.ListN.{length, get_or, set, replicate, take, drop, length-drop, drop_of_length-le}
 use lib.Seq.{length-take-le, take-take, drop_at, drop-drop}
 use Rattle.slices.specs.Slices.{over, some_at_least}
 use Rattle.slices.proofs.Front.{put}
@@ -98,20 +98,6 @@ renewed b ns opened stage l e =
     ∙ ap (λ (t : List ℕ). opened ++ t) (take-take packed_length (packed_length + packed_length) (drop numbers_at b) (omega arith)) in
     over-stage now stage
     ∙ ap₂ (λ (x y : List ℕ). x ++ (stage_bytes stage ++ y)) (front_kept b (ns ++ rest) (omega (arith, l))) behind
-
--- they are as many as before
-pub renewed_length : (b ns opened : List ℕ) → length b ≡ receiver_length → length opened ≡ packed_length
-    → ns ≡ opened ++ take packed_length (take (packed_length + packed_length) (drop numbers_at b))
-    → length (put numbers_at (packed_length + packed_length) b ns) ≡ receiver_length
-renewed_length b ns opened l o e =
-    let lent = take (packed_length + packed_length) (drop numbers_at b) in
-    let rest = drop (packed_length + packed_length) (drop numbers_at b) in
-    let none : rest ≡ [] = drop_of_length-le (drop numbers_at b) {i = packed_length + packed_length} (rw length-drop (omega (arith, l))) in
-    let six : length (take numbers_at b) ≡ numbers_at = length-take-le numbers_at b (omega (arith, l)) in
-    let whole : length lent ≡ packed_length + packed_length = length-take-le (packed_length + packed_length) (drop numbers_at b) (rw length-drop (omega (arith, l))) in
-    let half : length (take packed_length lent) ≡ packed_length = length-take-le packed_length lent (omega (arith, whole)) in
-    let now : length ns ≡ packed_length + packed_length = ap length e ∙ length-append opened (take packed_length lent) ∙ ap₂ ◌+◌ o half in
-    length-append (take numbers_at b) (ns ++ rest) ∙ ap₂ ◌+◌ six (length-append ns rest ∙ ap₂ ◌+◌ now (ap length none))
 
 -- ---- a packet that may stand in a slot
 

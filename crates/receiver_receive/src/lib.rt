@@ -119,8 +119,8 @@ fn renew(numbers: &mut [u8], own: &[u8])
     slices::copy(current, own);
 }
 
-// Writes the slots' numbers after a good header of this kind, which says `said`. A plain or an extended header has them in the state's form;
-// those of a short one are packed.
+// Writes the slots' numbers after a good header of this kind. A plain or an extended header has them in the state's form; those of a short one
+// are packed.
 fn renumber(numbers: &mut [u8], packet: &[u8], kind: Kind)
     requires { (length numbers.old ≡ packed_length + packed_length) × (length packet.now ≡ packet_length) }
     ensures { numbers.new ≡ packed (reading kind packet.now).relative_ts_number ++ take packed_length numbers.old }

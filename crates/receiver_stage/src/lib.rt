@@ -35,22 +35,12 @@ fn no_stage() -> Stage
 fn stage_of(tag: u8, from: u8, k: u8) -> Stage
     ensures { result ≡ stage_of tag from k }
 {
-    if tag == 1 {
-        return Stage::Open(from, k);
+    match (tag, from, k) {
+        (0, 0, 0) => Stage::Waiting,
+        (1, from, k) => Stage::Open(from, k),
+        (2, from, 0) => Stage::Ready(from),
+        _ => no_stage(),
     }
-    if k != 0 {
-        return no_stage();
-    }
-    if tag == 2 {
-        return Stage::Ready(from);
-    }
-    if from != 0 {
-        return no_stage();
-    }
-    if tag != 0 {
-        return no_stage();
-    }
-    Stage::Waiting
 }
 
 // The stage in a state's bytes. If the length is wrong or the kind's byte is no kind, it is the one that is refused.
@@ -84,35 +74,16 @@ pub fn write_stage(bytes: &mut [u8], stage: Stage)
     slices::copy(bytes, &three);
 }
 
-// 17: three bytes that code no stage, a counter that no header has, or more packets stored than there are slots.
-fn stage_refusal(slots: u8, tag: u8, counter: u8, stored: u8) -> Result<(), Refusal>
-    ensures { answer result ≡ first_of (stage_checks slots (stage_of tag counter stored)) }
+// 17: a counter that no header has, or more packets stored than there are slots. The stage of three bytes that code none has such a counter.
+fn stage_refusal(slots: u8, stage: Stage) -> Result<(), Refusal>
+    ensures { answer result ≡ first_of (stage_checks slots stage) }
 {
-    if tag == 1 {
-        if limits::COUNTERS <= counter {
-            return Err(Refusal::OutOfRange);
-        }
-        if slots < stored {
-            return Err(Refusal::OutOfRange);
-        }
-        return Ok(());
+    match stage {
+        Stage::Waiting => Ok(()),
+        Stage::Open(from, k) if from < limits::COUNTERS && k <= slots => Ok(()),
+        Stage::Ready(from) if from < limits::COUNTERS => Ok(()),
+        _ => Err(Refusal::OutOfRange),
     }
-    if stored != 0 {
-        return Err(Refusal::OutOfRange);
-    }
-    if tag == 2 {
-        if limits::COUNTERS <= counter {
-            return Err(Refusal::OutOfRange);
-        }
-        return Ok(());
-    }
-    if counter != 0 {
-        return Err(Refusal::OutOfRange);
-    }
-    if tag != 0 {
-        return Err(Refusal::OutOfRange);
-    }
-    Ok(())
 }
 
 // The bytes of a store: a packet for each slot of the kind.
@@ -135,7 +106,7 @@ fn some_half_at_least(bytes: &[u8], limit: u8) -> bool
 }
 
 // 17: one list of numbers in a short receiver's state: a slot has a number that a short frame does not have, or there is a number behind its last
-// slot. No byte is asked by both tests: the compiler would load it by itself, and not many at a time.
+// slot. No byte is asked by both tests: the compiler would load such bytes one at a time.
 fn list_refusal(list: &[u8]) -> Result<(), Refusal>
     requires { length list.now ≡ packed_length }
     ensures { answer result ≡ first_of (number_checks (size_of Kind.Short) (unpacked list.now)) }
@@ -176,6 +147,7 @@ pub fn state_refusal(state: &[u8]) -> Result<(), Refusal>
     }
     let kind = setting_bytes::kind_of(state[KIND]);
     let size = setting::size_of(kind);
-    stage_refusal(size.slots, state[STAGE], state[COUNTER], state[STORED])?;
+    let stage = stage_of(state[STAGE], state[COUNTER], state[STORED]);
+    stage_refusal(size.slots, stage)?;
     numbers_refusal(kind, state)
 }

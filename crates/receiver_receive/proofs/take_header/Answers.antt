@@ -75,8 +75,7 @@ returns-in-Err c =
 
 pub renumber-requires : goal.renumber-requires
 renumber-requires c =
-    let long : length c.args.state.now ≡ receiver_length = search rules in
-    (length-take-le (packed_length + packed_length) (drop numbers_at c.args.state.now) (rw length-drop (omega (arith, long))), whole_packet _ _ _ c.requires.packet_value.1)
+    (length-take-le (packed_length + packed_length) (drop numbers_at c.args.state.now) (rw length-drop (omega arith)), whole_packet _ _ _ c.requires.packet_value.1)
 
 pub returns-in-Ok : goal.returns-in-Ok
 returns-in-Ok c =

@@ -5,10 +5,9 @@ use borrow.Author.Rules.{rules}
 use Rattle.setting.specs.declared.Size.{Size}
 use Rattle.setting.specs.Size.{size_of, slots_of}
 use Rattle.setting.proofs.Sizes.{sized}
-use Rattle.receiver.specs.Bytes.{receiver_of, told, receiver_length}
+use Rattle.receiver.specs.Bytes.{receiver_of, told}
 use Rattle.receiver_receive.proofs.Receipts.{whole_packet, whole_store}
 use Rattle.receiver_receive.proofs.Taking.{waiting-on, too_long, stored_on}
-use lib.ListN.{length}
 use Rattle.receiver_receive.proofs.take_packet.Goals as goal
 use Rattle.receiver_receive.proofs.take_packet.Goals.{After-size_of-size}
 
@@ -21,8 +20,7 @@ pub returns-then-state-eq0 : goal.returns-then-state-eq0
 unfolding told
 returns-then-state-eq0 c =
     let a = c.args in
-    let long : length c.args.state.now ≡ receiver_length = search rules in
-    let all = waiting-on a.state.now a.packet.now a.store.now long c.requires.bytes c.requires.packet_value.0 c.requires.packet_value.1 c.if-state-eq0.true in record {
+    let all = waiting-on a.state.now a.packet.now a.store.now (search rules) c.requires.bytes c.requires.packet_value.0 c.requires.packet_value.1 c.if-state-eq0.true in record {
       value = sym all.0;
       state_after = all.1.0;
       store_after = all.1.1;
@@ -32,8 +30,7 @@ pub returns-then-size-state : goal.returns-then-size-state
 unfolding told
 returns-then-size-state c =
     let a = c.args in
-    let long : length c.args.state.now ≡ receiver_length = search rules in
-    let all = too_long a.state.now a.packet.now a.store.now long c.requires.bytes c.requires.packet_value.0 c.requires.packet_value.1 c.if-state-eq0.false
+    let all = too_long a.state.now a.packet.now a.store.now (search rules) c.requires.bytes c.requires.packet_value.0 c.requires.packet_value.1 c.if-state-eq0.false
     (omega (arith, said-slots (goal.at.returns-then-size-state c).After-size_of-size, c.if-size-state.true)) c.fill.ensures in record {
       value = sym all.0;
       state_after = all.1.0;
@@ -52,8 +49,7 @@ pub returns : goal.returns
 unfolding told
 returns c =
     let a = c.args in
-    let long : length c.args.state.now ≡ receiver_length = search rules in
-    let all = stored_on a.state.now a.packet.now a.store.now long c.requires.bytes c.requires.packet_value.0 c.requires.packet_value.1 c.if-state-eq0.false
+    let all = stored_on a.state.now a.packet.now a.store.now (search rules) c.requires.bytes c.requires.packet_value.0 c.requires.packet_value.1 c.if-state-eq0.false
     (omega (arith, said-slots (goal.at.returns c).After-size_of-size, c.if-size-state.false)) in record {
       value = sym all.0;
       state_after = c.store_next.ensures.state_after ∙ all.1.0;

@@ -1,33 +1,27 @@
--- `stage_of` meets its contract, test by test. Assumes nothing.
+-- `stage_of` meets its contract, arm by arm. Assumes nothing.
 use mathlib.Core.Path.{refl}
-use mathlib.Core.Bool.{and-false}
 use borrow.Author.Tests.{ne_eqb}
 use Rattle.receiver.specs.Bytes.{stage_of}
 use Rattle.receiver_stage.proofs.stage_of.Goals as goal
+use Rattle.receiver_stage.proofs.stage_of.Goals.{in_default-via-in-0+in-0-from+in_default, in_default-via-in-0+in_default, in_default-via-in-2+in_default, in_default-via-in_default}
 
-pub returns-then-tag-eq1 : goal.returns-then-tag-eq1
+pub returns-in-0-eq0-eq0 : goal.returns-in-0-eq0-eq0
 unfolding stage_of
-returns-then-tag-eq1 c = rw c.if-tag-eq1.true refl
+returns-in-0-eq0-eq0 c = rw (c.in-0-eq0-eq0.is-0, c.in-0-eq0-eq0.is-1, c.in-0-eq0-eq0.is-2) refl
 
-pub returns-then-k-ne0 : goal.returns-then-k-ne0
+pub returns-in-1-default-default : goal.returns-in-1-default-default
 unfolding stage_of
-returns-then-k-ne0 c =
-    simp (c.no_stage.ensures, ne_eqb _ _ c.if-tag-eq1.false, ne_eqb _ _ c.if-k-ne0.true, and-false)
+returns-in-1-default-default c = rw c.in-1-default-default.is-0 refl
 
-pub returns-then-tag-eq2 : goal.returns-then-tag-eq2
+pub returns-in-2-default-eq0 : goal.returns-in-2-default-eq0
 unfolding stage_of
-returns-then-tag-eq2 c = rw (c.if-tag-eq2.true, c.if-k-ne0.false) refl
+returns-in-2-default-eq0 c = rw (c.in-2-default-eq0.is-0, c.in-2-default-eq0.is-2) refl
 
-pub returns-then-from-ne0 : goal.returns-then-from-ne0
+pub returns-in_default : goal.returns-in_default
 unfolding stage_of
-returns-then-from-ne0 c =
-    simp (c.no_stage-then-from-ne0.ensures, ne_eqb _ _ c.if-tag-eq1.false, ne_eqb _ _ c.if-tag-eq2.false, ne_eqb _ _ c.if-from-ne0.true, and-false)
-
-pub returns-then-tag-ne0 : goal.returns-then-tag-ne0
-unfolding stage_of
-returns-then-tag-ne0 c =
-    simp (c.no_stage-then-tag-ne0.ensures, ne_eqb _ _ c.if-tag-eq1.false, ne_eqb _ _ c.if-tag-eq2.false, ne_eqb _ _ c.if-tag-ne0.true)
-
-pub returns : goal.returns
-unfolding stage_of
-returns c = rw (c.if-tag-ne0.false, c.if-from-ne0.false, c.if-k-ne0.false) refl
+returns-in_default c = elim c.in_default.branch [
+  | in_default-via-in-0+in-0-from+in_default w ↦ rw (c.no_stage.ensures, w.in_default.is-0, w.in_default.is-1, ne_eqb _ _ w.in_default.is-2.1) refl
+  | in_default-via-in-0+in_default w ↦ rw (c.no_stage.ensures, w.in_default.is-0, ne_eqb _ _ w.in_default.is-1.1) refl
+  | in_default-via-in-2+in_default w ↦ rw (c.no_stage.ensures, w.in_default.is-0, ne_eqb _ _ w.in_default.is-2.1) refl
+  | in_default-via-in_default w ↦ rw (c.no_stage.ensures, ne_eqb _ _ w.in_default.is-0.0.0.1, ne_eqb _ _ w.in_default.is-0.0.1, ne_eqb _ _ w.in_default.is-0.1) refl
+]

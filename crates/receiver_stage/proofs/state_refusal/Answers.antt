@@ -1,6 +1,6 @@
 -- `state_refusal` meets its contract, test by test. Assumes nothing.
 use Prim.Native.Nat.{ℕ}
-use mathlib.Core.Path.{◌≡◌, sym, ap, ◌∙◌}
+use mathlib.Core.Path.{◌≡◌, sym, ap, ap₂, ◌∙◌}
 use mathlib.Core.List.{List, ◌++◌}
 use native.Mathlib.Omega.{arith}
 use borrow.Author.Rules.{rules}
@@ -15,6 +15,7 @@ use Rattle.setting.specs.Rules.{pid_allowed, number_checks}
 use Rattle.setting.specs.Size.{size_of, slots_of}
 use Rattle.setting_bytes.specs.Words.{word_at}
 use Rattle.setting_bytes.specs.Kinds.{kind_of}
+use Rattle.receiver.specs.declared.Stage.{Stage}
 use Rattle.receiver.specs.Table.{stage_checks}
 use Rattle.receiver.specs.Bytes.{pid_at, kind_at, stage_at, counter_at, stored_at, stage_of, receiver_length, receiver_of}
 use Rattle.receiver.specs.Calls.{state_refused}
@@ -50,13 +51,10 @@ returns-then-state-gt-LAST_KIND c =
     sym (no_kind c.in_ok-state.state.now (long at) (said at ∙ not-false _ c.if-not-pid_allowed.false-raw) (omega (arith, c.if-state-gt-LAST_KIND.true))) ∙ ap state_refused (whole at)
 
 -- what was asked of the stage
-module _ (b : List ℕ) {z : Size} {k : Kind} (size : z ≡ size_of k) (kind : k ≡ kind_of (get_or b kind_at 0)) {n : ℕ}
-    (told : n ≡ first_of (stage_checks z.slots (stage_of (get_or b stage_at 0) (get_or b counter_at 0) (get_or b stored_at 0)))) where
+module _ (b : List ℕ) {z : Size} {k : Kind} (size : z ≡ size_of k) (kind : k ≡ kind_of (get_or b kind_at 0))
+    {t : Stage} (stage : t ≡ stage_of (get_or b stage_at 0) (get_or b counter_at 0) (get_or b stored_at 0)) {n : ℕ} (told : n ≡ first_of (stage_checks z.slots t)) where
   staged : n ≡ first_of (stage_checks (slots_of (kind_of (get_or b kind_at 0))) (stage_of (get_or b stage_at 0) (get_or b counter_at 0) (get_or b stored_at 0)))
-  staged =
-      told
-      ∙ ap (λ (m : ℕ). first_of (stage_checks m (stage_of (get_or b stage_at 0) (get_or b counter_at 0) (get_or b stored_at 0))))
-      (ap (λ (x : Size). x.slots) (size ∙ ap size_of kind))
+  staged = told ∙ ap₂ (λ (m : ℕ) (s : Stage). first_of (stage_checks m s)) (ap (λ (x : Size). x.slots) (size ∙ ap size_of kind)) stage
 
 pub returns-in_err-stage_refusal : goal.returns-in_err-stage_refusal
 returns-in_err-stage_refusal c =
@@ -66,7 +64,7 @@ returns-in_err-stage_refusal c =
     let passed_up : answer c.from_residual-in_err-stage_refusal.result ≡ number refusal = search rules in
     passed_up
     ∙ when_no_stage b (long at) (said at ∙ not-false _ c.if-not-pid_allowed.false-raw) (omega (arith, c.if-state-gt-LAST_KIND.false))
-    (staged b c.size_of-size.ensures c.kind_of-kind.ensures c.in_err-stage_refusal.ensures) (is_some_number refusal)
+    (staged b c.size_of-size.ensures c.kind_of-kind.ensures c.stage_of-stage.ensures c.in_err-stage_refusal.ensures) (is_some_number refusal)
     ∙ ap state_refused (whole at)
 
 pub returns : goal.returns
@@ -75,5 +73,5 @@ returns c =
     let b = c.in_ok-state.state.now in
     c.numbers_refusal.ensures
     ∙ ap (λ (k : Kind). first_of (number_checks (size_of k) (receiver_of b).numbers ++ number_checks (size_of k) (receiver_of b).before)) c.kind_of-kind.ensures
-    ∙ sym (its_numbers b (long at) (said at ∙ not-false _ c.if-not-pid_allowed.false-raw) (omega (arith, c.if-state-gt-LAST_KIND.false)) (sym (staged b c.size_of-size.ensures c.kind_of-kind.ensures c.in_ok-stage_refusal.ensures)))
+    ∙ sym (its_numbers b (long at) (said at ∙ not-false _ c.if-not-pid_allowed.false-raw) (omega (arith, c.if-state-gt-LAST_KIND.false)) (sym (staged b c.size_of-size.ensures c.kind_of-kind.ensures c.stage_of-stage.ensures c.in_ok-stage_refusal.ensures)))
     ∙ ap state_refused (whole at)

@@ -24,7 +24,7 @@ behind c = drop (packet_length * c.args.first) c.args.store.now
 -- the next slot that is marked
 abbrev Found : In-loop-rest → Type 0
 Found c =
-    Next c.args.marks c.requires.0 (behind c) c.args.out.now c.args.from
+    Next c.args.marks.word c.args.marks.are_marks (behind c) c.args.out.now c.args.from
     c.loop-rest.out c.loop-rest.at c.loop-rest.rest
 
 found : (c : In-loop-rest) → Found c
@@ -39,23 +39,23 @@ inside c = (found c).inside
 -- whose packet is stored
 stored : (c : In-loop-rest) → packet_length * (c.args.first + (found c).place + 1) ≤ length c.args.store.now
 stored c =
-    let l = length-halves c.args.marks in
+    let l = length-halves c.args.marks.word in
     let next = inside c in
     let left = length-drop (packet_length * c.args.first) c.args.store.now in
-    let held = has_at c.requires.1 (found c).place (omega arith) (found c).here in
+    let held = has_at c.requires.0 (found c).place (omega arith) (found c).here in
     omega arith
 
 -- for which there is room
 room : (c : In-loop-rest) → c.loop-rest.at + packet_length ≤ length c.args.out.now
 room c =
-    let l = length-halves c.args.marks in
+    let l = length-halves c.args.marks.word in
     let next = inside c in
-    room_for _ _ _ _ _ (found c).handed (omega arith) (found c).here c.requires.2
+    room_for _ _ _ _ _ (found c).handed (omega arith) (found c).here c.requires.1
 
 pub loop-rest-init : goal.loop-rest-init
 loop-rest-init c =
-    let l = length-halves c.args.marks in
-    (0, omega arith, handing_none _ _ _ _ _ c.requires.1 (omega arith), sym (joined-halves c.args.marks (omega arith)))
+    let l = length-halves c.args.marks.word in
+    (0, omega arith, handing_none _ _ _ _ _ c.requires.0 (omega arith), sym (joined-halves c.args.marks.word (omega arith)))
 
 pub overflow_add-start : goal.overflow_add-start
 overflow_add-start c =
@@ -96,7 +96,7 @@ overflow_sub-rest c =
 pub loop-rest-preserved : goal.loop-rest-preserved
 loop-rest-preserved c =
     let g = (goal.at.loop-rest-preserved c).In-loop-rest in
-    let l = length-halves c.args.marks in
+    let l = length-halves c.args.marks.word in
     let next = inside g in
     let left = room g in
     let first = packet_length * c.args.first in
@@ -117,10 +117,10 @@ loop-rest-preserved c =
     ∙ ap (λ (n : ℕ). take packet_length (drop n store)) slot
     ∙ ap (take packet_length) (sym (drop-drop place first store)) in
     let more = handing_one _ _ _ _ _ (found g).handed (omega arith) (found g).here (c.loop-rest.at + packet_length - c.loop-rest.at) long c.copy.new.dst copied
-    (has_at c.requires.1 (found g).place (omega arith) (found g).here) in
+    (has_at c.requires.0 (found g).place (omega arith) (found g).here) in
     ((found g).place + 1, omega arith, more, unmarked _ _ _ _ _ _ _ (found g))
 
 pub returns : goal.returns
 returns c =
-    let none = no_slot c.args.marks c.requires.0 c.loop-rest.invariant.0 (sym c.loop-rest.invariant.3 ∙ c.loop-rest-test.false) in
+    let none = no_slot c.args.marks.word c.args.marks.are_marks c.loop-rest.invariant.0 (sym c.loop-rest.invariant.3 ∙ c.loop-rest-test.false) in
     record { value = handed _ _ _ _ _ c.loop-rest.invariant.2 none; out_after = handing_all _ _ _ _ _ c.loop-rest.invariant.2 none }

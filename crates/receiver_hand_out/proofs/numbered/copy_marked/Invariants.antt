@@ -11,8 +11,8 @@ use Rattle.receiver_hand_out.proofs.numbered.copy_marked.Given as goal
 abbrev pub invariant-loop-rest : goal.invariant-loop-rest
 invariant-loop-rest l =
     (i : ℕ) × (l.at ≤ length l.initial.out)
-    × HandingOut 8 (halves_of l.marks) (drop (packet_length * l.first) l.store) l.initial.out l.from l.out i l.at
-    × (l.rest ≡ joined 4 (drop i (halves_of l.marks)))
+    × HandingOut 8 (halves_of l.fn.marks.word) (drop (packet_length * l.first) l.store) l.initial.out l.from l.out i l.at
+    × (l.rest ≡ joined 4 (drop i (halves_of l.fn.marks.word)))
 
 abbrev pub decreases-loop-rest : goal.decreases-loop-rest
 decreases-loop-rest l = l.rest

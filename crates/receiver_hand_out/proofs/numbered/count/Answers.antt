@@ -11,11 +11,11 @@ use Rattle.receiver_hand_out.proofs.numbered.count.Goals.{Start}
 
 -- nothing is carried, and each bit is a slot
 counted : (c : Start)
-    → (c.args.a + c.args.b / 2 + c.args.c / 4 + c.args.d / 8 < 2 ^ 64)
-    × (ones (c.args.a + c.args.b / 2 + c.args.c / 4 + c.args.d / 8)
-    ≡ slots_for 8 (halves_of c.args.a) + slots_for 8 (halves_of c.args.b) + slots_for 8 (halves_of c.args.c) + slots_for 8 (halves_of c.args.d))
+    → (c.args.a.word + c.args.b.word / 2 + c.args.c.word / 4 + c.args.d.word / 8 < 2 ^ 64)
+    × (ones (c.args.a.word + c.args.b.word / 2 + c.args.c.word / 4 + c.args.d.word / 8)
+    ≡ slots_for 8 (halves_of c.args.a.word) + slots_for 8 (halves_of c.args.b.word) + slots_for 8 (halves_of c.args.c.word) + slots_for 8 (halves_of c.args.d.word))
 counted c =
-    four_words c.args.a c.args.b c.args.c c.args.d (omega arith) (omega arith) (omega arith) (omega arith) c.requires.0 c.requires.1 c.requires.2 c.requires.3
+    four_words c.args.a.word c.args.b.word c.args.c.word c.args.d.word (omega arith) (omega arith) (omega arith) (omega arith) c.args.a.are_marks c.args.b.are_marks c.args.c.are_marks c.args.d.are_marks
 
 pub overflow_add-result : goal.overflow_add-result
 overflow_add-result c =

@@ -23,30 +23,30 @@ long : (k : After-last_marks-d) → length (ns k) ≡ last_slot
 long k = length-unpacked k.args.numbers.now
 
 -- what the words say
-says₁ : (k : After-last_marks-d) → Says k.args.r.0 k.marks_at-a.result (take 16 (ns k)) 0
+says₁ : (k : After-last_marks-d) → Says k.args.r.0 k.marks_at-a.result.word (take 16 (ns k)) 0
 says₁ k = says _ _ k.marks_at-a.ensures
 
-says₂ : (k : After-last_marks-d) → Says k.args.r.0 k.marks_at-b.result (take 16 (drop 16 (ns k))) 0
+says₂ : (k : After-last_marks-d) → Says k.args.r.0 k.marks_at-b.result.word (take 16 (drop 16 (ns k))) 0
 says₂ k = says _ _ k.marks_at-b.ensures
 
-says₃ : (k : After-last_marks-d) → Says k.args.r.0 k.marks_at-c.result (take 16 (drop 32 (ns k))) 0
+says₃ : (k : After-last_marks-d) → Says k.args.r.0 k.marks_at-c.result.word (take 16 (drop 32 (ns k))) 0
 says₃ k = says _ _ k.marks_at-c.ensures
 
-says₄ : (k : After-last_marks-d) → Says k.args.r.0 k.last_marks-d.result (take 4 (drop 48 (ns k))) 12
+says₄ : (k : After-last_marks-d) → Says k.args.r.0 k.last_marks-d.result.word (take 4 (drop 48 (ns k))) 12
 says₄ k = says_last _ _ (take 4 (drop 48 (ns k))) k.last_marks-d.ensures
 
 -- how many slots have the number
 module _ (k : After-last_marks-d) {n : ℕ}
-    (told : n ≡ slots_for 8 (halves_of k.marks_at-a.result) + slots_for 8 (halves_of k.marks_at-b.result) + slots_for 8 (halves_of k.marks_at-c.result) + slots_for 8 (halves_of k.last_marks-d.result)) where
+    (told : n ≡ slots_for 8 (halves_of k.marks_at-a.result.word) + slots_for 8 (halves_of k.marks_at-b.result.word) + slots_for 8 (halves_of k.marks_at-c.result.word) + slots_for 8 (halves_of k.last_marks-d.result.word)) where
   counted : n ≡ slots_for k.args.r.0 (ns k)
   counted =
-      let all = slots-all k.args.r.0 (ns k) k.args.store.now k.args.out.now (long k) k.requires.1 in
+      let all = slots-all k.args.r.0 (ns k) k.args.store.now k.args.out.now (long k) k.requires.0 in
       omega (arith, all, told, (says₁ k).count, (says₂ k).count, (says₃ k).count, (says₄ k).count)
 
 -- what is copied after each word
 module _ (k : After-last_marks-d) where
   abbrev Copied : List ℕ → ℕ → ℕ → Type 0
-  Copied = Gone k.args.r.0 (ns k) k.args.store.now k.args.out.now (long k) k.requires.1
+  Copied = Gone k.args.r.0 (ns k) k.args.store.now k.args.out.now (long k) k.requires.0
 
   -- a word's packets, from slot `first` on, copied behind those before
   abbrev Behind : ℕ → ℕ → List ℕ → ℕ → List ℕ → ℕ → Type 0
@@ -56,22 +56,17 @@ module _ (k : After-last_marks-d) where
   copied₀ : Copied k.args.out.now 0 0
   copied₀ = gone_none _ _ _ _ _ _
 
-  copied₁ : {o₁ : List ℕ} {a₁ : ℕ} → Behind k.marks_at-a.result 0 k.args.out.now 0 o₁ a₁ → Copied o₁ 16 a₁
+  copied₁ : {o₁ : List ℕ} {a₁ : ℕ} → Behind k.marks_at-a.result.word 0 k.args.out.now 0 o₁ a₁ → Copied o₁ 16 a₁
   copied₁ b = gone_more _ _ _ _ _ _ copied₀ _ 16 0 0 (says₁ k) (omega arith) refl b.0 b.1
 
-  copied₂ : {o₁ o₂ : List ℕ} {a₁ a₂ : ℕ} → Copied o₁ 16 a₁ → Behind k.marks_at-b.result 16 o₁ a₁ o₂ a₂ → Copied o₂ 32 a₂
+  copied₂ : {o₁ o₂ : List ℕ} {a₁ a₂ : ℕ} → Copied o₁ 16 a₁ → Behind k.marks_at-b.result.word 16 o₁ a₁ o₂ a₂ → Copied o₂ 32 a₂
   copied₂ c b = gone_more _ _ _ _ _ _ c _ 16 0 16 (says₂ k) (omega arith) refl b.0 b.1
 
-  copied₃ : {o₂ o₃ : List ℕ} {a₂ a₃ : ℕ} → Copied o₂ 32 a₂ → Behind k.marks_at-c.result 32 o₂ a₂ o₃ a₃ → Copied o₃ 48 a₃
+  copied₃ : {o₂ o₃ : List ℕ} {a₂ a₃ : ℕ} → Copied o₂ 32 a₂ → Behind k.marks_at-c.result.word 32 o₂ a₂ o₃ a₃ → Copied o₃ 48 a₃
   copied₃ c b = gone_more _ _ _ _ _ _ c _ 16 0 32 (says₃ k) (omega arith) refl b.0 b.1
 
-  copied₄ : {o₃ o₄ : List ℕ} {a₃ a₄ : ℕ} → Copied o₃ 48 a₃ → Behind k.last_marks-d.result 36 o₃ a₃ o₄ a₄ → Copied o₄ last_slot a₄
+  copied₄ : {o₃ o₄ : List ℕ} {a₃ a₄ : ℕ} → Copied o₃ 48 a₃ → Behind k.last_marks-d.result.word 36 o₃ a₃ o₄ a₄ → Copied o₄ last_slot a₄
   copied₄ c b = gone_more _ _ _ _ _ _ c _ 4 12 36 (says₄ k) (omega arith) refl b.0 b.1
-
-pub count-packets-requires : goal.count-packets-requires
-count-packets-requires c =
-    let k = (goal.at.count-packets-requires c).After-last_marks-d in
-    ((says₁ k).are, (says₂ k).are, (says₃ k).are, (says₄ k).are)
 
 pub returns-then-out-packets : goal.returns-then-out-packets
 returns-then-out-packets c =
@@ -84,7 +79,7 @@ pub copy_marked-at-requires : goal.copy_marked-at-requires
 copy_marked-at-requires c =
     let k = (goal.at.copy_marked-at-requires c).After-last_marks-d in
     let n = counted k c.count-packets.ensures.value in
-    ((says₁ k).are, gone_held _ _ _ _ _ _ (copied₀ k) _ 16 0 0 (says₁ k) (omega arith) refl, gone_room _ _ _ _ _ _ (copied₀ k) _ 16 0 0 (says₁ k) (omega arith) (omega (arith, c.if-out-packets.false)))
+    (gone_held _ _ _ _ _ _ (copied₀ k) _ 16 0 0 (says₁ k) (omega arith) refl, gone_room _ _ _ _ _ _ (copied₀ k) _ 16 0 0 (says₁ k) (omega arith) (omega (arith, c.if-out-packets.false)))
 
 pub copy_marked-at-requires-2 : goal.copy_marked-at-requires-2
 copy_marked-at-requires-2 c =
@@ -92,7 +87,7 @@ copy_marked-at-requires-2 c =
     let n = counted k c.count-packets.ensures.value in
     let one = copied₁ k (c.copy_marked-at.ensures.out_after, c.copy_marked-at.ensures.value) in
     let room = gone_room _ _ _ _ _ _ one _ 16 0 16 (says₂ k) (omega arith) (omega (arith, c.if-out-packets.false)) in
-    ((says₂ k).are, gone_held _ _ _ _ _ _ one _ 16 0 16 (says₂ k) (omega arith) refl, omega (arith, room, c.copy_marked-at.auto.out))
+    (gone_held _ _ _ _ _ _ one _ 16 0 16 (says₂ k) (omega arith) refl, omega (arith, room, c.copy_marked-at.auto.out))
 
 pub copy_marked-at-requires-3 : goal.copy_marked-at-requires-3
 copy_marked-at-requires-3 c =
@@ -101,7 +96,7 @@ copy_marked-at-requires-3 c =
     let one = copied₁ k (c.copy_marked-at.ensures.out_after, c.copy_marked-at.ensures.value) in
     let two = copied₂ k one (c.copy_marked-at-2.ensures.out_after, c.copy_marked-at-2.ensures.value) in
     let room = gone_room _ _ _ _ _ _ two _ 16 0 32 (says₃ k) (omega arith) (omega (arith, c.if-out-packets.false)) in
-    ((says₃ k).are, gone_held _ _ _ _ _ _ two _ 16 0 32 (says₃ k) (omega arith) refl, omega (arith, room, c.copy_marked-at-2.auto.out, c.copy_marked-at.auto.out))
+    (gone_held _ _ _ _ _ _ two _ 16 0 32 (says₃ k) (omega arith) refl, omega (arith, room, c.copy_marked-at-2.auto.out, c.copy_marked-at.auto.out))
 
 pub copy_marked-requires : goal.copy_marked-requires
 copy_marked-requires c =
@@ -111,7 +106,7 @@ copy_marked-requires c =
     let two = copied₂ k one (c.copy_marked-at-2.ensures.out_after, c.copy_marked-at-2.ensures.value) in
     let three = copied₃ k two (c.copy_marked-at-3.ensures.out_after, c.copy_marked-at-3.ensures.value) in
     let room = gone_room _ _ _ _ _ _ three _ 4 12 36 (says₄ k) (omega arith) (omega (arith, c.if-out-packets.false)) in
-    ((says₄ k).are, gone_held _ _ _ _ _ _ three _ 4 12 36 (says₄ k) (omega arith) refl, omega (arith, room, c.copy_marked-at-3.auto.out, c.copy_marked-at-2.auto.out, c.copy_marked-at.auto.out))
+    (gone_held _ _ _ _ _ _ three _ 4 12 36 (says₄ k) (omega arith) refl, omega (arith, room, c.copy_marked-at-3.auto.out, c.copy_marked-at-2.auto.out, c.copy_marked-at.auto.out))
 
 pub returns : goal.returns
 returns c =
