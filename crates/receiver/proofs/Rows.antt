@@ -1,15 +1,11 @@
 -- Rows of the receiver's table. Assumes nothing.
-use Prim.Native.Nat.{ℕ, ◌+◌, ◌%◌, ◌^◌, ◌≤◌, ◌<◌}
+use Prim.Native.Nat.{ℕ, ◌+◌, ◌≤◌, ◌<◌}
 use mathlib.Core.Path.{◌≡◌, refl}
 use native.Mathlib.Omega.{arith}
 use borrow.Author.Tests.{eq-eqb, ne_eqb, lt-ltb, le-ltb}
 use Rattle.receiver.specs.declared.Stage.{Stage}
 use Rattle.receiver.specs.declared.Event.{Event}
 use Rattle.receiver.specs.Table.{good, broken, other, counter_step, row, open_row, row_of}
-
--- the step, by a byte that wraps
-pub step_is : (from to d : ℕ) → from < 2 ^ 8 → d < 2 ^ 8 → (d + from) % 2 ^ 8 ≡ to → counter_step from to ≡ d % 2 ^ 4
-step_is from to d h g e = omega arith
 
 -- ---- a good header on an open frame
 
