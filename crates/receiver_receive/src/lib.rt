@@ -41,8 +41,8 @@ fn receive_refusal(state: &[u8; RECEIVER_BYTES], packet: usize, store: usize) ->
 }
 
 // Puts the packet into the next slot of the open frame, and counts it. From then on the frame before it is no longer ready.
-fn store_next(state: &mut [u8; RECEIVER_BYTES], packet: &[u8], store: &mut [u8])
-    requires room { get_or state.old stored_at 0 < last_slot }
+fn store_next(state: &mut [u8], packet: &[u8], store: &mut [u8])
+    requires state_len { (length state.old ≡ receiver_length) × (get_or state.old stored_at 0 < last_slot) }
     requires packet_len { (length packet.now ≡ packet_length) × (packet_length * (get_or state.old stored_at 0 + 1) ≤ length store.old) }
     ensures state_after { state.new ≡ set (set state.old stage_at 1) stored_at (get_or state.old stored_at 0 + 1) }
     ensures store_after { store.new ≡ over (packet_length * get_or state.old stored_at 0) packet.now store.old }
@@ -55,11 +55,15 @@ fn store_next(state: &mut [u8; RECEIVER_BYTES], packet: &[u8], store: &mut [u8])
 }
 
 // Whether a packet is the usual one: nothing is refused, a frame of 52 slots is open and has room, and the packet may stand in a slot. This is asked
-// first, since most packets are so, and the compiler makes far fewer steps of it than of the checks for every kind and stage.
-fn is_usual(state: &[u8; RECEIVER_BYTES], packet: &[u8], store: usize) -> bool
+// first, since most packets are so, and the compiler makes far fewer steps of it than of the checks for every kind and stage. It is asked of the slice
+// as it is lent: with the array made first, receiving a frame took 5 % longer.
+fn is_usual(state: &[u8], packet: &[u8], store: usize) -> bool
     ensures { result ≡ true → Usual state.now packet.now store }
 {
     if packet.len() != PACKET_BYTES {
+        return false;
+    }
+    if state.len() != RECEIVER_BYTES {
         return false;
     }
     if store != STORE_BYTES {
@@ -183,12 +187,12 @@ pub fn receive(state: &mut [u8], packet: &[u8], store: &mut [u8]) -> Result<Even
     ensures state_after { state.new ≡ receive_state state.old packet.now store.old }
     ensures store_after { store.new ≡ receive_memory state.old packet.now store.old }
 {
-    let state: &mut [u8; RECEIVER_BYTES] = state.as_mut_array().ok_or(Refusal::Length)?;
     slices::are_bytes(state);
     if is_usual(state, packet, store.len()) {
         store_next(state, packet, store);
         return Ok(Event::Stored);
     }
+    let state: &mut [u8; RECEIVER_BYTES] = state.as_mut_array().ok_or(Refusal::Length)?;
     receive_refusal(state, packet.len(), store.len())?;
     if packet::place_refusal(packet, bits::word(state[PID], state[PID_LOW])).is_ok() {
         return Ok(take_packet(state, packet, store));

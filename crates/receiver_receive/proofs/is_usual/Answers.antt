@@ -3,15 +3,13 @@ use Prim.Native.Nat.{ℕ}
 use mathlib.Core.Path.{◌≡◌, ap, sym, ◌∙◌}
 use mathlib.Core.List.{List}
 use native.Mathlib.Omega.{arith}
-use borrow.Author.Rules.{rules}
 use Rattle.refusals.proofs.Refusals.{let_through}
 use Rattle.setting.specs.Rules.{pid_allowed}
 use Rattle.setting_bytes.specs.Words.{word_at}
 use Rattle.packet.specs.Packets.{place_refusal}
 use Rattle.packet.proofs.Fit.{may_stand}
-use Rattle.receiver.specs.Bytes.{receiver_of, pid_at, receiver_length}
+use Rattle.receiver.specs.Bytes.{receiver_of, pid_at}
 use Rattle.receiver_receive.proofs.Granted.{all_slots, usual_granted}
-use lib.ListN.{length}
 use Rattle.receiver_receive.proofs.is_usual.Goals as goal
 
 -- the PID is the one that the state says
@@ -23,7 +21,7 @@ pub returns : goal.returns
 returns c e =
     let b = c.args.state.now in
     let p = c.args.packet.now in
-    let l : length b ≡ receiver_length = search rules in
+    let l = c.if-state-ne-RECEIVER_BYTES.false in
     let k = c.if-state-ge-LAST_KIND.false in
     let pid = pid-said b c.word-pid.ensures in
     record {

@@ -24,7 +24,6 @@ use Rattle.receiver_receive.specs.Receive.{told_in}
 use Rattle.receiver_receive.proofs.Receipts.{whole_packet, whole_store, unfit_store}
 use Rattle.receiver_receive.proofs.Taking.{stored_on}
 use Rattle.receiver_receive.proofs.receive.Goals as goal
-use Rattle.receiver_receive.proofs.receive.Goals.{After-are_bytes}
 
 -- what is asked of a call, clause by clause, where `b` are the bytes that it was lent
 answered : {lent b after memory : List ℕ} (p store : List ℕ) (r : Result Event Refusal) → lent ≡ b → Receives b p store (answer r) (told_in r).event (told_in r).remainder after memory
@@ -44,17 +43,13 @@ turned_away b p store why passed_up e =
     let all = when_receive_refused b p store e (is_some_number why) in
     (ap answer passed_up ∙ all.0, (ap (λ r. (told_in r).event) passed_up ∙ all.1.0, (ap (λ r. (told_in r).remainder) passed_up ∙ all.1.1.0, all.1.1.1)))
 
--- the array is what was lent
-same : (c : After-are_bytes) → c.args.state.now ≡ c.in_ok-state.field-0.now
-same c = search rules
-
 -- ---- the usual packet
 
 pub store_next-requires : goal.store_next-requires
 store_next-requires c =
     let u = c.is_usual.ensures c.if-is_usual.true in
-    let w = receiver_of c.in_ok-state.field-0.now in record {
-      room = omega (arith, u.room, (sized w.kind).slots);
+    let w = receiver_of c.args.state.now in record {
+      state_len = (u.whole, omega (arith, u.room, (sized w.kind).slots));
       packet_len = (whole_packet w _ _ u.granted, omega (arith, u.room, whole_store w _ _ u.granted));
     }
 
@@ -63,9 +58,9 @@ unfolding told
 returns-then-is_usual c =
     let a = c.args in
     let u = c.is_usual.ensures c.if-is_usual.true in
-    let on = stored_on c.in_ok-state.field-0.now a.packet.now a.store.now u.whole c.are_bytes.ensures u.fits u.granted (λ z. omega (arith, u.opened, z)) u.room in
-    answered _ _ (Ok Event.Stored) (same (goal.at.returns-then-is_usual c).After-are_bytes)
-    (receives c.in_ok-state.field-0.now a.packet.now a.store.now u.whole u.granted (sym on.0) (c.store_next.ensures.state_after ∙ on.1.0) (c.store_next.ensures.store_after ∙ on.1.1))
+    let on = stored_on c.args.state.now a.packet.now a.store.now u.whole c.are_bytes.ensures u.fits u.granted (λ z. omega (arith, u.opened, z)) u.room in
+    answered _ _ (Ok Event.Stored) refl
+    (receives c.args.state.now a.packet.now a.store.now u.whole u.granted (sym on.0) (c.store_next.ensures.state_after ∙ on.1.0) (c.store_next.ensures.store_after ∙ on.1.1))
 
 -- ---- any other
 
@@ -80,9 +75,10 @@ returns-in_err-state c =
 pub returns-in_err-receive_refusal : goal.returns-in_err-receive_refusal
 returns-in_err-receive_refusal c =
     let a = c.args in
+    let same : c.args.state.now ≡ c.in_ok-state.field-0.now = search rules in
     let refusal = c.in_err-receive_refusal.field-0.0 in
     let passed_up : c.from_residual-in_err-receive_refusal.result ≡ Err refusal = search rules in
-    answered _ _ c.from_residual-in_err-receive_refusal.result (same (goal.at.returns-in_err-receive_refusal c).After-are_bytes)
+    answered _ _ c.from_residual-in_err-receive_refusal.result same
     (turned_away c.in_ok-state.field-0.now a.packet.now a.store.now refusal passed_up c.in_err-receive_refusal.ensures)
 
 module _ (b p store : List ℕ) (passed : 0 ≡ lent_refusal b (receive_refusal (receiver_of b) (length p) (length store))) where
@@ -104,29 +100,32 @@ module _ (b p store : List ℕ) (passed : 0 ≡ lent_refusal b (receive_refusal 
 pub take_packet-requires : goal.take_packet-requires
 take_packet-requires c =
     let a = c.args in
+    let same : c.args.state.now ≡ c.in_ok-state.field-0.now = search rules in
     let g = granted c.in_ok-state.field-0.now a.packet.now a.store.now c.in_ok-receive_refusal.ensures in
     let through = let_through c.place_refusal.result (sym c.is_ok.ensures.value ∙ c.if-is_ok.true) in
     record {
-      bytes = c.are_bytes.ensures;
+      bytes = rw same at c.are_bytes.ensures;
       packet_value = (stands c.in_ok-state.field-0.now a.packet.now a.store.now c.in_ok-receive_refusal.ensures c.word.ensures c.place_refusal.ensures through, g.1);
     }
 
 pub returns-then-is_ok : goal.returns-then-is_ok
 returns-then-is_ok c =
     let a = c.args in
+    let same : c.args.state.now ≡ c.in_ok-state.field-0.now = search rules in
     let g = granted c.in_ok-state.field-0.now a.packet.now a.store.now c.in_ok-receive_refusal.ensures in
-    answered _ _ (Ok c.take_packet.result) (same (goal.at.returns-then-is_ok c).After-are_bytes)
+    answered _ _ (Ok c.take_packet.result) same
     (receives c.in_ok-state.field-0.now a.packet.now a.store.now g.0 g.1 c.take_packet.ensures.value c.take_packet.ensures.state_after c.take_packet.ensures.store_after)
 
 pub take_header-requires : goal.take_header-requires
 take_header-requires c =
     let a = c.args in
+    let same : c.args.state.now ≡ c.in_ok-state.field-0.now = search rules in
     let w = receiver_of c.in_ok-state.field-0.now in
     let p = a.packet.now in
     let g = granted c.in_ok-state.field-0.now p a.store.now c.in_ok-receive_refusal.ensures in
     let back = held_back c.place_refusal.result (sym c.is_ok.ensures.value ∙ c.if-is_ok.false) in
     record {
-      bytes = c.are_bytes.ensures;
+      bytes = rw same at c.are_bytes.ensures;
       packet_value = (
         stands_not c.in_ok-state.field-0.now p a.store.now c.in_ok-receive_refusal.ensures c.word.ensures c.place_refusal.ensures back,
         subst (λ (n : ℕ). receive_refusal w (length p) n ≡ 0) (whole_store w _ _ g.1) g.1,
@@ -136,13 +135,14 @@ take_header-requires c =
 pub returns : goal.returns
 returns c =
     let a = c.args in
+    let same : c.args.state.now ≡ c.in_ok-state.field-0.now = search rules in
     let w = receiver_of c.in_ok-state.field-0.now in
     let p = a.packet.now in
     let g = granted c.in_ok-state.field-0.now p a.store.now c.in_ok-receive_refusal.ensures in
     let whole = sym (whole_store w _ _ g.1) in
     let back = held_back c.place_refusal.result (sym c.is_ok.ensures.value ∙ c.if-is_ok.false) in
     let none = stands_not c.in_ok-state.field-0.now p a.store.now c.in_ok-receive_refusal.ensures c.word.ensures c.place_refusal.ensures back in
-    answered _ _ (Ok c.take_header.result) (same (goal.at.returns c).After-are_bytes)
+    answered _ _ (Ok c.take_header.result) same
     (receives c.in_ok-state.field-0.now p a.store.now g.0 g.1
     (c.take_header.ensures.value ∙ ap (λ (n : ℕ). told (receive_of w p n).event) whole)
     (c.take_header.ensures.state_after ∙ ap (λ (n : ℕ). receiver_bytes (receive_of w p n).state) whole)

@@ -12,7 +12,7 @@ use Rattle.receiver_receive.proofs.store_next.Goals as goal
 pub returns : goal.returns
 returns c =
     let at = packet_length * get_or c.args.state.now stored_at 0 in
-    let room = c.requires.room in
+    let room = c.requires.state_len.1 in
     let long = c.requires.packet_len.1 in
     let lent = mid_len at (at + packet_length) c.args.store.now (omega arith) in
     let whole : at + packet_length - at ≡ packet_length = omega arith in record {

@@ -41,7 +41,7 @@ pub store_next-requires : goal.store_next-requires
 store_next-requires c =
     let kind = (receiver_of c.args.state.now).kind in
     let whole = whole_store _ _ _ c.requires.packet_value.1 in record {
-      room = omega (arith, said-slots (goal.at.store_next-requires c).After-size_of-size, c.if-size-state.false, (sized kind).slots);
+      state_len = (search rules, omega (arith, said-slots (goal.at.store_next-requires c).After-size_of-size, c.if-size-state.false, (sized kind).slots));
       packet_len = (whole_packet _ _ _ c.requires.packet_value.1, omega (arith, said-slots (goal.at.store_next-requires c).After-size_of-size, c.if-size-state.false, whole));
     }
 
