@@ -3,6 +3,7 @@
 use mathlib.Core.Path.{refl, sym, ◌∙◌}
 use Rattle.unique.specs.Functions.{Functions}
 use Rattle.unique.proofs.One.{one}
+use Rattle.unique.proofs.Saying.{saying, says}
 use Rattle.unique.proofs.Again.{fixed, checks, reads_into, counts, header_checks, header_reads, receives, hands_out, headers_reads, moves, lists}
 
 pub functions : Functions
@@ -53,6 +54,7 @@ functions = record {
   packet_has_unfit = one (λ κs a x p i. (p i, _));
   packet_rest = λ κs a x y p q. p ∙ sym q;
   header_layout_places_of = one (λ κs a x p i. (p.0 i, _));
+  header_check_refused_from = one (λ κs a x p i. (p i, _));
   header_check_cut_run = one (λ κs a x p i. (_, (p i, _)));
   header_check_read_numbers = one (λ κs a x p i. (_, (p i, _)));
   header_check_check = one (λ κs a x p i. (fixed header_checks x.0 p i, _));
@@ -93,6 +95,7 @@ functions = record {
       one (λ κs a x p i. (fixed receives x.0 (λ j. (p.0 j, record { event = p.1.0 j; remainder = p.1.1.0 j })) i, (p.1.1.1.0 i, (_, (p.1.1.1.1 i, _)))));
   receiver_hand_out_hand_out = one (λ κs a x p i. (fixed hands_out x.0 (λ j. (p.0 j, p.1.0 j)) i, (_, (_, (p.1.1 i, _)))));
   -- bonded carriers
+  bond_group_shown_from = one (λ κs a x p i. (p (saying a.0) (says a.0) i, _));
   bond_group_read_headers = one (λ κs a x p i. (fixed headers_reads x.0 p.0 i, (_, (_, (p.1.0 i, (p.1.1 i, _))))));
   bond_spread = one (λ κs a x p i. (fixed moves x.0 p.0 i, (p.1 i, _)));
   bond_gather = one (λ κs a x p i. (fixed moves x.0 p.0 i, (_, (p.1 i, _))));

@@ -91,6 +91,8 @@ use Rattle.packet.proofs.rest as packet_rest
 use Rattle.packet.specs.contracts.rest as packet_rest_contract
 use Rattle.header_layout.proofs.places_of as header_layout_places_of
 use Rattle.header_layout.specs.contracts.places_of as header_layout_places_of_contract
+use Rattle.header_check.proofs.RefusedFromRefusal.from as header_check_refused_from
+use Rattle.header_check.specs.contracts.RefusedFromRefusal.from as header_check_refused_from_contract
 use Rattle.header_check.proofs.cut_run as header_check_cut_run
 use Rattle.header_check.specs.contracts.cut_run as header_check_cut_run_contract
 use Rattle.header_check.proofs.read_numbers as header_check_read_numbers
@@ -145,6 +147,8 @@ use Rattle.receiver_receive.proofs.receive as receiver_receive_receive
 use Rattle.receiver_receive.specs.contracts.receive as receiver_receive_receive_contract
 use Rattle.receiver_hand_out.proofs.hand_out as receiver_hand_out_hand_out
 use Rattle.receiver_hand_out.specs.contracts.hand_out as receiver_hand_out_hand_out_contract
+use Rattle.bond_group.proofs.headers.ShownFromSaid.from as bond_group_shown_from
+use Rattle.bond_group.specs.contracts.headers.ShownFromSaid.from as bond_group_shown_from_contract
 use Rattle.bond_group.proofs.read_headers as bond_group_read_headers
 use Rattle.bond_group.specs.contracts.read_headers as bond_group_read_headers_contract
 use Rattle.bond.proofs.spread as bond_spread
@@ -206,6 +210,7 @@ pub record Functions : Type 0 where
       → Allows packet_rest_contract.ended packet_rest.Reads.Learnt κs a y
       → x.0.now ≡ y.0.now
   pub header_layout_places_of : OneOutcome header_layout_places_of_contract.ended header_layout_places_of.Reads.Learnt
+  pub header_check_refused_from : OneOutcome header_check_refused_from_contract.ended header_check_refused_from.Reads.Learnt
   pub header_check_cut_run : OneOutcome header_check_cut_run_contract.ended header_check_cut_run.Reads.Learnt
   pub header_check_read_numbers : OneOutcome header_check_read_numbers_contract.ended header_check_read_numbers.Reads.Learnt
   pub header_check_check : OneOutcome header_check_check_contract.ended header_check_check.Reads.Learnt
@@ -241,6 +246,7 @@ pub record Functions : Type 0 where
   pub receiver_receive_receive : OneOutcome receiver_receive_receive_contract.ended receiver_receive_receive.Reads.Learnt
   pub receiver_hand_out_hand_out : OneOutcome receiver_hand_out_hand_out_contract.ended receiver_hand_out_hand_out.Reads.Learnt
   -- bonded carriers
+  pub bond_group_shown_from : OneOutcome bond_group_shown_from_contract.ended bond_group_shown_from.Reads.Learnt
   pub bond_group_read_headers : OneOutcome bond_group_read_headers_contract.ended bond_group_read_headers.Reads.Learnt
   pub bond_spread : OneOutcome bond_spread_contract.ended bond_spread.Reads.Learnt
   pub bond_gather : OneOutcome bond_gather_contract.ended bond_gather.Reads.Learnt

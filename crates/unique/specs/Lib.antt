@@ -3,3 +3,4 @@ pub mod Outcomes
 pub mod Calls
 pub mod Functions
 pub mod Starts
+pub mod Generic
