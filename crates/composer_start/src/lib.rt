@@ -10,7 +10,10 @@ ghost use Rattle.composer.specs.Calls.{start_refused, start_state};
 
 use composer::{COMPOSER_BYTES, COUNTER, KIND, PID, PID_LOW, VERSION};
 use setting::Kind;
-use starting::{Fresh, Started};
+use starting::Fresh;
+
+// What a start by value answers.
+pub type Started = starting::Started<COMPOSER_BYTES>;
 
 struct Run;
 
@@ -32,7 +35,7 @@ impl Fresh<COMPOSER_BYTES> for Run {
 }
 
 // Starts a run with this header PID and kind. Answers the state as a value.
-pub fn start(pid: u16, kind: Kind) -> Started<COMPOSER_BYTES>
+pub fn start(pid: u16, kind: Kind) -> Started
     ensures refusal_value { answer result.checked ≡ (start_of kind pid).refusal }
     ensures state_value { result.state ≡ composer_bytes (start_of kind pid).state }
 {

@@ -15,8 +15,8 @@ pub enum Input {
 
 // Where bytes go: a file, which is closed when this is dropped.
 #[derive(Drop)]
-pub struct Output {
-    file: File,
+pub enum Output {
+    Named(File),
 }
 
 // A name as text.
@@ -34,8 +34,7 @@ pub fn open(rt: HostRuntime, name: &[u8]) -> Result<Input> {
 
 // Opens the named file to write, and empties it; if there is none, makes it.
 pub fn create(rt: HostRuntime, name: &[u8]) -> Result<Output> {
-    let file = File::create(&rt, path_of(name)?)?;
-    Ok(Output { file })
+    Ok(Output::Named(File::create(&rt, path_of(name)?)?))
 }
 
 // Reads once. No bytes are the end.
@@ -87,7 +86,8 @@ pub fn read_block<F: Fn(Error)>(input: &Input, block: &mut [u8], failed: F) -> u
 
 // Writes all of the bytes, or fails, when some of them may have been written.
 pub fn write(output: &Output, bytes: &[u8]) -> Result<()> {
-    let mut to = &output.file;
+    let Output::Named(file) = output;
+    let mut to = file;
     to.write_all(bytes)
 }
 

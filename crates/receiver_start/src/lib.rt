@@ -10,7 +10,10 @@ ghost use Rattle.receiver.specs.Calls.{start_refused, start_state};
 
 use receiver::RECEIVER_BYTES;
 use setting::Kind;
-use starting::{Fresh, Started};
+use starting::Fresh;
+
+// What a start by value answers.
+pub type Started = starting::Started<RECEIVER_BYTES>;
 
 struct Receiving;
 
@@ -29,7 +32,7 @@ impl Fresh<RECEIVER_BYTES> for Receiving {
 }
 
 // Starts a receiver for this header PID and kind. Answers the state as a value.
-pub fn start(pid: u16, kind: Kind) -> Started<RECEIVER_BYTES>
+pub fn start(pid: u16, kind: Kind) -> Started
     ensures refusal_value { answer result.checked ≡ (start_of kind pid).refusal }
     ensures state_value { result.state ≡ receiver_bytes (start_of kind pid).state }
 {

@@ -1,5 +1,5 @@
 // Arguments: words, numbers in their ranges, and files by name. An argument is bytes, and need not be text.
-ghost use Rattle.std.specs.Prelude.{◌≤◌};
+ghost use Rattle.std.specs.Prelude.{◌≤◌, length};
 
 use crate::problem::{About, Field, Problem};
 use host::{Input, Output};
@@ -27,7 +27,9 @@ pub(crate) const NETWORK_ID: Field = Field {
 };
 
 // Argument i of the program, in the buffer's first bytes; no bytes if there is no such argument.
-pub(crate) fn word(rt: HostRuntime, i: usize, buffer: &mut [u8]) -> &[u8] {
+pub(crate) fn word(rt: HostRuntime, i: usize, buffer: &mut [u8]) -> &[u8]
+    ensures { length result.now ≤ length buffer.old }
+{
     let n = host::argument(rt, i, buffer).unwrap_or(0);
     &buffer[..n]
 }

@@ -19,12 +19,28 @@ const BLOCK_PACKETS: usize = 53;
 
 const BLOCK_BYTES: usize = PACKET_BYTES * BLOCK_PACKETS;
 
-// The packets of an input, read in blocks: how many packets the block has, and how many of them were taken. An array and its counts, since the
+// A carrier's buffers: a block of its input; the open frame, its header and its packets; and the wanted super frame. They lie apart from the
+// carrier: what is dropped at the end is copied for it, and with these it would take twice as much stack.
+#[derive(Clone, Copy)]
+pub(crate) struct Buffers {
+    block: [u8; BLOCK_BYTES],
+    frame: [u8; FRAME_BYTES],
+    wanted: [u8; SUPER_BYTES],
+}
+
+impl Buffers {
+    pub(crate) const EMPTY: Buffers = Buffers {
+        block: [0u8; BLOCK_BYTES],
+        frame: [0u8; FRAME_BYTES],
+        wanted: [0u8; SUPER_BYTES],
+    };
+}
+
+// The packets of an input, read in blocks: how many packets the block has, and how many of them were taken. A buffer and its counts, since the
 // programs have no heap for a reader of the library's.
 #[derive(Drop)]
 struct Packets {
     input: Input,
-    block: [u8; BLOCK_BYTES],
     count: usize,
     taken: usize,
     ghost few: { count ≤ 53 },
@@ -32,17 +48,21 @@ struct Packets {
 
 impl Packets {
     // Reads the next block.
-    fn refill(&mut self, rt: HostRuntime) {
-        let got = input::read_block(rt, &self.input, &mut self.block);
+    fn refill(&mut self, rt: HostRuntime, block: &mut [u8; BLOCK_BYTES]) {
+        let got = input::read_block(rt, &self.input, block);
         input::say_part(rt, About::Run, got);
         self.count = got / PACKET_BYTES;
         self.taken = 0;
     }
 
     // The next packet, or none at the end of the input.
-    fn next(&mut self, rt: HostRuntime) -> Option<[u8; PACKET_BYTES]> {
+    fn next(
+        &mut self,
+        rt: HostRuntime,
+        block: &mut [u8; BLOCK_BYTES],
+    ) -> Option<[u8; PACKET_BYTES]> {
         if self.count <= self.taken {
-            self.refill(rt);
+            self.refill(rt, block);
         }
         if self.count <= self.taken {
             return None;
@@ -50,7 +70,7 @@ impl Packets {
         let at = PACKET_BYTES * self.taken;
         self.taken += 1;
         let mut packet = [0u8; PACKET_BYTES];
-        packet.copy_from_slice(&self.block[at..at + PACKET_BYTES]);
+        packet.copy_from_slice(&block[at..at + PACKET_BYTES]);
         Some(packet)
     }
 }
@@ -101,13 +121,11 @@ pub(crate) struct Carrier {
     packets: Packets,
     // Whether the input has ended.
     pub(crate) ended: bool,
-    // The receiver's state, and the open frame: its header and its packets.
+    // The receiver's state.
     state: [u8; RECEIVER_BYTES],
-    frame: [u8; FRAME_BYTES],
     // Where the run stands; nowhere before the first good header.
     place: Option<Place>,
-    // The wanted super frame, and which of its frames came whole, a bit for each.
-    wanted: [u8; SUPER_BYTES],
+    // Which frames of the wanted super frame came whole, a bit for each.
     pub(crate) have: u8,
     tally: Tally,
 }
@@ -120,15 +138,12 @@ impl Carrier {
             number,
             packets: Packets {
                 input,
-                block: [0u8; BLOCK_BYTES],
                 count: 0,
                 taken: 0,
             },
             ended: false,
             state: receiving::start(pid, Kind::Extended),
-            frame: [0u8; FRAME_BYTES],
             place: None,
-            wanted: [0u8; SUPER_BYTES],
             have: 0,
             tally: Tally::new(pid, Kind::Extended),
         }
@@ -140,14 +155,14 @@ impl Carrier {
     }
 
     // The wanted super frame, if all of its frames came whole.
-    pub(crate) fn super_frame(&self) -> Option<&[u8]>
+    pub(crate) fn super_frame<'a>(&self, buffers: &'a Buffers) -> Option<&'a [u8]>
         ensures { IfSome result (λ frames. length frames.now ≤ frame_length last_slot * last_position) }
     {
         let place = self.place?;
         if self.have != (1u8 << u32::from(place.frames)) - 1 {
             return None;
         }
-        Some(&self.wanted[..FRAME_BYTES * usize::from(place.frames)])
+        Some(&buffers.wanted[..FRAME_BYTES * usize::from(place.frames)])
     }
 
     // Whether the open frame belongs to a later super frame.
@@ -198,7 +213,7 @@ impl Carrier {
     }
 
     // Keeps the frame that became ready, if it belongs to the wanted super frame.
-    fn keep(&mut self, want: u64) {
+    fn keep(&mut self, buffers: &mut Buffers, want: u64) {
         let Some(place) = self.place else {
             return;
         };
@@ -207,35 +222,35 @@ impl Carrier {
         }
         let before = place.position().0 - FramePosition::FIRST;
         let at = FRAME_BYTES * usize::from(before);
-        self.wanted[at..at + FRAME_BYTES].copy_from_slice(&self.frame);
+        buffers.wanted[at..at + FRAME_BYTES].copy_from_slice(&buffers.frame);
         self.have |= 1u8 << u32::from(before);
     }
 
     // Takes one packet. If it opens a frame, it is kept as that frame's header.
-    fn take(&mut self, packet: &[u8; PACKET_BYTES], want: u64) {
-        let event = receiving::receive(&mut self.state, packet, &mut self.frame[PACKET_BYTES..]);
+    fn take(&mut self, buffers: &mut Buffers, packet: &[u8; PACKET_BYTES], want: u64) {
+        let event = receiving::receive(&mut self.state, packet, &mut buffers.frame[PACKET_BYTES..]);
         self.tally.count(self.rt, event, packet);
         if let Event::Ready = event {
-            self.keep(want);
+            self.keep(buffers, want);
         }
         if receiving::opens(event) {
-            self.frame[..PACKET_BYTES].copy_from_slice(packet);
+            buffers.frame[..PACKET_BYTES].copy_from_slice(packet);
             self.take_header(packet);
         }
     }
 
     // Reads on until a super frame behind the one with this number has begun, or the input has ended. A proved loop has to end: this one does, at
     // the latest, when the numbers run out.
-    pub(crate) fn read_on(&mut self, want: u64) {
+    pub(crate) fn read_on(&mut self, buffers: &mut Buffers, want: u64) {
         self.have = 0;
         for _ in 0..u64::MAX {
             if self.is_past(want) {
                 return;
             }
-            match self.packets.next(self.rt) {
+            match self.packets.next(self.rt, &mut buffers.block) {
                 Some(packet) => {
                     self.ended = false;
-                    self.take(&packet, want);
+                    self.take(buffers, &packet, want);
                 }
                 None => self.ended = true,
             }

@@ -3,7 +3,7 @@ ghost use Rattle.std.specs.Prelude.{◌≤◌, IfSome};
 ghost use Rattle.tools.specs.Sizes.{group_length};
 
 use crate::arguments::Arguments;
-use crate::carrier::Carrier;
+use crate::carrier::{Buffers, Carrier};
 use crate::carriers::{GROUP_BYTES, STREAM_BYTES, STREAM_PACKETS};
 use crate::input;
 use crate::problem::{About, Problem, SUPER_FRAMES_PROGRESS, said, say_progress};
@@ -57,13 +57,17 @@ impl fmt::Display for Count {
 
 // Copies the carriers' super frames into the group, one behind another. Answers how many bytes they take, or none if some carrier lacks part
 // of its super frame.
-fn join(group: &mut [u8; GROUP_BYTES], carriers: &[Option<Carrier>; CARRIERS]) -> Option<usize>
+fn join(
+    group: &mut [u8; GROUP_BYTES],
+    carriers: &[Option<Carrier>; CARRIERS],
+    buffers: &[Buffers; CARRIERS],
+) -> Option<usize>
     ensures { IfSome result (λ end. end ≤ group_length) }
 {
     let mut end = 0;
-    for place in carriers {
+    for (c, place) in carriers.iter().enumerate() {
         if let Some(carrier) = place {
-            let part = carrier.super_frame()?;
+            let part = carrier.super_frame(&buffers[c])?;
             let behind = end + part.len();
             group[end..behind].copy_from_slice(part);
             end = behind;
@@ -104,9 +108,11 @@ impl Group {
     }
 
     // Reads each carrier to the end of the super frame with this number, or to the end of its input.
-    fn read_on(&mut self, want: u64) {
-        for carrier in self.carriers.iter_mut().flatten() {
-            carrier.read_on(want);
+    fn read_on(&mut self, buffers: &mut [Buffers; CARRIERS], want: u64) {
+        for (carrier, own) in self.carriers.iter_mut().zip(buffers) {
+            if let Some(carrier) = carrier {
+                carrier.read_on(own, want);
+            }
         }
     }
 
@@ -139,12 +145,13 @@ impl Group {
     // Reads and gathers until the input ends. A proved loop has to end: this one does, at the latest, when the numbers run out.
     pub(crate) fn gather_all(
         &mut self,
+        buffers: &mut [Buffers; CARRIERS],
         group: &mut [u8; GROUP_BYTES],
         stream: &mut [u8; STREAM_BYTES],
     ) -> Result<(), Problem> {
         for want in 0..u64::MAX {
-            self.read_on(want);
-            if let Some(end) = join(group, &self.carriers) {
+            self.read_on(buffers, want);
+            if let Some(end) = join(group, &self.carriers, buffers) {
                 self.gather(&group[..end], stream)?;
                 continue;
             }

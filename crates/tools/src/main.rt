@@ -2,6 +2,8 @@
 // argument does.
 #![tactic(auto)]
 
+ghost use Rattle.std.specs.Prelude.{◌≤◌, length};
+
 mod arguments;
 mod bonding;
 mod carrier;
@@ -34,7 +36,9 @@ enum Tool {
 }
 
 // The last part of a path: what stands behind its last '/'.
-fn base(path: &[u8]) -> &[u8] {
+fn base(path: &[u8]) -> &[u8]
+    ensures { length result.now ≤ length path.now }
+{
     match path.iter().rposition(|b| *b == b'/') {
         Some(i) => &path[i + 1..],
         None => path,

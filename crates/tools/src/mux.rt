@@ -1,7 +1,10 @@
 // mux: transport streams in, frames out.
-ghost use Rattle.std.specs.Prelude.{◌≤◌, length};
+ghost use Rattle.std.specs.Prelude.{◌≡◌, ◌≤◌, length, replicate};
 ghost use Rattle.io.specs.Counts.{IsPrefixLen};
 ghost use Rattle.packet.specs.Packets.{packet_length};
+ghost use Rattle.setting_bytes.specs.Kinds.{kind_number};
+ghost use Rattle.composer.specs.States.{composer_length};
+ghost use Rattle.composer.specs.Calls.{start_state};
 
 use crate::arguments::{Arguments, NETWORK_ID, PID, TS_ID};
 use crate::plan::SHARES;
@@ -135,6 +138,15 @@ fn write_frame(rt: HostRuntime, frame: &[u8], packets: usize) -> Result<(), Prob
     input::print(rt, &frame[..end])
 }
 
+// The state of a run that starts with this PID and kind. By the call for C, since the theorems on runs begin with what it leaves.
+fn start(pid: u16, kind: Kind) -> [u8; COMPOSER_BYTES]
+    ensures { result ≡ start_state (replicate composer_length 0) pid (kind_number kind) }
+{
+    let mut state = [0u8; COMPOSER_BYTES];
+    composer_start::niranbok_composer_start(&mut state, pid, setting_bytes::kind_number(kind));
+    state
+}
+
 // A run: the composer's state, the setting of all headers, and the streams.
 #[derive(Drop)]
 struct Mux {
@@ -152,7 +164,7 @@ impl Mux {
         said: Setting,
         streams: [Option<Stream>; STREAMS],
     ) -> Mux {
-        let state = composer_start::start(pid, kind).state;
+        let state = start(pid, kind);
         let mut setting = [0u8; SETTING_BYTES];
         setting_write::write_setting(&mut setting, said);
         Mux {

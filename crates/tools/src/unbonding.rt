@@ -1,9 +1,11 @@
 // unbond: the files of a group's carriers in, their one stream out.
 use crate::arguments::{Arguments, PID};
+use crate::carrier::Buffers;
 use crate::carriers::{GROUP_BYTES, STREAM_BYTES};
 use crate::gathering::Group;
 use crate::problem::{About, Problem, said};
 use crate::{bonding, carriers};
+use bond_group::headers::CARRIERS;
 
 // The arguments: PID, TS_ID and NETWORK_ID; then a file for each carrier, carrier 1 first.
 const HEAD: usize = 3;
@@ -18,9 +20,11 @@ fn run_carriers(args: Arguments, count: u8) -> Result<(), Problem> {
     if !carriers.open(args.behind(HEAD)) {
         return Ok(());
     }
+    let mut buffers = [Buffers::EMPTY; CARRIERS];
     let mut group = [0u8; GROUP_BYTES];
     let mut stream = [0u8; STREAM_BYTES];
-    said(args.rt, carriers.gather_all(&mut group, &mut stream));
+    let ended = carriers.gather_all(&mut buffers, &mut group, &mut stream);
+    said(args.rt, ended);
     carriers.say();
     Ok(())
 }
