@@ -13,6 +13,14 @@ const HEAD: usize = 3;
 const USAGE: &str =
     "unbond PID TS_ID NETWORK_ID CARRIER_FILE.. > STREAM; the files in the carriers' order";
 
+// Gathers all that the carriers have. A function of its own for its buffers, which are cleared where a function that has them begins.
+fn gather(carriers: &mut Group) -> Result<(), Problem> {
+    let mut buffers = [Buffers::EMPTY; CARRIERS];
+    let mut group = [0u8; GROUP_BYTES];
+    let mut stream = [0u8; STREAM_BYTES];
+    carriers.gather_all(&mut buffers, &mut group, &mut stream)
+}
+
 fn run_carriers(args: Arguments, count: u8) -> Result<(), Problem> {
     let pid = args.number(0, About::Run, PID)?;
     let bond = bonding::bond_at(args, 1, pid, count)?;
@@ -20,11 +28,7 @@ fn run_carriers(args: Arguments, count: u8) -> Result<(), Problem> {
     if !carriers.open(args.behind(HEAD)) {
         return Ok(());
     }
-    let mut buffers = [Buffers::EMPTY; CARRIERS];
-    let mut group = [0u8; GROUP_BYTES];
-    let mut stream = [0u8; STREAM_BYTES];
-    let ended = carriers.gather_all(&mut buffers, &mut group, &mut stream);
-    said(args.rt, ended);
+    said(args.rt, gather(&mut carriers));
     carriers.say();
     Ok(())
 }
