@@ -27,7 +27,8 @@ fn path_of(name: &[u8]) -> Result<&str> {
     ))
 }
 
-// Opens the named file to read.
+// Opens the named file to read. A call of its own: within its callers they would hold room for a path, 8 KB of stack, while they read.
+#[inline(never)]
 pub fn open(rt: HostRuntime, name: &[u8]) -> Result<Input> {
     Ok(Input::Named(File::open(&rt, path_of(name)?)?))
 }

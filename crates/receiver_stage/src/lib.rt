@@ -107,7 +107,7 @@ fn some_half_at_least(bytes: &[u8], limit: u8) -> bool
 
 // 17: one list of numbers in a short receiver's state: a slot has a number that a short frame does not have, or there is a number behind its last
 // slot. No byte is asked by both tests: the compiler would load such bytes one at a time.
-// It is put into its caller, which asks both lists: as calls of their own they made receiving a short frame 2 % slower.
+// It is put into its caller, which asks both lists: as calls of their own they took 3 % more instructions for a short frame, and hand out 16 bytes of stack.
 #[inline(always)]
 fn list_refusal(list: &[u8]) -> Result<(), Refusal>
     requires { length list.now ≡ packed_length }

@@ -2,7 +2,7 @@
 // argument does.
 #![tactic(auto)]
 
-ghost use Rattle.std.specs.Prelude.{◌≤◌, length};
+ghost use Rattle.std.specs.Prelude.{◌≡◌, ◌-◌, length, drop};
 
 mod arguments;
 mod bonding;
@@ -37,7 +37,7 @@ enum Tool {
 
 // The last part of a path: what stands behind its last '/'.
 fn base(path: &[u8]) -> &[u8]
-    ensures { length result.now ≤ length path.now }
+    ensures { result.now ≡ drop (length path.now - length result.now) path.now }
 {
     match path.iter().rposition(|b| *b == b'/') {
         Some(i) => &path[i + 1..],
